@@ -1,0 +1,87 @@
+-- What passed and failed tests say: of `&&`, `||` and `not`, of tests joined by `orElse`, of tests below a number, and of lists compared.
+-- Assumes nothing.
+use mathlib.Core.Path.{_≡_, refl, sym, ap, ap₂, subst, _∙_}
+use mathlib.Core.Logic.{_⊎_, inl, inr}
+use mathlib.Core.Bool.{Bool, true, false, _&&_, _||_, not}
+use mathlib.Core.Option.{Option, none, some}
+use mathlib.Core.List.{List, [], _∷_, _++_, map, tail, append-assoc, append-nil, List·Memᴰ, List·Memᴰ·head, List·Memᴰ·tail, List·Memᴰ·cases-cons, List·Memᴰ·append-cases}
+use Prim.Native.Nat.{ℕ, zero, suc, _+_, _-_, _*_, _/_, _%_, _<_, _≤_}
+use native.Mathlib.Omega.{arith}
+use native.Mathlib.Decide.{ℕ-discrete}
+use lib.Dec.{T, ltb, leb, eqb, eqb→eq, eqb-refl, leb→le}
+use lib.ListN.{length, getD, take, drop, length-append, length-map, length-take, length-drop}
+use Rattle.model.specs.declared.Refusal.{Refusal}
+use Rattle.model.specs.Verdict.{refuseIf}
+use Rattle.model.specs.Base.{allBelow, firstFrom, every, anyBelow, _orElse_}
+use Rattle.model.specs.GrammarFile.{within}
+
+pub none-some : {A B : Type 0} {a : A} → some a ≡ none → B
+none-some e = let z : _≡_ {A = ℕ} 0 1 = cc in absurd (omega arith)
+
+pub no-refusal : (b : Bool) (r : Refusal) → refuseIf b r ≡ none → b ≡ false
+no-refusal true r e = none-some e
+no-refusal false r e = refl
+
+pub first-of : (a b : Option Refusal) → a orElse b ≡ none → a ≡ none
+first-of none b e = refl
+first-of (some r) b e = none-some e
+
+pub rest-of : (a b : Option Refusal) → a orElse b ≡ none → b ≡ none
+rest-of none b e = e
+rest-of (some r) b e = none-some e
+
+pub first-none : (f : ℕ → Option Refusal) (from n : ℕ) → firstFrom f from n ≡ none → (k : ℕ) → k < n → f (from + k) ≡ none
+first-none f from zero e k h = let z : ⊥ = omega arith in absurd z
+first-none f from (suc n) e zero h = let a : from + 0 ≡ from = omega arith in rw a (first-of (f from) (firstFrom f (suc from) n) e)
+first-none f from (suc n) e (suc k) h =
+    let a : suc from + k ≡ from + suc k = omega arith in
+    subst (λ (x : ℕ). f x ≡ none) a (first-none f (suc from) n (rest-of (f from) (firstFrom f (suc from) n) e) k (omega arith))
+
+-- tests
+pub not-off : (b : Bool) → not b ≡ false → T b
+not-off true e = tt
+not-off false e = let z : _≡_ {A = ℕ} 0 1 = cc in absurd (omega arith)
+
+pub and-l : (a b : Bool) → T (a && b) → T a
+and-l true b t = tt
+and-l false b t = absurd t
+
+pub and-r : (a b : Bool) → T (a && b) → T b
+and-r true b t = t
+and-r false b t = absurd t
+
+pub or-l : (a b : Bool) → a || b ≡ false → a ≡ false
+or-l true b e = e
+or-l false b e = refl
+
+pub or-r : (a b : Bool) → a || b ≡ false → b ≡ false
+or-r true b e = let z : _≡_ {A = ℕ} 0 1 = cc in absurd (omega arith)
+or-r false b e = e
+
+pub any-none : (test : ℕ → Bool) (n : ℕ) → anyBelow test n ≡ false → (k : ℕ) → k < n → test k ≡ false
+any-none test zero e k h = let z : ⊥ = omega arith in absurd z
+any-none test (suc n) e k h = go (ℕ-discrete k n) (λ l. any-none test n (or-l (anyBelow test n) (test n) e) k l)
+  where
+    go : Dec (k ≡ n) → (k < n → test k ≡ false) → test k ≡ false
+    go (yes f) ih = rw f (or-r (anyBelow test n) (test n) e)
+    go (no f) ih = ih (omega arith)
+
+pub all-true : (test : ℕ → Bool) (n : ℕ) → T (allBelow test n) → (k : ℕ) → k < n → T (test k)
+all-true test zero t k h = let z : ⊥ = omega arith in absurd z
+all-true test (suc n) t k h = go (ℕ-discrete k n) (λ l. all-true test n (and-l (allBelow test n) (test n) t) k l)
+  where
+    go : Dec (k ≡ n) → (k < n → T (test k)) → T (test k)
+    go (yes f) ih = rw f (and-r (allBelow test n) (test n) t)
+    go (no f) ih = ih (omega arith)
+
+pub every-getD : (test : ℕ → Bool) (l : List ℕ) → T (every test l) → (k : ℕ) → k < length l → T (test (getD l k 0))
+every-getD test [] t k h = let z : ⊥ = omega arith in absurd z
+every-getD test (x ∷ l) t zero h = and-l (test x) (every test l) t
+every-getD test (x ∷ l) t (suc k) h = every-getD test l (and-r (test x) (every test l) t) k (omega arith)
+
+pub within-low : (a b x : ℕ) → T (within a b x) → (a ≤ x) × (x ≤ b)
+within-low a b x t = (leb→le a x (and-l (leb a x) (leb x b) t), leb→le x b (and-r (leb a x) (leb x b) t))
+
+pub and-both : (a b : Bool) → T a → T b → T (a && b)
+and-both true b t u = u
+and-both false b t u = absurd t

@@ -1,0 +1,258 @@
+-- The trace of a queue whose predictions stand for trees: it leads to the end just if the row spells the words.
+-- Assumes nothing.
+use mathlib.Core.Path.{_≡_, refl, sym, ap, subst, _∙_}
+use mathlib.Core.Logic.{_⊎_, inl, inr}
+use mathlib.Core.Bool.{Bool, true, false, _&&_}
+use mathlib.Core.Option.{Option, none, some}
+use mathlib.Core.List.{List, [], _∷_, _++_, List·Memᴰ, List·Memᴰ·head}
+use Prim.Native.Nat.{ℕ, zero, suc, _+_}
+use native.Mathlib.Omega.{arith}
+use borrow.Author.Tests.{eq-eqb}
+use lib.Dec.{T, eqb, eqb→eq}
+use lib.ListN.{length}
+use Rattle.model.specs.Base.{if_then_else_}
+use Rattle.model.specs.Grammar.{Rule, Grammar, ruleAt, isLexical, emptyWord}
+use Rattle.model.specs.Step.{Prediction, State, fails, leads, sort, trim, expand, scan, readWord, step}
+use Rattle.model.specs.Tree.{Tree, Forest, node, wordString, hasRoot, hasRoots, rootBy, subtree, label}
+use Rattle.model.specs.WellFormed.{Perm, Right}
+use Rattle.model.proofs.Perm.{perm-mem, perm-length}
+use Rattle.model.proofs.Slots.{Slot, Row, spelled}
+use Rattle.model.proofs.Expand.{queueSlots}
+use Rattle.model.proofs.Forward.{Good, nodes, predict-good, predict-nodes, predict-row, scan-good, scan-nodes, scan-front}
+use Rattle.model.proofs.Tests.{and-l, and-r}
+
+-- the root of a tree that has one of category c
+pub record Root (g : Grammar) (t : Tree) (c : ℕ) : Type 0 where
+  pub rule : Rule
+  pub trees : Forest
+  pub is-node : t ≡ node (label t) trees
+  pub is-rule : ruleAt g (label t) ≡ some rule
+  pub of-cat : rule .category ≡ c
+  pub below : T (hasRoots g trees (rule .daughters))
+
+pub root : (g : Grammar) (t : Tree) (c : ℕ) → T (hasRoot g t c) → Root g t c
+root g (node r ts) c h = go (ruleAt g r) refl h
+  where
+    go : (o : Option Rule) → ruleAt g r ≡ o → T (rootBy o c (λ categories. hasRoots g ts categories)) → Root g (node r ts) c
+    go none e t = absurd t
+    go (some rule) e t =
+        record {
+          rule = rule;
+          trees = ts;
+          is-node = refl;
+          is-rule = e;
+          of-cat = eqb→eq (rule .category) c (and-l (eqb (rule .category) c) (hasRoots g ts (rule .daughters)) t);
+          below = and-r (eqb (rule .category) c) (hasRoots g ts (rule .daughters)) t;
+        }
+
+module _ (g : Grammar) where
+  -- one step by the rule of the front's node
+  pub record Step (s : State Tree) (r : ℕ) (s′ : State Tree) : Type 0 where
+    pub front : Prediction Tree
+    pub rest : List (Prediction Tree)
+    pub queue-is : s .queue ≡ front ∷ rest
+    pub labelled : label (front .node) ≡ r
+    pub leads-to : step subtree g s r ≡ leads s′
+
+  -- the steps of the trace, to the end
+  abbrev pub Traces : State Tree → List ℕ → Type 0
+  Traces s [] = (s .queue ≡ []) × (s .words ≡ [])
+  Traces s (r ∷ p) = (s′ : State Tree) × Step s r s′ × Traces s′ p
+
+  abbrev pub after : Rule → Prediction Tree → List (Prediction Tree) → List ℕ → State Tree
+  after rule p q ws = record { queue = trim (sort (expand subtree g rule p ++ q)); words = ws }
+
+  pub step-nonlexical : (s : State Tree) (r : ℕ) (rule : Rule) (p : Prediction Tree) (q : List (Prediction Tree)) → s .queue ≡ p ∷ q
+      → ruleAt g r ≡ some rule → rule .category ≡ p .category → isLexical rule ≡ false → step subtree g s r ≡ leads (after rule p q (s .words))
+  step-nonlexical s r rule p q e f c l = rw (f, e) (rw (eq-eqb (rule .category) (p .category) c, l))
+
+  pub step-lexical : (s : State Tree) (r : ℕ) (rule : Rule) (p : Prediction Tree) (q : List (Prediction Tree)) → s .queue ≡ p ∷ q
+      → ruleAt g r ≡ some rule → rule .category ≡ p .category → isLexical rule ≡ true → step subtree g s r ≡ scan (rule .word) q (s .words)
+  step-lexical s r rule p q e f c l = rw (f, e) (rw (eq-eqb (rule .category) (p .category) c, l))
+
+-- what a scan does
+pub record ScanTo {A : Type 0} (w : ℕ) (q : List (Prediction A)) (ws : List ℕ) (s′ : State A) : Type 0 where
+  pub queue-is : s′ .queue ≡ q
+  pub words-are : ws ≡ wordString w ++ s′ .words
+
+pub leads-one : {A : Type 0} {s s′ : State A} → leads s ≡ leads s′ → s ≡ s′
+leads-one e = cc
+
+pub scan-to : {A : Type 0} (w : ℕ) (q : List (Prediction A)) (ws : List ℕ) (s′ : State A) → scan w q ws ≡ leads s′ → ScanTo w q ws s′
+scan-to {A} w q ws s′ e = go (eqb w emptyWord) refl e
+  where
+    by : (s : State A) → leads s ≡ leads s′ → s ≡ s′
+    by s h = leads-one h
+
+    no : {B : Type 0} {n : ℕ} {s : State A} → fails n ≡ leads s → B
+    no h = let z : _≡_ {A = ℕ} 0 1 = cc in absurd (omega arith)
+
+    here : eqb w emptyWord ≡ false → (b : Bool) (x : ℕ) (xs : List ℕ) → eqb w x ≡ b → (if b then leads (record { queue = q; words = xs }) else fails 16) ≡ leads s′ → ScanTo w q (x ∷ xs) s′
+    here n true x xs f h =
+        let k = by (record { queue = q; words = xs }) h in
+        let m = eqb→eq w x (rw f tt) in
+        record {
+          queue-is = ap (λ (s : State A). s .queue) (sym k);
+          words-are = rw n (cc (m, ap (λ (s : State A). s .words) k));
+        }
+    here n false x xs f h = no h
+
+    read : eqb w emptyWord ≡ false → (us : List ℕ) → readWord w q us ≡ leads s′ → ScanTo w q us s′
+    read n [] h = no h
+    read n (x ∷ xs) h = here n (eqb w x) x xs refl h
+
+    go : (b : Bool) → eqb w emptyWord ≡ b → (if b then leads (record { queue = q; words = ws }) else readWord w q ws) ≡ leads s′ → ScanTo w q ws s′
+    go true f h =
+        let k = by (record { queue = q; words = ws }) h in
+        record { queue-is = ap (λ (s : State A). s .queue) (sym k); words-are = rw f (ap (λ (s : State A). s .words) k) }
+    go false f h = read f ws h
+
+pub scan-goes : (w : ℕ) (q : List (Prediction Tree)) (rest : List ℕ) → scan w q (wordString w ++ rest) ≡ leads (record { queue = q; words = rest })
+scan-goes w q rest = go (eqb w emptyWord) refl
+  where
+    go : (b : Bool) → eqb w emptyWord ≡ b
+        → (if b then leads (record { queue = q; words = (if b then [] else w ∷ []) ++ rest }) else readWord w q ((if b then [] else w ∷ []) ++ rest)) ≡ leads (record { queue = q; words = rest })
+    go true e = refl
+    go false e = rw (eq-eqb w w refl)
+
+module _ (g : Grammar) (right : Right g) where
+  pub record Advance (s s′ : State Tree) : Type 0 where
+    pub good : Good g (s′ .queue)
+    pub fewer : length (nodes (s .queue)) ≡ suc (length (nodes (s′ .queue)))
+    pub back : (w : List ℕ) → Row (queueSlots g (s .queue)) w → ((w′ : List ℕ) → Row (queueSlots g (s′ .queue)) w′ → w′ ≡ s′ .words) → w ≡ s .words
+
+  pub advance : (s s′ : State Tree) (r : ℕ) → Good g (s .queue) → Step g s r s′ → Advance s s′
+  advance s s′ r h st = go (isLexical (t .rule)) refl
+    where
+      p : Prediction Tree
+      p = st .front
+
+      q : List (Prediction Tree)
+      q = st .rest
+
+      h′ : Good g (p ∷ q)
+      h′ = subst (Good g) (st .queue-is) h
+
+      t : Root g (p .node) (p .category)
+      t = root g (p .node) (p .category) (h′ .fit p (List·Memᴰ·head refl) .rooted)
+
+      f : ruleAt g r ≡ some (t .rule)
+      f = ap (ruleAt g) (sym (st .labelled)) ∙ t .is-rule
+
+      n : p .node ≡ node r (t .trees)
+      n = t .is-node ∙ ap (λ (k : ℕ). node k (t .trees)) (st .labelled)
+
+      go : (b : Bool) → isLexical (t .rule) ≡ b → Advance s s′
+      go false l =
+          let e : after g (t .rule) p q (s .words) ≡ s′ = leads-one (sym (step-nonlexical g s r (t .rule) p q (st .queue-is) f (t .of-cat) l) ∙ st .leads-to) in
+          let eq : trim (sort (expand subtree g (t .rule) p ++ q)) ≡ s′ .queue = ap (λ (x : State Tree). x .queue) e in
+          let ew : s .words ≡ s′ .words = ap (λ (x : State Tree). x .words) e in
+          record {
+            good = subst (Good g) eq (predict-good g right (t .rule) p q r (t .trees) n f (t .of-cat) (t .below) h′);
+            fewer =
+                ap (λ (x : List (Prediction Tree)). length (nodes x)) (st .queue-is)
+                ∙ perm-length (predict-nodes g right (t .rule) p q r (t .trees) n f (t .of-cat) (t .below))
+                ∙ ap (λ (x : List (Prediction Tree)). suc (length (nodes x))) eq;
+            back = λ w row k.
+                k w (subst (λ (x : List (Prediction Tree)). Row (queueSlots g x) w) eq
+                (predict-row g right (t .rule) p q r (t .trees) n f (t .of-cat) (t .below) l h′ w
+                (subst (λ (x : List (Prediction Tree)). Row (queueSlots g x) w) (st .queue-is) row))) ∙ sym ew;
+          }
+      go true l =
+          let e = scan-to (t .rule .word) q (s .words) s′ (sym (step-lexical g s r (t .rule) p q (st .queue-is) f (t .of-cat) l) ∙ st .leads-to) in
+          record {
+            good = subst (Good g) (sym (e .queue-is)) (scan-good g right (t .rule) p q r (t .trees) n f (t .of-cat) (t .below) l h′);
+            fewer =
+                ap (λ (x : List (Prediction Tree)). length (nodes x)) (st .queue-is)
+                ∙ ap length (scan-nodes g right (t .rule) p q r (t .trees) n f (t .of-cat) (t .below) l)
+                ∙ ap (λ (x : List (Prediction Tree)). suc (length (nodes x))) (sym (e .queue-is));
+            back = λ w row k.
+                let u = scan-front g right (t .rule) p q r (t .trees) n f (t .of-cat) (t .below) l h′ w
+                (subst (λ (x : List (Prediction Tree)). Row (queueSlots g x) w) (st .queue-is) row) in
+                let v = k (u .rest) (subst (λ (x : List (Prediction Tree)). Row (queueSlots g x) (u .rest)) (sym (e .queue-is)) (u .row)) in
+                u .split ∙ ap (λ (x : List ℕ). wordString (t .rule .word) ++ x) v ∙ sym (e .words-are);
+          }
+
+  no-row : (w : List ℕ) → Row [] w → w ≡ []
+  no-row w r = go (r .row) (r .perm) (r .spells)
+    where
+      go : (l : List Slot) → Perm l [] → spelled l ≡ w → w ≡ []
+      go [] p e = sym e
+      go (x ∷ l) p e = let m : List·Memᴰ x [] = perm-mem p (List·Memᴰ·head refl) in elim m [ ]
+
+  -- a trace that leads to the end has read what the row spells
+  pub traces-spell : (p : List ℕ) (s : State Tree) → Good g (s .queue) → Traces g s p → (w : List ℕ) → Row (queueSlots g (s .queue)) w → w ≡ s .words
+  traces-spell [] s h t w row = no-row w (subst (λ (q : List (Prediction Tree)). Row (queueSlots g q) w) (t .0) row) ∙ sym (t .1)
+  traces-spell (r ∷ p) s h t w row =
+      let a = advance s (t .0) r h (t .1) in
+      a .back w row (λ w′ row′. traces-spell p (t .0) (a .good) (t .2) w′ row′)
+
+  -- and is as long as there are nodes
+  pub traces-length : (p : List ℕ) (s : State Tree) → Good g (s .queue) → Traces g s p → length p ≡ length (nodes (s .queue))
+  traces-length [] s h t = ap (λ (q : List (Prediction Tree)). length (nodes q)) (sym (t .0))
+  traces-length (r ∷ p) s h t =
+      let a = advance s (t .0) r h (t .1) in
+      ap suc (traces-length p (t .0) (a .good) (t .2)) ∙ sym (a .fewer)
+
+  -- where the row spells the words, the front's rule applies, and the row goes on spelling them
+  pub record Onward (s : State Tree) (r : ℕ) : Type 0 where
+    pub next : State Tree
+    pub leads-to : step subtree g s r ≡ leads next
+    pub row : Row (queueSlots g (next .queue)) (next .words)
+
+  pub onward : (s : State Tree) (p : Prediction Tree) (q : List (Prediction Tree)) → s .queue ≡ p ∷ q → Good g (p ∷ q)
+      → Row (queueSlots g (p ∷ q)) (s .words) → Onward s (label (p .node))
+  onward s p q e h row = go (isLexical (t .rule)) refl
+    where
+      t : Root g (p .node) (p .category)
+      t = root g (p .node) (p .category) (h .fit p (List·Memᴰ·head refl) .rooted)
+
+      go : (b : Bool) → isLexical (t .rule) ≡ b → Onward s (label (p .node))
+      go false l =
+          record {
+            next = after g (t .rule) p q (s .words);
+            leads-to = step-nonlexical g s (label (p .node)) (t .rule) p q e (t .is-rule) (t .of-cat) l;
+            row = predict-row g right (t .rule) p q (label (p .node)) (t .trees) (t .is-node) (t .is-rule) (t .of-cat) (t .below) l h (s .words) row;
+          }
+      go true l =
+          let u = scan-front g right (t .rule) p q (label (p .node)) (t .trees) (t .is-node) (t .is-rule) (t .of-cat) (t .below) l h (s .words) row in
+          record {
+            next = record { queue = q; words = u .rest };
+            leads-to =
+                step-lexical g s (label (p .node)) (t .rule) p q e (t .is-rule) (t .of-cat) l
+                ∙ ap (scan (t .rule .word) q) (u .split) ∙ scan-goes (t .rule .word) q (u .rest);
+            row = u .row;
+          }
+
+  -- the front's step, where there is a front
+  pub record Forth (s : State Tree) : Type 0 where
+    pub rule : ℕ
+    pub next : State Tree
+    pub made : Step g s rule next
+    pub advanced : Advance s next
+    pub row : Row (queueSlots g (next .queue)) (next .words)
+
+  forth : (s : State Tree) (q : List (Prediction Tree)) → s .queue ≡ q → Good g (s .queue) → Row (queueSlots g (s .queue)) (s .words)
+      → ((s .queue ≡ []) × (s .words ≡ [])) ⊎ Forth s
+  forth s [] e h row = inl (e, no-row (s .words) (subst (λ (x : List (Prediction Tree)). Row (queueSlots g x) (s .words)) e row))
+  forth s (p ∷ q) e h row =
+      let o = onward s p q e (subst (Good g) e h) (subst (λ (x : List (Prediction Tree)). Row (queueSlots g x) (s .words)) e row) in
+      let m : Step g s (label (p .node)) (o .next) = record { front = p; rest = q; queue-is = e; labelled = refl; leads-to = o .leads-to } in
+      inr (record { rule = label (p .node); next = o .next; made = m; advanced = advance s (o .next) (label (p .node)) h m; row = o .row })
+
+  -- so there is a trace
+  pub traced : (n : ℕ) (s : State Tree) → length (nodes (s .queue)) ≡ n → Good g (s .queue) → Row (queueSlots g (s .queue)) (s .words) → (p : List ℕ) × Traces g s p
+  traced zero s e h row = go (forth s (s .queue) refl h row)
+    where
+      go : ((s .queue ≡ []) × (s .words ≡ [])) ⊎ Forth s → (p : List ℕ) × Traces g s p
+      go (inl f) = ([], f)
+      go (inr f) = let z : ⊥ = omega (arith, f .advanced .fewer) in absurd z
+  traced (suc n) s e h row = go (forth s (s .queue) refl h row) (λ s′ e′ h′ row′. traced n s′ e′ h′ row′)
+    where
+      go : ((s .queue ≡ []) × (s .words ≡ [])) ⊎ Forth s
+          → ((s′ : State Tree) → length (nodes (s′ .queue)) ≡ n → Good g (s′ .queue) → Row (queueSlots g (s′ .queue)) (s′ .words) → (p : List ℕ) × Traces g s′ p)
+          → (p : List ℕ) × Traces g s p
+      go (inl f) ih = ([], f)
+      go (inr f) ih =
+          let (p, t) = ih (f .next) (omega (arith, f .advanced .fewer)) (f .advanced .good) (f .row) in
+          (f .rule ∷ p, (f .next, f .made, t))

@@ -1,0 +1,73 @@
+-- Counting and listing (document 01, "Counting and listing", and refusals 24 to 26).
+-- Assumes nothing.
+use Prim.Native.Nat.{ℕ, zero, suc}
+use mathlib.Core.Bool.{Bool, true, false, not, _&&_}
+use mathlib.Core.List.{List, [], _∷_, map}
+use mathlib.Core.Option.{Option, none, some}
+use lib.Dec.{ltb, leb}
+use lib.ListN.{length, getD}
+use Rattle.model.specs.declared.Refusal.{Refusal}
+use Rattle.model.specs.Base.{each, keep, numbersFrom}
+use Rattle.model.specs.Verdict.{refuseIf}
+use Rattle.model.specs.Grammar.{Grammar}
+use Rattle.model.specs.Step.{State, Outcome, fails, leads, step, begin}
+use Rattle.model.specs.Trace.{noNode, run}
+
+-- the state is at its end: no words and no predictions left
+abbrev pub finished : State (Unit {0}) → Bool
+finished s = elim (s .queue) [ [] ↦ elim (s .words) [ [] ↦ true | w ∷ ws ↦ false ] | p ∷ q ↦ false ]
+
+-- rule r before each of the live prefixes of the state that it leads to, if that has a queue no longer than the steps left
+abbrev pub extendIf : Bool → (State (Unit {0}) → List (List ℕ)) → ℕ → State (Unit {0}) → List (List ℕ)
+extendIf true next r s = map (λ p. r ∷ p) (next s)
+extendIf false next r s = []
+
+abbrev pub extendBy : (State (Unit {0}) → List (List ℕ)) → ℕ → ℕ → Outcome (Unit {0}) → List (List ℕ)
+extendBy next left r (fails n) = []
+extendBy next left r (leads s) = extendIf (leb (length (s .queue)) left) next r s
+
+module _ (g : Grammar) where
+  -- the live prefixes from a state whose queue is no longer than `left`, in dictionary order: the empty one, and for each rule that applies
+  -- and leaves a queue no longer than the steps that are left, that rule before each of the live prefixes from there
+  abbrev pub extend : (State (Unit {0}) → List (List ℕ)) → ℕ → State (Unit {0}) → ℕ → List (List ℕ)
+  extend next left s r = extendBy next left r (step noNode g s r)
+
+  abbrev pub liveFrom : ℕ → State (Unit {0}) → List (List ℕ)
+  liveFrom zero s = [] ∷ []
+  liveFrom (suc left) s = [] ∷ each (extend (λ s′. liveFrom left s′) left s) (numbersFrom 0 (length (g .rules)))
+
+module _ (g : Grammar) (sentence : List ℕ) where
+  abbrev pub start : State (Unit {0})
+  start = begin noNode g tt sentence
+
+  abbrev pub live : ℕ → List (List ℕ)
+  live zero = []
+  live (suc n) = liveFrom g (suc n) start
+
+  abbrev pub effort : ℕ → ℕ
+  effort n = length (live n)
+
+  -- the trace leads to the end
+  abbrev pub complete : List ℕ → Bool
+  complete trace = elim (run noNode g start trace) [ none ↦ false | some s ↦ finished s ]
+
+  abbrev pub listing : ℕ → List (List ℕ)
+  listing n = keep complete (live n)
+
+  abbrev pub count : ℕ → ℕ
+  count n = length (listing n)
+
+  abbrev pub entry : ℕ → ℕ → List ℕ
+  entry n m = getD (listing n) m []
+
+-- refusal 24
+abbrev pub limitsRefusal : ℕ → ℕ → Option Refusal
+limitsRefusal n limit =
+    refuseIf (not (leb 1 n && leb n 96 && leb 1 limit && leb limit 1000000000)) (Refusal.Desk 24 0)
+
+-- refusals 25 and 26
+abbrev pub effortRefusal : Grammar → List ℕ → ℕ → ℕ → Option Refusal
+effortRefusal g sentence n limit = refuseIf (ltb limit (effort g sentence n)) (Refusal.Desk 25 0)
+
+abbrev pub entryRefusal : Grammar → List ℕ → ℕ → ℕ → Option Refusal
+entryRefusal g sentence n m = refuseIf (leb (count g sentence n) m) (Refusal.Desk 26 0)

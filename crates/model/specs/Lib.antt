@@ -1,0 +1,16 @@
+pub mod Base
+pub mod Verdict
+pub mod Grammar
+pub mod WellFormed
+pub mod GrammarFile
+pub mod Step
+pub mod Trace
+pub mod Tree
+pub mod Counting
+pub mod Rows
+pub mod Survey
+pub mod Writer
+pub mod Calls
+pub mod Examples
+pub mod ExampleFiles
+pub mod LivePrefixes

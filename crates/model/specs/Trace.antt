@@ -1,0 +1,54 @@
+-- The trace checker, and the trace that belongs to a tree (document 01, "Trace and tree", and refusals 11 to 18).
+-- Assumes nothing.
+use Prim.Native.Nat.{ℕ, suc, _-_}
+use mathlib.Core.Bool.{not}
+use mathlib.Core.List.{List, [], _∷_}
+use mathlib.Core.Option.{Option, none, some}
+use lib.Dec.{ltb, eqb}
+use lib.ListN.{length}
+use Rattle.model.specs.declared.Refusal.{Refusal}
+use Rattle.model.specs.Base.{if_then_else_, _orElse_}
+use Rattle.model.specs.Verdict.{refuseIf}
+use Rattle.model.specs.Grammar.{Grammar}
+use Rattle.model.specs.Step.{State, fails, leads, step, begin}
+
+-- a checker need not know which node a prediction stands for
+abbrev pub noNode : Unit {0} → ℕ → Unit {0}
+noNode n j = n
+
+-- refusal 11: over 96 words, or no such word
+abbrev pub firstUnknown : ℕ → ℕ → List ℕ → Option Refusal
+firstUnknown words k [] = none
+firstUnknown words k (w ∷ ws) = if ltb w words then firstUnknown words (suc k) ws else some (Refusal.Analysis 11 k)
+
+abbrev pub sentenceRefusal : Grammar → List ℕ → Option Refusal
+sentenceRefusal g sentence =
+    refuseIf (ltb 96 (length sentence)) (Refusal.Analysis 11 96)
+    orElse firstUnknown (g .words) 0 sentence
+
+-- refusal 12: trace or tree over 96
+abbrev pub lengthRefusal : List ℕ → Option Refusal
+lengthRefusal list = refuseIf (ltb 96 (length list)) (Refusal.Analysis 12 0)
+
+module _ (g : Grammar) (sentence : List ℕ) where
+  -- step k and those after it, from state s: 13 to 16 by the step, 17 by the queue, at the end 18
+  abbrev pub stepsRefusal : ℕ → State (Unit {0}) → List ℕ → Option Refusal
+  stepsRefusal k s [] = refuseIf (ltb 0 (length (s .words))) (Refusal.Analysis 18 (length sentence - length (s .words)))
+  stepsRefusal k s (r ∷ rs) =
+      elim (step noNode g s r) [
+        | fails n ↦ some (Refusal.Analysis n k)
+        | leads s′ ↦
+            if ltb (length rs) (length (s′ .queue)) then some (Refusal.Analysis 17 (suc k)) else stepsRefusal (suc k) s′ rs
+      ]
+
+  abbrev pub traceRefusal : List ℕ → Option Refusal
+  traceRefusal trace =
+      lengthRefusal trace
+      orElse refuseIf (eqb (length trace) 0) (Refusal.Analysis 17 0)
+      orElse stepsRefusal 0 (begin noNode g tt sentence) trace
+
+-- the state after the steps of a trace, from state s; where a step does not apply, there is none
+module _ {A : Type 0} (child : A → ℕ → A) (g : Grammar) where
+  abbrev pub run : State A → List ℕ → Option (State A)
+  run s [] = some s
+  run s (r ∷ rs) = elim (step child g s r) [ fails n ↦ none | leads s′ ↦ run s′ rs ]

@@ -1,0 +1,52 @@
+// The words in which the library answers, and the three numberings (document 01, "Who can cause a refusal" and "A grammar").
+// The definitions of document 01 are in specs/, what follows from them in proofs/.
+ghost use mathlib.Core.Path.{_≡_};
+ghost use Rattle.model.specs.Verdict.{number, place};
+
+// A refusal says whose it is, the grammar's, the analysis's or the desk's, with its number and its place.
+pub enum Refusal {
+    Grammar(u8, u16),
+    Analysis(u8, u16),
+    Desk(u8, u16),
+}
+
+// A node count (of the reader R, of the survey C, of the writer the file's length), or a refusal.
+pub enum Verdict {
+    Accepted(u64),
+    Refused(Refusal),
+}
+
+// The verdict of the count: count and effort, or a refusal.
+pub enum CountVerdict {
+    Counted(u64, u64),
+    NotCounted(Refusal),
+}
+
+// Category, word and rule are three numberings, each from 0, with no arithmetic between them.
+pub struct Category(pub u8);
+
+pub struct Word(pub u16);
+
+pub struct RuleNumber(pub u16);
+
+// The number of a refusal.
+pub fn number_of(r: Refusal) -> u8
+    ensures { λ n. ⌜ n ≡ number r ⌝ }
+{
+    match r {
+        Refusal::Grammar(n, _) => n,
+        Refusal::Analysis(n, _) => n,
+        Refusal::Desk(n, _) => n,
+    }
+}
+
+// The place of a refusal.
+pub fn place_of(r: Refusal) -> u16
+    ensures { λ p. ⌜ p ≡ place r ⌝ }
+{
+    match r {
+        Refusal::Grammar(_, p) => p,
+        Refusal::Analysis(_, p) => p,
+        Refusal::Desk(_, p) => p,
+    }
+}
