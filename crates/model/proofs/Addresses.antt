@@ -13,8 +13,9 @@ use lib.ListN.{length}
 use Rattle.model.specs.Base.{if_then_else_, each}
 use Rattle.model.specs.Grammar.{Rule, Grammar, Variable, ruleAt, isLexical}
 use Rattle.model.specs.Step.{Index, before, Prediction, State, Outcome, fails, leads, sort, trim, shorten, sameFirst, variableIndices, daughtersFrom, expand, scan, step, begin}
-use Rattle.model.specs.Tree.{Tree, Forest, node, nil, cons, preorder, preorders, hasRoot, hasRoots, subtree, childAt, label, Address, below, insertNode, sortNodes, placed, treeOf}
+use Rattle.model.specs.Tree.{Tree, Forest, node, nil, cons, preorder, preorders, hasRoot, hasRoots}
 use Rattle.model.specs.WellFormed.{Perm, same, more, swap, chain, Right}
+use Rattle.model.specs.Conversions.{label, childAt, subtree, Address, below, insertNode, sortNodes, placed, treeOf, Step, Traces}
 use Rattle.model.proofs.Order.{before-irrefl, before-tail, before-head}
 use Rattle.model.proofs.Digits.{before-asym, before-between, Compared, compared, lex-less, lex-same}
 use Rattle.model.proofs.Digits as digits
@@ -22,7 +23,7 @@ use Rattle.model.proofs.Perm.{perm-mem, perm-each, perm-sym}
 use Rattle.model.proofs.Queue.{sort-perm}
 use Rattle.model.proofs.Remark.{remark, renamed, renamedOutcome, step-remark}
 use Rattle.model.proofs.Forward.{Good}
-use Rattle.model.proofs.Traces.{Root, root, Step, Traces, scan-to, leads-one, advance}
+use Rattle.model.proofs.Traces.{Root, root, scan-to, leads-one, advance}
 use Rattle.model.proofs.Tests.{and-r}
 use Rattle.model.proofs.Lists.{each-append}
 

@@ -9,14 +9,14 @@ use Prim.Native.Nat.{ℕ, zero, suc, _+_, _≤_}
 use native.Mathlib.Omega.{arith}
 use lib.Dec.{T, eqb, eqb→eq, eqb-refl}
 use lib.ListN.{length, getD, take, length-append, length-map}
-use Rattle.model.specs.Base.{sameList}
 use Rattle.model.specs.Grammar.{Grammar}
-use Rattle.model.specs.Step.{Prediction, State, leads, step, begin}
+use Rattle.model.specs.Step.{Prediction, State, leads, step, begin, wordFits}
 use Rattle.model.specs.Trace.{noNode, run}
-use Rattle.model.specs.Tree.{Tree, node, yield, hasRoot, subtree, preorder, spells, derives, traceFrom, traceOf, treeOfList}
+use Rattle.model.specs.Tree.{Tree, node, yield, hasRoot, preorder, spells, derives, treeOfList, stringFits}
 use Rattle.model.specs.Counting.{start, finished, complete, listing, count}
 use Rattle.model.specs.LivePrefixes.{Fits, LiveFrom, Live, Different}
 use Rattle.model.specs.WellFormed.{same, Right}
+use Rattle.model.specs.Conversions.{subtree, traceFrom, traceOf, Traces}
 use Rattle.model.proofs.Lists.{map-in, map-out}
 use Rattle.model.proofs.Live.{nil-live, cons-live}
 use Rattle.model.proofs.Listing.{listing-lists, order-different}
@@ -27,23 +27,23 @@ use Rattle.model.proofs.Slots.{Row}
 use Rattle.model.proofs.Expand.{queueSlots, zipped}
 use Rattle.model.proofs.Daughters.{yield-length}
 use Rattle.model.proofs.Forward.{Fit, Good, nodes}
-use Rattle.model.proofs.Traces.{Traces, advance, traces-spell, traces-length, traced}
+use Rattle.model.proofs.Traces.{advance, traces-spell, traces-length, traced}
 use Rattle.model.proofs.Lifting.{Ends, Lift, lifted}
 use Rattle.model.proofs.Only.{only}
 use Rattle.model.proofs.Tests.{and-both, and-l, and-r}
 
-same-eq : (a b : List ℕ) → T (sameList a b) → a ≡ b
+same-eq : (a b : List ℕ) → T (stringFits a b) → a ≡ b
 same-eq [] [] t = refl
 same-eq [] (y ∷ b) t = absurd t
 same-eq (x ∷ a) [] t = absurd t
 same-eq (x ∷ a) (y ∷ b) t =
-    let e = eqb→eq x y (and-l (eqb x y) (sameList a b) t) in
-    let f = same-eq a b (and-r (eqb x y) (sameList a b) t) in
+    let e = eqb→eq x y (and-l (wordFits x y) (stringFits a b) t) in
+    let f = same-eq a b (and-r (wordFits x y) (stringFits a b) t) in
     cc (e, f)
 
-same-refl : (a : List ℕ) → T (sameList a a)
+same-refl : (a : List ℕ) → T (stringFits a a)
 same-refl [] = tt
-same-refl (x ∷ a) = and-both (eqb x x) (sameList a a) (eqb-refl x) (same-refl a)
+same-refl (x ∷ a) = and-both (wordFits x x) (stringFits a a) (eqb-refl x) (same-refl a)
 
 module _ (g : Grammar) (right : Right g) (sentence : List ℕ) where
   abbrev pub at : Tree → State Tree

@@ -15,10 +15,11 @@ use Rattle.model.specs.Verdict.{refuseIf}
 use Rattle.model.specs.Grammar.{Grammar}
 use Rattle.model.specs.Step.{State, Outcome, fails, leads, step}
 use Rattle.model.specs.Trace.{noNode, run, stepsRefusal, traceRefusal, lengthRefusal}
-use Rattle.model.specs.Tree.{Tree, derives, preorder, traceOf}
+use Rattle.model.specs.Tree.{Tree, derives, preorder}
 use Rattle.model.specs.Counting.{start}
 use Rattle.model.specs.LivePrefixes.{LiveFrom}
 use Rattle.model.specs.WellFormed.{Right}
+use Rattle.model.specs.Conversions.{traceOf}
 use Rattle.model.proofs.Live.{cons-unlive, queue-fits}
 use Rattle.model.proofs.Lifting.{Ends}
 use Rattle.model.proofs.Analyses.{at, at-good, derived-trace, trace-derives, trace-size, trace-of, traces-live, traces-end, of-tree, rooted-of, tree-counts}

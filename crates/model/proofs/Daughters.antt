@@ -11,8 +11,9 @@ use lib.ListN.{length, getD, length-map}
 use Rattle.model.specs.Base.{if_then_else_, each, numbersFrom}
 use Rattle.model.specs.Grammar.{Variable, Rule, Grammar, variable, ruleAt, isLexical, dimension}
 use Rattle.model.specs.Step.{Index, Prediction, numbered, indexed, variableIndices, indexOf, daughtersFrom, expand}
-use Rattle.model.specs.Tree.{Tree, Forest, node, nil, cons, yield, yields, yieldBy, stringOf, wordString, hasRoot, hasRoots, rootBy, subtree, childAt}
+use Rattle.model.specs.Tree.{Tree, Forest, node, nil, cons, yield, yields, yieldBy, stringOf, wordString, hasRoot, hasRoots, rootBy}
 use Rattle.model.specs.WellFormed.{Perm, same, chain, daughterVariables, named, RightRule, Right}
+use Rattle.model.specs.Conversions.{childAt, subtree}
 use Rattle.model.proofs.Perm.{perm-map}
 use Rattle.model.proofs.Slots.{Slot}
 use Rattle.model.proofs.Expand.{zipped, queueSlots, slotOfVar, vars, slot-found}

@@ -15,11 +15,12 @@ use Rattle.model.specs.Verdict.{refuseIf}
 use Rattle.model.specs.Grammar.{Grammar}
 use Rattle.model.specs.GrammarFile.{grammarRefusal, grammarOf}
 use Rattle.model.specs.Trace.{lengthRefusal, stepsRefusal, traceRefusal}
-use Rattle.model.specs.Tree.{Tree, preorder, derives, nodesRefusal, treeOfList, spells, treeRefusal, traceOf, treeOf}
+use Rattle.model.specs.Tree.{Tree, preorder, derives, nodesRefusal, treeOfList, spells, treeRefusal}
 use Rattle.model.specs.Counting.{start}
 use Rattle.model.specs.LivePrefixes.{Live, Lists}
 use Rattle.model.specs.Counting.{live}
 use Rattle.model.specs.WellFormed.{Right}
+use Rattle.model.specs.Conversions.{traceOf, treeOf}
 use Rattle.model.proofs.Live.{live-lists}
 use Rattle.model.proofs.Reading.{accepted-derives, derives-accepted}
 use Rattle.model.proofs.Checker.{accepted-trace, tree-accepted}

@@ -12,8 +12,9 @@ use lib.ListN.{length, length-map}
 use Rattle.model.specs.Base.{if_then_else_, each, numbersFrom}
 use Rattle.model.specs.Grammar.{Variable, Rule, Grammar, ruleAt, isLexical, dimension}
 use Rattle.model.specs.Step.{Index, Prediction, sort, trim, shorten, sameFirst, variableIndices, indexOf, daughtersFrom, expand}
-use Rattle.model.specs.Tree.{Tree, Forest, node, nil, cons, yield, yields, stringOf, wordString, hasRoot, hasRoots, subtree, childAt, preorder, preorders}
+use Rattle.model.specs.Tree.{Tree, Forest, node, nil, cons, yield, yields, stringOf, wordString, hasRoot, hasRoots, preorder, preorders}
 use Rattle.model.specs.WellFormed.{Perm, same, more, chain, RightRule, Right}
+use Rattle.model.specs.Conversions.{childAt, subtree}
 use Rattle.model.proofs.Lists.{map-out, length-numbers, map-append, each-append}
 use Rattle.model.proofs.Marks.{indicesOf}
 use Rattle.model.proofs.Sorting.{Sorted, sort-sorted, sort-out}

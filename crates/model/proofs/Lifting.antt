@@ -13,12 +13,13 @@ use Rattle.model.specs.Base.{if_then_else_, numbersFrom}
 use Rattle.model.specs.Grammar.{Rule, Grammar, Variable, ruleAt, isLexical, dimension}
 use Rattle.model.specs.Step.{Index, Prediction, State, Outcome, fails, leads, sort, trim, shorten, sameFirst, variableIndices, indexOf, daughtersFrom, expand, scan, predict, apply, step}
 use Rattle.model.specs.Trace.{noNode, run}
-use Rattle.model.specs.Tree.{Tree, Forest, node, nil, cons, wordString, hasRoot, hasRoots, subtree, childAt, label}
+use Rattle.model.specs.Tree.{Tree, Forest, node, nil, cons, wordString, hasRoot, hasRoots}
+use Rattle.model.specs.Conversions.{label, childAt, subtree, Traces}
 use Rattle.model.proofs.Lists.{mem-left, mem-right, map-in}
 use Rattle.model.proofs.Sorting.{sort-in}
 use Rattle.model.proofs.Marks.{Bare, bare, bareState, indicesOf}
 use Rattle.model.proofs.Unmark.{same-prediction, Appended, append-back, Trimmed, trim-back, Unsorted, sort-back}
-use Rattle.model.proofs.Traces.{Traces, step-nonlexical, step-lexical, scan-to, scan-goes, leads-one}
+use Rattle.model.proofs.Traces.{step-nonlexical, step-lexical, scan-to, scan-goes, leads-one}
 use Rattle.model.proofs.Tests.{and-both}
 
 -- the trees that a list of predictions stands for

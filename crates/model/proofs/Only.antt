@@ -11,12 +11,13 @@ use lib.ListN.{length}
 use Rattle.model.specs.Grammar.{Rule, Grammar, Variable, ruleAt, isLexical}
 use Rattle.model.specs.Step.{Index, Prediction, State, sort, trim, variableIndices, daughtersFrom, expand, step}
 use Rattle.model.specs.Trace.{noNode}
-use Rattle.model.specs.Tree.{Tree, Forest, node, nil, cons, hasRoot, hasRoots, subtree, childAt, label}
+use Rattle.model.specs.Tree.{Tree, Forest, node, nil, cons, hasRoot, hasRoots}
 use Rattle.model.specs.WellFormed.{Right}
+use Rattle.model.specs.Conversions.{label, childAt, subtree, Step, Traces}
 use Rattle.model.proofs.Marks.{Bare, bare, bareState, bareOutcome, sort-bare, append-bare, daughters-bare, step-bare}
 use Rattle.model.proofs.Unmark.{same-prediction, trim-one, sort-one}
 use Rattle.model.proofs.Forward.{Good}
-use Rattle.model.proofs.Traces.{Root, root, Step, Traces, after, step-nonlexical, step-lexical, scan-to, leads-one, advance}
+use Rattle.model.proofs.Traces.{Root, root, after, step-nonlexical, step-lexical, scan-to, leads-one, advance}
 use Rattle.model.proofs.Lifting.{marks}
 use Rattle.model.proofs.Tests.{and-r}
 

@@ -14,10 +14,11 @@ use Rattle.model.specs.Grammar.{Grammar}
 use Rattle.model.specs.GrammarFile.{grammarRefusal, grammarOf}
 use Rattle.model.specs.Step.{Prediction, State, Outcome, fails, leads, step, begin}
 use Rattle.model.specs.Trace.{noNode, lengthRefusal, stepsRefusal, traceRefusal}
-use Rattle.model.specs.Tree.{Tree, treeOfList, subtree, label, Address, below, sortNodes, traceFrom, traceOf, placed, treeOf}
+use Rattle.model.specs.Tree.{Tree, treeOfList}
 use Rattle.model.specs.Counting.{finished, extendIf, extendBy, extend, liveFrom, start, live, effort, listing, count, entry}
 use Rattle.model.specs.Rows.{Slot, RowState, RowOutcome, halts, moves, stepRow, beginRow, stepsRefusalRow, traceRefusalRow, finishedRow, extendIfRow, extendByRow, extendRow, liveFromRow, foundFromRow, liveRow, effortRow, listingRow, countRow, entryRow, extended, traceFromRow, traceOfRow, placedRow, treeOfRow}
 use Rattle.model.specs.WellFormed.{Right}
+use Rattle.model.specs.Conversions.{label, subtree, traceFrom, traceOf, Address, below, sortNodes, placed, treeOf}
 use Rattle.model.proofs.FromFile.{accepted-right}
 use Rattle.model.proofs.Search.{each-same, keep-same, keep-map, keep-each, keep-first, ends, after}
 use Rattle.model.proofs.RowsNamed.{frontOwner, AgreeNamed, SameNamed, step-named, begin-named, pending-is, words-are, Fronts, front-named}

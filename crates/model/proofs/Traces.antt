@@ -13,8 +13,9 @@ use lib.ListN.{length}
 use Rattle.model.specs.Base.{if_then_else_}
 use Rattle.model.specs.Grammar.{Rule, Grammar, ruleAt, isLexical, emptyWord}
 use Rattle.model.specs.Step.{Prediction, State, fails, leads, sort, trim, expand, scan, readWord, step}
-use Rattle.model.specs.Tree.{Tree, Forest, node, wordString, hasRoot, hasRoots, rootBy, subtree, label}
+use Rattle.model.specs.Tree.{Tree, Forest, node, wordString, hasRoot, hasRoots, rootBy}
 use Rattle.model.specs.WellFormed.{Perm, Right}
+use Rattle.model.specs.Conversions.{label, subtree, Step, Traces}
 use Rattle.model.proofs.Perm.{perm-mem, perm-length}
 use Rattle.model.proofs.Slots.{Slot, Row, spelled}
 use Rattle.model.proofs.Expand.{queueSlots}
@@ -46,19 +47,6 @@ root g (node r ts) c h = go (ruleAt g r) refl h
         }
 
 module _ (g : Grammar) where
-  -- one step by the rule of the front's node
-  pub record Step (s : State Tree) (r : ℕ) (s′ : State Tree) : Type 0 where
-    pub front : Prediction Tree
-    pub rest : List (Prediction Tree)
-    pub queue-is : s .queue ≡ front ∷ rest
-    pub labelled : label (front .node) ≡ r
-    pub leads-to : step subtree g s r ≡ leads s′
-
-  -- the steps of the trace, to the end
-  abbrev pub Traces : State Tree → List ℕ → Type 0
-  Traces s [] = (s .queue ≡ []) × (s .words ≡ [])
-  Traces s (r ∷ p) = (s′ : State Tree) × Step s r s′ × Traces s′ p
-
   abbrev pub after : Rule → Prediction Tree → List (Prediction Tree) → List ℕ → State Tree
   after rule p q ws = record { queue = trim (sort (expand subtree g rule p ++ q)); words = ws }
 

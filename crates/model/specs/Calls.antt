@@ -1,107 +1,117 @@
--- The outcome of each public call, from what it is lent (document 01, "Who can cause a refusal").
+-- The outcome of every public call, refused input included: its refusals in order, its verdict, and every number of the output that it is lent
+-- (document 01, "Who can cause a refusal" and "What the promises say"). Every call but the writer tests the grammar file first.
 -- Assumes nothing.
-use Prim.Native.Nat.{ℕ, _+_, _*_, _%_}
+use mathlib.Core.Path.{_≡_}
+use Prim.Native.Nat.{ℕ}
 use mathlib.Core.List.{List, [], _∷_, _++_}
 use mathlib.Core.Option.{Option, none, some}
-use lib.Dec.{ltb, eqb}
-use lib.ListN.{length, getD, drop}
+use lib.Dec.{ltb}
+use lib.ListN.{length, drop}
 use Rattle.model.specs.declared.Refusal.{Refusal}
 use Rattle.model.specs.declared.Verdict.{Verdict}
 use Rattle.model.specs.declared.CountVerdict.{CountVerdict}
-use Rattle.model.specs.declared.CountVerdict.the-variants.{Counted, NotCounted}
-use Rattle.model.specs.Base.{if_then_else_, _orElse_}
-use Rattle.model.specs.Verdict.{refuseIf, verdict, number, place}
-use Rattle.model.specs.Grammar.{Grammar}
-use Rattle.model.specs.GrammarFile.{grammarRefusal, grammarOf, rulesOf}
+use Rattle.model.specs.Base.{_orElse_}
+use Rattle.model.specs.Verdict.{refuseIf, verdict, countVerdict}
+use Rattle.model.specs.GrammarFile.{grammarRefusal, grammarOf, rulesOf, categoriesOf}
+use Rattle.model.specs.Writer.{Heading, fileOf, writerRefusal}
 use Rattle.model.specs.Trace.{sentenceRefusal, traceRefusal}
-use Rattle.model.specs.Tree.{treeRefusal, treeOf, traceOf}
-use Rattle.model.specs.Counting.{limitsRefusal, effortRefusal, entryRefusal, count, effort, listing}
+use Rattle.model.specs.Tree.{treeRefusal}
+use Rattle.model.specs.Conversions.{treeOf, traceOf}
+use Rattle.model.specs.Counting.{limitsRefusal, effortRefusal, entryRefusal, count, effort, entry}
+use Rattle.model.specs.Survey.{Surveyed}
 
--- what a refused call leaves as it was, and another writes at the front of
+-- "A refusal .. changes nothing lent"; "output past the last entry keeps its old numbers": the output after a call that writes `list` at its front
 abbrev pub written : Option Refusal → List ℕ → List ℕ → List ℕ
 written none list out = list ++ drop (length list) out
 written (some r) list out = out
 
--- refusal 23
+-- refusal 23: "output of fewer than 96 numbers"
 abbrev pub roomRefusal : List ℕ → Option Refusal
 roomRefusal out = refuseIf (ltb (length out) 96) (Refusal.Desk 23 0)
 
+-- The reader: "of the reader R"
 abbrev pub readVerdict : List ℕ → Verdict
 readVerdict file = verdict (grammarRefusal file) (rulesOf file)
 
--- with a grammar
-module _ (g : Grammar) (sentence : List ℕ) where
-  abbrev pub traceTest : List ℕ → Option Refusal
-  traceTest trace = sentenceRefusal g sentence orElse traceRefusal g sentence trace
+-- The writer: 23 "of fewer bytes than its file"; "of the writer the file's length"
+module _ (h : Heading) (records out : List ℕ) where
+  abbrev pub writeRefusal : Option Refusal
+  writeRefusal = writerRefusal h records orElse refuseIf (ltb (length out) (length (fileOf h records))) (Refusal.Desk 23 0)
 
-  abbrev pub treeTest : List ℕ → Option Refusal
-  treeTest tree = sentenceRefusal g sentence orElse treeRefusal g sentence tree
+  abbrev pub writeVerdict : Verdict
+  writeVerdict = verdict writeRefusal (length (fileOf h records))
 
-  abbrev pub countTest : ℕ → ℕ → Option Refusal
-  countTest n limit = limitsRefusal n limit orElse sentenceRefusal g sentence orElse effortRefusal g sentence n limit
+  abbrev pub writeOutput : List ℕ
+  writeOutput = written writeRefusal (fileOf h records) out
 
-  abbrev pub traceVerdict : List ℕ → Verdict
-  traceVerdict trace = verdict (traceTest trace) (length trace)
-
-  abbrev pub treeVerdict : List ℕ → Verdict
-  treeVerdict tree = verdict (treeTest tree) (length tree)
-
-  abbrev pub tally : ℕ → ℕ → CountVerdict
-  tally n limit = elim (countTest n limit) [ none ↦ Counted (count g sentence n) (effort g sentence n) | some r ↦ NotCounted r ]
-
--- with a grammar file, which is tested first
 module _ (file sentence : List ℕ) where
-  abbrev pub checkTrace : List ℕ → Verdict
-  checkTrace trace = verdict (grammarRefusal file orElse traceTest (grammarOf file) sentence trace) (length trace)
+  -- The trace checker
+  abbrev pub checkTraceRefusal : List ℕ → Option Refusal
+  checkTraceRefusal trace =
+      grammarRefusal file orElse sentenceRefusal (grammarOf file) sentence orElse traceRefusal (grammarOf file) sentence trace
 
-  abbrev pub checkTree : List ℕ → Verdict
-  checkTree tree = verdict (grammarRefusal file orElse treeTest (grammarOf file) sentence tree) (length tree)
+  abbrev pub checkTraceVerdict : List ℕ → Verdict
+  checkTraceVerdict trace = verdict (checkTraceRefusal trace) (length trace)
 
-  abbrev pub toTreeTest : List ℕ → List ℕ → Option Refusal
-  toTreeTest trace out = grammarRefusal file orElse roomRefusal out orElse traceTest (grammarOf file) sentence trace
+  -- The tree checker
+  abbrev pub checkTreeRefusal : List ℕ → Option Refusal
+  checkTreeRefusal tree =
+      grammarRefusal file orElse sentenceRefusal (grammarOf file) sentence orElse treeRefusal (grammarOf file) sentence tree
 
-  abbrev pub toTreeOut : List ℕ → List ℕ → List ℕ
-  toTreeOut trace out = written (toTreeTest trace out) (treeOf (grammarOf file) sentence trace) out
+  abbrev pub checkTreeVerdict : List ℕ → Verdict
+  checkTreeVerdict tree = verdict (checkTreeRefusal tree) (length tree)
 
-  abbrev pub toTraceTest : List ℕ → List ℕ → Option Refusal
-  toTraceTest tree out = grammarRefusal file orElse roomRefusal out orElse treeTest (grammarOf file) sentence tree
+  -- Trace to tree: "A conversion is also given the sentence and refuses what the checker of its input refuses"; 23 comes "after the grammar and before 11"
+  abbrev pub traceToTreeRefusal : List ℕ → List ℕ → Option Refusal
+  traceToTreeRefusal trace out =
+      grammarRefusal file orElse roomRefusal out orElse sentenceRefusal (grammarOf file) sentence
+      orElse traceRefusal (grammarOf file) sentence trace
 
-  abbrev pub toTraceOut : List ℕ → List ℕ → List ℕ
-  toTraceOut tree out = written (toTraceTest tree out) (traceOf (grammarOf file) sentence tree) out
+  abbrev pub traceToTreeVerdict : List ℕ → List ℕ → Verdict
+  traceToTreeVerdict trace out = verdict (traceToTreeRefusal trace out) (length trace)
 
-  abbrev pub countVerdict : ℕ → ℕ → CountVerdict
-  countVerdict n limit = elim (grammarRefusal file) [ none ↦ tally (grammarOf file) sentence n limit | some r ↦ NotCounted r ]
+  abbrev pub traceToTreeOutput : List ℕ → List ℕ → List ℕ
+  traceToTreeOutput trace out = written (traceToTreeRefusal trace out) (treeOf (grammarOf file) sentence trace) out
 
-  abbrev pub entryTest : ℕ → ℕ → ℕ → List ℕ → Option Refusal
-  entryTest n limit m out =
-      grammarRefusal file orElse roomRefusal out orElse countTest (grammarOf file) sentence n limit
-      orElse entryRefusal (grammarOf file) sentence n m
+  -- Tree to trace
+  abbrev pub treeToTraceRefusal : List ℕ → List ℕ → Option Refusal
+  treeToTraceRefusal tree out =
+      grammarRefusal file orElse roomRefusal out orElse sentenceRefusal (grammarOf file) sentence
+      orElse treeRefusal (grammarOf file) sentence tree
 
--- what the program prints, line by line, as numbers; `refused` stands for the letter R
-pub data Printed : Type 0 where
-  lines : List (List ℕ) → Printed
-  refused : ℕ → ℕ → Printed
+  abbrev pub treeToTraceVerdict : List ℕ → List ℕ → Verdict
+  treeToTraceVerdict tree out = verdict (treeToTraceRefusal tree out) (length tree)
 
-abbrev pub pairs : List ℕ → List ℕ
-pairs [] = []
-pairs (a ∷ []) = []
-pairs (a ∷ b ∷ bs) = (a + 256 * b) ∷ pairs bs
+  abbrev pub treeToTraceOutput : List ℕ → List ℕ → List ℕ
+  treeToTraceOutput tree out = written (treeToTraceRefusal tree out) (traceOf (grammarOf file) sentence tree) out
 
-abbrev pub printed : Grammar → ℕ → List ℕ → Printed
-printed g n sentence =
-    elim (countTest g sentence n 1000000) [
-      | none ↦ lines ((count g sentence n ∷ effort g sentence n ∷ []) ∷ listing g sentence n)
-      | some r ↦ refused (number r) (place r)
-    ]
+  -- The count under node limit n: grammar, 24, 11, 25
+  abbrev pub countRefusal : ℕ → ℕ → Option Refusal
+  countRefusal n limit =
+      grammarRefusal file orElse limitsRefusal n limit orElse sentenceRefusal (grammarOf file) sentence
+      orElse effortRefusal (grammarOf file) sentence n limit
 
--- a sentence file of even length is refused by 11 at 0
-abbrev pub printedFor : Grammar → List ℕ → Printed
-printedFor g sentenceFile =
-    if eqb (length sentenceFile % 2) 0 then refused 11 0 else printed g (getD sentenceFile 0 0) (pairs (drop 1 sentenceFile))
+  abbrev pub countCall : ℕ → ℕ → CountVerdict
+  countCall n limit = countVerdict (countRefusal n limit) (count (grammarOf file) sentence n) (effort (grammarOf file) sentence n)
 
-abbrev pub program : List ℕ → List ℕ → Printed
-program file sentenceFile =
-    elim (grammarRefusal file) [
-      | none ↦ printedFor (grammarOf file) sentenceFile
-      | some r ↦ refused (number r) (place r)
-    ]
+  -- Entry m of the listing: "a call for entry m writes it if not refused"; grammar, 23, 24, 11, 25, 26
+  abbrev pub entryCallRefusal : ℕ → ℕ → ℕ → List ℕ → Option Refusal
+  entryCallRefusal n limit m out =
+      grammarRefusal file orElse roomRefusal out orElse limitsRefusal n limit orElse sentenceRefusal (grammarOf file) sentence
+      orElse effortRefusal (grammarOf file) sentence n limit orElse entryRefusal (grammarOf file) sentence n m
+
+  abbrev pub entryVerdict : ℕ → ℕ → ℕ → List ℕ → Verdict
+  entryVerdict n limit m out = verdict (entryCallRefusal n limit m out) (length (entry (grammarOf file) sentence n m))
+
+  abbrev pub entryOutput : ℕ → ℕ → ℕ → List ℕ → List ℕ
+  entryOutput n limit m out = written (entryCallRefusal n limit m out) (entry (grammarOf file) sentence n m) out
+
+-- The survey: "The survey writes C figures to an output buffer"; "Which figure is free", all else is not
+abbrev pub surveyRefusal : List ℕ → List ℕ → Option Refusal
+surveyRefusal file out = grammarRefusal file orElse roomRefusal out
+
+pub record SurveyOutcome (file out : List ℕ) (answer : Verdict) (after : List ℕ) : Type 0 where
+  pub figures : List ℕ
+  pub figures-right : surveyRefusal file out ≡ none → Surveyed (grammarOf file) figures
+  pub verdict-is : answer ≡ verdict (surveyRefusal file out) (categoriesOf file)
+  pub output-is : after ≡ written (surveyRefusal file out) figures out

@@ -13,7 +13,9 @@ use Rattle.model.specs.Base.{if_then_else_, _orElse_, each, numbersFrom}
 use Rattle.model.specs.Verdict.{refuseIf}
 use Rattle.model.specs.Grammar.{Variable, Rule, Grammar, emptyWord, ruleAt, isLexical}
 use Rattle.model.specs.Trace.{lengthRefusal}
-use Rattle.model.specs.Tree.{Tree, treeOfList, subtree, label, Address, below, sortNodes}
+use Rattle.model.specs.Tree.{Tree, treeOfList}
+use Rattle.model.specs.Step.{wordFits}
+use Rattle.model.specs.Conversions.{label, subtree, Address, below, sortNodes}
 
 -- component `component` of prediction number `owner`, which is of category `category`
 pub record Slot : Type 0 where
@@ -51,7 +53,7 @@ expandRow rule made front row = each (expandSlot rule made front) row
 -- the word must be the next one
 abbrev pub readWordRow : ℕ → List Slot → ℕ → ℕ → List ℕ → RowOutcome
 readWordRow w row made pending [] = halts 16
-readWordRow w row made pending (x ∷ xs) = if eqb w x then moves (record { row = row; made = made; pending = pending; words = xs }) else halts 16
+readWordRow w row made pending (x ∷ xs) = if wordFits w x then moves (record { row = row; made = made; pending = pending; words = xs }) else halts 16
 
 abbrev pub scanRow : ℕ → List Slot → ℕ → ℕ → List ℕ → RowOutcome
 scanRow w row made pending ws = if eqb w emptyWord then moves (record { row = row; made = made; pending = pending; words = ws }) else readWordRow w row made pending ws

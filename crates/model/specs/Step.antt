@@ -8,17 +8,18 @@ use lib.Dec.{ltb, eqb}
 use Rattle.model.specs.Base.{if_then_else_, each, every, numbersFrom}
 use Rattle.model.specs.Grammar.{Variable, Rule, Grammar, emptyWord, dimension, ruleAt, isLexical}
 
--- an index is a string of digits
+-- "an index is a string of digits 0 to 11"
 abbrev pub Index : Type 0
 Index = List ℕ
 
--- digit by digit, a proper prefix first
+-- "Indices compare digit by digit, a proper prefix first." Digits are numbers: 10 comes after 9.
 abbrev pub before : Index → Index → Bool
 before [] [] = false
 before [] (y ∷ ys) = true
 before (x ∷ xs) [] = false
 before (x ∷ xs) (y ∷ ys) = ltb x y || (eqb x y && before xs ys)
 
+-- the least of some indices
 abbrev pub lesser : Index → Index → Index
 lesser i j = if before j i then j else i
 
@@ -27,7 +28,7 @@ least [] = []
 least (i ∷ []) = i
 least (i ∷ j ∷ js) = lesser i (least (j ∷ js))
 
--- a category with one index per component; `node` is the node that the prediction stands for
+-- "A prediction is a category with one index per component." `node` is what the prediction stands for; no step looks at it.
 pub record Prediction (A : Type 0) : Type 0 where
   pub category : ℕ
   pub indices : List Index
@@ -43,7 +44,8 @@ pub data Outcome (A : Type 0) : Type 0 where
   fails : ℕ → Outcome A
   leads : State A → Outcome A
 
--- the variables of one component, each with its index: a lone variable takes the component's index i, another has its position put behind
+-- "a variable alone in its component takes that component's index; otherwise it takes that index followed by its position in the component": the
+-- variables of one component whose index is i, each with its own index
 abbrev pub numbered : Index → ℕ → List Variable → List (Variable × Index)
 numbered i p [] = []
 numbered i p (v ∷ vs) = (v, i ++ (p ∷ [])) ∷ numbered i (suc p) vs
@@ -53,6 +55,7 @@ indexed i [] = []
 indexed i (v ∷ []) = (v, i) ∷ []
 indexed i (v ∷ w ∷ vs) = numbered i 0 (v ∷ w ∷ vs)
 
+-- the variables of all components, each with its index
 abbrev pub variableIndices : List Index → List (List Variable) → List (Variable × Index)
 variableIndices [] components = []
 variableIndices (i ∷ is) [] = []
@@ -63,7 +66,7 @@ abbrev pub indexOf : List (Variable × Index) → ℕ → ℕ → Index
 indexOf [] j c = []
 indexOf (s ∷ ss) j c = if eqb (s .0 .daughter) j && eqb (s .0 .component) c then s .1 else indexOf ss j c
 
--- every index begins with the same digit
+-- "every index begins with the same digit": an empty index begins with none
 abbrev pub begins : ℕ → Index → Bool
 begins d [] = false
 begins d (x ∷ xs) = eqb d x
@@ -80,7 +83,7 @@ module _ {A : Type 0} where
   abbrev pub leastOf : Prediction A → Index
   leastOf p = least (p .indices)
 
-  -- predictions stand in order of their least index
+  -- "Predictions stand in order of their least index."
   abbrev pub insert : Prediction A → List (Prediction A) → List (Prediction A)
   insert p [] = p ∷ []
   insert p (q ∷ qs) = if before (leastOf q) (leastOf p) then q ∷ insert p qs else p ∷ q ∷ qs
@@ -92,44 +95,52 @@ module _ {A : Type 0} where
   abbrev pub shorten : Prediction A → Prediction A
   shorten p = record { category = p .category; indices = map tail (p .indices); node = p .node }
 
-  -- if every index begins with the same digit, that digit is dropped, one only
+  -- "if every index begins with the same digit, that digit is dropped, one only"
   abbrev pub trim : List (Prediction A) → List (Prediction A)
   trim q = if sameFirst (each (λ p. p .indices) q) then map shorten q else q
 
+-- a word of a rule takes a place of the sentence
+abbrev pub wordFits : ℕ → ℕ → Bool
+wordFits word place = eqb word place
+
 module _ {A : Type 0} where
-  -- the word must be the next one
+  -- "the word must be the next one": else refusal 16
   abbrev pub readWord : ℕ → List (Prediction A) → List ℕ → Outcome A
   readWord w q [] = fails 16
-  readWord w q (x ∷ xs) = if eqb w x then leads (record { queue = q; words = xs }) else fails 16
+  readWord w q (x ∷ xs) = if wordFits w x then leads (record { queue = q; words = xs }) else fails 16
 
+  -- "(the empty word takes none), and the front prediction goes"; "A scan drops no digit."
   abbrev pub scan : ℕ → List (Prediction A) → List ℕ → Outcome A
   scan w q ws = if eqb w emptyWord then leads (record { queue = q; words = ws }) else readWord w q ws
 
 -- `child n j` is what daughter j of n stands for
 module _ {A : Type 0} (child : A → ℕ → A) (g : Grammar) where
+  -- a prediction for each daughter, from daughter position j on
   abbrev pub daughtersFrom : A → List (Variable × Index) → ℕ → List ℕ → List (Prediction A)
   daughtersFrom n ss j [] = []
   daughtersFrom n ss j (d ∷ ds) =
       record { category = d; indices = map (indexOf ss j) (numbersFrom 0 (dimension g d)); node = child n j }
       ∷ daughtersFrom n ss (suc j) ds
 
-  -- each daughter becomes a prediction
+  -- "each daughter becomes a prediction"
   abbrev pub expand : Rule → Prediction A → List (Prediction A)
   expand r p = daughtersFrom (p .node) (variableIndices (p .indices) (r .components)) 0 (r .daughters)
 
+  -- a nonlexical step: "The queue is sorted again. Then .. that digit is dropped"
   abbrev pub predict : Rule → Prediction A → List (Prediction A) → List ℕ → Outcome A
   predict r p q ws = leads (record { queue = trim (sort (expand r p ++ q)); words = ws })
 
+  -- "13 no such rule; 14 queue empty; 15 other category than the front; 16 word is not next"
   abbrev pub apply : Option Rule → List (Prediction A) → List ℕ → Outcome A
   apply none q ws = fails 13
   apply (some r) [] ws = fails 14
   apply (some r) (p ∷ q) ws =
       if eqb (r .category) (p .category) then (if isLexical r then scan (r .word) q ws else predict r p q ws) else fails 15
 
-  -- a step is a rule number applied to the front prediction
+  -- "A step is a rule number applied to the front prediction."
   abbrev pub step : State A → ℕ → Outcome A
   step s r = apply (ruleAt g r) (s .queue) (s .words)
 
-  -- the queue begins as the start category with the empty index
+  -- "The queue begins as the start category with the empty index."
   abbrev pub begin : A → List ℕ → State A
   begin root sentence = record { queue = record { category = g .start; indices = [] ∷ []; node = root } ∷ []; words = sentence }

@@ -1,7 +1,7 @@
--- The trace checker, and the trace that belongs to a tree (document 01, "Trace and tree", and refusals 11 to 18).
+-- Sentences and the trace checker (document 01, "One step", "Trace and tree", and refusals 11 to 18).
 -- Assumes nothing.
-use Prim.Native.Nat.{ℕ, suc, _-_}
-use mathlib.Core.Bool.{not}
+use Prim.Native.Nat.{ℕ, zero, suc, _-_}
+use mathlib.Core.Bool.{Bool, true, false}
 use mathlib.Core.List.{List, [], _∷_}
 use mathlib.Core.Option.{Option, none, some}
 use lib.Dec.{ltb, eqb}
@@ -12,11 +12,11 @@ use Rattle.model.specs.Verdict.{refuseIf}
 use Rattle.model.specs.Grammar.{Grammar}
 use Rattle.model.specs.Step.{State, fails, leads, step, begin}
 
--- a checker need not know which node a prediction stands for
+-- what predictions stand for where it does not matter
 abbrev pub noNode : Unit {0} → ℕ → Unit {0}
 noNode n j = n
 
--- refusal 11: over 96 words, or no such word
+-- refusal 11: "sentence over 96 words (place 96, tested first), or no such word (place of the first)"
 abbrev pub firstUnknown : ℕ → ℕ → List ℕ → Option Refusal
 firstUnknown words k [] = none
 firstUnknown words k (w ∷ ws) = if ltb w words then firstUnknown words (suc k) ws else some (Refusal.Analysis 11 k)
@@ -26,12 +26,13 @@ sentenceRefusal g sentence =
     refuseIf (ltb 96 (length sentence)) (Refusal.Analysis 11 96)
     orElse firstUnknown (g .words) 0 sentence
 
--- refusal 12: trace or tree over 96
+-- refusal 12: "trace or tree over 96"
 abbrev pub lengthRefusal : List ℕ → Option Refusal
 lengthRefusal list = refuseIf (ltb 96 (length list)) (Refusal.Analysis 12 0)
 
 module _ (g : Grammar) (sentence : List ℕ) where
-  -- step k and those after it, from state s: 13 to 16 by the step, 17 by the queue, at the end 18
+  -- "Step k from 0": step k and those after it, from state s. 13 to 16 by the step; "17 queue longer than n-k-1 (place k+1)", where n-k-1 is how many
+  -- steps follow; "At the end 18 words left (words read)"
   abbrev pub stepsRefusal : ℕ → State (Unit {0}) → List ℕ → Option Refusal
   stepsRefusal k s [] = refuseIf (ltb 0 (length (s .words))) (Refusal.Analysis 18 (length sentence - length (s .words)))
   stepsRefusal k s (r ∷ rs) =
@@ -41,13 +42,14 @@ module _ (g : Grammar) (sentence : List ℕ) where
             if ltb (length rs) (length (s′ .queue)) then some (Refusal.Analysis 17 (suc k)) else stepsRefusal (suc k) s′ rs
       ]
 
+  -- "Trace of n steps: 17 at place 0 if n is 0", and then step by step
   abbrev pub traceRefusal : List ℕ → Option Refusal
   traceRefusal trace =
       lengthRefusal trace
       orElse refuseIf (eqb (length trace) 0) (Refusal.Analysis 17 0)
       orElse stepsRefusal 0 (begin noNode g tt sentence) trace
 
--- the state after the steps of a trace, from state s; where a step does not apply, there is none
+-- the state after the steps of a trace, from state s; none where a step does not apply
 module _ {A : Type 0} (child : A → ℕ → A) (g : Grammar) where
   abbrev pub run : State A → List ℕ → Option (State A)
   run s [] = some s

@@ -1,16 +1,16 @@
--- Derivation trees: reading one, its yield, and the two conversions (document 01, "Trace and tree", and refusals 19 to 22).
+-- Derivation trees: their lists, their yields, and the tree checker (document 01, "Trace and tree", and refusals 19 to 22).
 -- Assumes nothing.
-use Prim.Native.Nat.{ℕ, zero, suc, _+_}
+use Prim.Native.Nat.{ℕ, zero, suc}
 use mathlib.Core.Bool.{Bool, true, false, not, _&&_}
 use mathlib.Core.List.{List, [], _∷_, _++_, map}
 use mathlib.Core.Option.{Option, none, some}
 use lib.Dec.{eqb}
 use lib.ListN.{length, getD}
 use Rattle.model.specs.declared.Refusal.{Refusal}
-use Rattle.model.specs.Base.{if_then_else_, _orElse_, each, sameList}
+use Rattle.model.specs.Base.{if_then_else_, _orElse_, each}
 use Rattle.model.specs.Verdict.{refuseIf}
 use Rattle.model.specs.Grammar.{Variable, Rule, Grammar, emptyWord, ruleAt, isLexical}
-use Rattle.model.specs.Step.{State, fails, leads, step, begin, before}
+use Rattle.model.specs.Step.{wordFits}
 use Rattle.model.specs.Trace.{lengthRefusal}
 
 -- a node has a rule number and its daughters, in rule order
@@ -22,7 +22,7 @@ mutual
     nil : Forest
     cons : Tree → Forest → Forest
 
--- parent before daughters, daughters in rule order
+-- "A tree is a list of .. rule numbers, parent before daughters, daughters in rule order."
 abbrev mutual
   pub preorder : Tree → List ℕ
   preorder (node r ts) = r ∷ preorders ts
@@ -31,17 +31,19 @@ abbrev mutual
   preorders nil = []
   preorders (cons t ts) = preorder t ++ preorders ts
 
--- component by component, the daughters' strings that the variables name, joined in their order
-abbrev pub stringOf : List (List (List ℕ)) → Variable → List ℕ
-stringOf yields v = getD (getD yields (v .daughter) []) (v .component) []
-
+-- "A lexical node's [yield] is its word, or the empty string for the empty word."
 abbrev pub wordString : ℕ → List ℕ
 wordString w = if eqb w emptyWord then [] else w ∷ []
+
+-- "Any other node's is, component by component, the daughters' strings that the variables name, joined in their order."
+abbrev pub stringOf : List (List (List ℕ)) → Variable → List ℕ
+stringOf yields v = getD (getD yields (v .daughter) []) (v .component) []
 
 abbrev pub yieldBy : Option Rule → List (List (List ℕ)) → List (List ℕ)
 yieldBy none yields = []
 yieldBy (some r) yields = if isLexical r then wordString (r .word) ∷ [] else map (λ c. each (stringOf yields) c) (r .components)
 
+-- "A node's yield is one word string for each component of its category."
 abbrev mutual
   pub yield : Grammar → Tree → List (List ℕ)
   yield g (node r ts) = yieldBy (ruleAt g r) (yields g ts)
@@ -50,7 +52,8 @@ abbrev mutual
   yields g nil = []
   yields g (cons t ts) = yield g t ∷ yields g ts
 
--- each node's rule is of the category that is wanted of it, and so are its daughters'
+-- "the root's rule is of the [wanted] category, each daughter's rule is of the category that its parent's rule gives it, no number is missing or left
+-- over": t is a tree with that category as root
 abbrev pub rootBy : Option Rule → ℕ → (List ℕ → Bool) → Bool
 rootBy none category roots = false
 rootBy (some rule) category roots = eqb (rule .category) category && roots (rule .daughters)
@@ -65,15 +68,21 @@ abbrev mutual
   hasRoots g (cons t ts) [] = false
   hasRoots g (cons t ts) (c ∷ cs) = hasRoot g t c && hasRoots g ts cs
 
--- the root's yield is the sentence
-abbrev pub spells : Grammar → List ℕ → Tree → Bool
-spells g sentence t = sameList (getD (yield g t) 0 []) sentence
+-- "the root's yield is the sentence": place by place, and no word more or less
+abbrev pub stringFits : List ℕ → List ℕ → Bool
+stringFits [] [] = true
+stringFits [] (y ∷ ys) = false
+stringFits (x ∷ xs) [] = false
+stringFits (x ∷ xs) (y ∷ ys) = wordFits x y && stringFits xs ys
 
--- a tree derives the sentence
+abbrev pub spells : Grammar → List ℕ → Tree → Bool
+spells g sentence t = stringFits (getD (yield g t) 0 []) sentence
+
+-- "A tree derives the sentence when" it has the start category as root and its yield is the sentence
 abbrev pub derives : Grammar → List ℕ → Tree → Bool
 derives g sentence t = hasRoot g t (g .start) && spells g sentence t
 
--- a list read as trees, one after the other: what a node lacks of its daughters it takes from those that follow it
+-- A list read as trees, one after the other: a node takes as many daughters as its rule has from the trees that follow it.
 abbrev pub arityBy : Option Rule → ℕ
 arityBy none = 0
 arityBy (some rule) = length (rule .daughters)
@@ -101,8 +110,9 @@ forest g (r ∷ rs) =
 abbrev pub treeOfList : Grammar → List ℕ → Tree
 treeOfList g list = elim (forest g list) [ nil ↦ node 0 nil | cons t ts ↦ t ]
 
--- reading a tree: `wanted` are the categories of the nodes still to come, in order
 module _ (g : Grammar) where
+  -- "Tree, per node: 19 list ended (its length); 13; 20 category other than wanted. Then 21 nodes left over (first)". `wanted` are the categories of
+  -- the nodes still to come, in order; k is the number of the next node.
   abbrev pub nodesRefusal : ℕ → List ℕ → List ℕ → Option Refusal
   nodesRefusal k [] [] = none
   nodesRefusal k (c ∷ wanted) [] = some (Refusal.Analysis 19 k)
@@ -114,62 +124,9 @@ module _ (g : Grammar) where
             if eqb (rule .category) c then nodesRefusal (suc k) (rule .daughters ++ wanted) rs else some (Refusal.Analysis 20 k)
       ]
 
+  -- 12, then node by node, then "22 yield is not the sentence"
   abbrev pub treeRefusal : List ℕ → List ℕ → Option Refusal
   treeRefusal sentence list =
       lengthRefusal list
       orElse nodesRefusal 0 (g .start ∷ []) list
       orElse refuseIf (not (spells g sentence (treeOfList g list))) (Refusal.Analysis 22 0)
-
--- a prediction that stands for a node, and its daughters'
-abbrev pub childAt : Forest → ℕ → Tree
-childAt nil j = node 0 nil
-childAt (cons t ts) zero = t
-childAt (cons t ts) (suc j) = childAt ts j
-
-abbrev pub subtree : Tree → ℕ → Tree
-subtree (node r ts) j = childAt ts j
-
-abbrev pub label : Tree → ℕ
-label (node r ts) = r
-
--- each step applies the rule of the node that the front prediction stands for; the trace ends when no prediction is left
-module _ (g : Grammar) where
-  abbrev pub traceFrom : ℕ → State Tree → List ℕ
-  traceFrom zero s = []
-  traceFrom (suc n) s =
-      elim (s .queue) [
-        | [] ↦ []
-        | p ∷ q ↦ label (p .node) ∷ elim (step subtree g s (label (p .node))) [ fails k ↦ [] | leads s′ ↦ traceFrom n s′ ]
-      ]
-
-  abbrev pub traceOf : List ℕ → List ℕ → List ℕ
-  traceOf sentence list = traceFrom (length list) (begin subtree g (treeOfList g list) sentence)
-
--- The address of a node: the daughter positions on the way to it from the root. A list of nodes with their addresses, in the order of
--- the addresses, is parent before daughters, daughters in rule order.
-abbrev pub Address : Type 0
-Address = List ℕ
-
-abbrev pub below : Address → ℕ → Address
-below a j = a ++ (j ∷ [])
-
-abbrev pub insertNode : (Address × ℕ) → List (Address × ℕ) → List (Address × ℕ)
-insertNode x [] = x ∷ []
-insertNode x (y ∷ ys) = if before (y .0) (x .0) then y ∷ insertNode x ys else x ∷ y ∷ ys
-
-abbrev pub sortNodes : List (Address × ℕ) → List (Address × ℕ)
-sortNodes [] = []
-sortNodes (x ∷ xs) = insertNode x (sortNodes xs)
-
-module _ (g : Grammar) where
-  -- the rule of each step, at the address of the node that the front prediction stands for
-  abbrev pub placed : State Address → List ℕ → List (Address × ℕ)
-  placed s [] = []
-  placed s (r ∷ rs) =
-      elim (s .queue) [
-        | [] ↦ []
-        | p ∷ q ↦ (p .node, r) ∷ elim (step below g s r) [ fails k ↦ [] | leads s′ ↦ placed s′ rs ]
-      ]
-
-  abbrev pub treeOf : List ℕ → List ℕ → List ℕ
-  treeOf sentence trace = map (λ x. x .1) (sortNodes (placed (begin below g [] sentence) trace))
