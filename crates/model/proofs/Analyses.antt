@@ -17,6 +17,7 @@ use Rattle.model.specs.Counting.{start, finished, complete, listing, cou
 use Rattle.model.specs.LivePrefixes.{Fits, LiveFrom, Live, Different}
 use Rattle.model.specs.WellFormed.{same, Right}
 use Rattle.model.specs.Conversions.{subtree, traceFrom, traceOf, Traces}
+use Rattle.model.specs.Demands.{Ends, Analysis, traceOfTree}
 use Rattle.model.proofs.Lists.{map-in, map-out}
 use Rattle.model.proofs.Live.{nil-live, cons-live}
 use Rattle.model.proofs.Listing.{listing-lists, order-different}
@@ -28,7 +29,7 @@ use Rattle.model.proofs.Expand.{queueSlots, zipped}
 use Rattle.model.proofs.Daughters.{yield-length}
 use Rattle.model.proofs.Forward.{Fit, Good, nodes}
 use Rattle.model.proofs.Traces.{advance, traces-spell, traces-length, traced}
-use Rattle.model.proofs.Lifting.{Ends, Lift, lifted}
+use Rattle.model.proofs.Lifting.{Lift, lifted}
 use Rattle.model.proofs.Only.{only}
 use Rattle.model.proofs.Tests.{and-both, and-l, and-r}
 
@@ -190,18 +191,10 @@ module _ (g : Grammar) (right : Right g) (sentence : List ℕ) where
   same-tree t u p h k a b =
       ap (λ (x : Prediction Tree). x .node) (head-eq-of-cons-eq (only g right p (at t) (at u) refl (at-good t h) (at-good u k) a b))
 
-  abbrev pub traceOfTree : Tree → List ℕ
-  traceOfTree t = traceOf g sentence (preorder t)
-
-  -- the trees that are counted
-  pub record Analysis (n : ℕ) (t : Tree) : Type 0 where
-    pub derived : T (derives g sentence t)
-    pub small : length (preorder t) ≤ n
-
   pub rooted-of : (t : Tree) → T (derives g sentence t) → T (hasRoot g t (g .start))
   rooted-of t h = and-l (hasRoot g t (g .start)) (spells g sentence t) h
 
-  listed : (n : ℕ) (t : Tree) → Analysis n t → List·Memᴰ (traceOfTree t) (listing g sentence n)
+  listed : (n : ℕ) (t : Tree) → Analysis g sentence n t → List·Memᴰ (traceOfTree g sentence t) (listing g sentence n)
   listed n t a =
       let r = rooted-of t (a .derived) in
       let (p, h) = derived-trace t (a .derived) in
@@ -219,8 +212,8 @@ module _ (g : Grammar) (right : Right g) (sentence : List ℕ) where
 
   pub record Source (n : ℕ) (p : List ℕ) : Type 0 where
     pub tree : Tree
-    pub analysis : Analysis n tree
-    pub trace : traceOfTree tree ≡ p
+    pub analysis : Analysis g sentence n tree
+    pub trace : traceOfTree g sentence tree ≡ p
 
   source : (n : ℕ) (p : List ℕ) → List·Memᴰ p (listing g sentence n) → Source n p
   source n p m =
@@ -233,7 +226,7 @@ module _ (g : Grammar) (right : Right g) (sentence : List ℕ) where
         trace = trace-of (o .tree) p (o .rooted) (o .traces);
       }
 
-  one-tree : (t u : Tree) → T (derives g sentence t) → T (derives g sentence u) → traceOfTree t ≡ traceOfTree u → t ≡ u
+  one-tree : (t u : Tree) → T (derives g sentence t) → T (derives g sentence u) → traceOfTree g sentence t ≡ traceOfTree g sentence u → t ≡ u
   one-tree t u h k e =
       let (p, a) = derived-trace t h in
       let (q, b) = derived-trace u k in
@@ -243,17 +236,17 @@ module _ (g : Grammar) (right : Right g) (sentence : List ℕ) where
   -- Demand 3: the count is the number of the different trees with at most n nodes that derive the sentence, and the listing is their traces
   pub record Analyses (n : ℕ) : Type 0 where
     pub trees : List Tree
-    pub sound : (t : Tree) → List·Memᴰ t trees → Analysis n t
-    pub whole : (t : Tree) → Analysis n t → List·Memᴰ t trees
+    pub sound : (t : Tree) → List·Memᴰ t trees → Analysis g sentence n t
+    pub whole : (t : Tree) → Analysis g sentence n t → List·Memᴰ t trees
     pub different : Different (map preorder trees)
-    pub traces : listing g sentence n ≡ map traceOfTree trees
+    pub traces : listing g sentence n ≡ map (traceOfTree g sentence) trees
     pub counted : count g sentence n ≡ length trees
 
   -- trees for a list of traces
   pub record Chosen (n : ℕ) (l : List (List ℕ)) : Type 0 where
     pub trees : List Tree
-    pub sound : (t : Tree) → List·Memᴰ t trees → Analysis n t
-    pub traces : l ≡ map traceOfTree trees
+    pub sound : (t : Tree) → List·Memᴰ t trees → Analysis g sentence n t
+    pub traces : l ≡ map (traceOfTree g sentence) trees
 
   choose : (n : ℕ) (l : List (List ℕ)) → ((p : List ℕ) → List·Memᴰ p l → Source n p) → Chosen n l
   choose n [] h = record { trees = []; sound = λ t m. elim m [ ]; traces = refl }
@@ -262,15 +255,15 @@ module _ (g : Grammar) (right : Right g) (sentence : List ℕ) where
       let c = choose n l (λ q m. h q (List·Memᴰ·tail m)) in
       record { trees = s .tree ∷ c .trees; sound = λ t m. go s c t (List·Memᴰ·cases-cons m); traces = cc (s .trace, c .traces) }
     where
-      go : (s : Source n p) (c : Chosen n l) (t : Tree) → (t ≡ s .tree) ⊎ List·Memᴰ t (c .trees) → Analysis n t
-      go s c t (inl e) = subst (Analysis n) (sym e) (s .analysis)
+      go : (s : Source n p) (c : Chosen n l) (t : Tree) → (t ≡ s .tree) ⊎ List·Memᴰ t (c .trees) → Analysis g sentence n t
+      go s c t (inl e) = subst (Analysis g sentence n) (sym e) (s .analysis)
       go s c t (inr m) = c .sound t m
 
   -- trees with different traces have different lists
-  differ : (ts : List Tree) → Different (map traceOfTree ts) → Different (map preorder ts)
+  differ : (ts : List Tree) → Different (map (traceOfTree g sentence) ts) → Different (map preorder ts)
   differ [] d = tt
   differ (t ∷ ts) d =
-      (λ m. let (u, i, e) = map-out preorder ts m in d .0 (subst (λ (x : List ℕ). List·Memᴰ (traceOf g sentence x) (map traceOfTree ts)) (sym e) (map-in traceOfTree i)), differ ts (d .1))
+      (λ m. let (u, i, e) = map-out preorder ts m in d .0 (subst (λ (x : List ℕ). List·Memᴰ (traceOf g sentence x) (map (traceOfTree g sentence) ts)) (sym e) (map-in (traceOfTree g sentence) i)), differ ts (d .1))
 
   pub analyses : (n : ℕ) → Analyses n
   analyses n =
@@ -279,10 +272,10 @@ module _ (g : Grammar) (right : Right g) (sentence : List ℕ) where
         trees = c .trees;
         sound = c .sound;
         whole = λ t a.
-            let m : List·Memᴰ (traceOfTree t) (map traceOfTree (c .trees)) = subst (λ (l : List (List ℕ)). List·Memᴰ (traceOfTree t) l) (c .traces) (listed n t a) in
-            let (u, i, e) = map-out traceOfTree (c .trees) m in
+            let m : List·Memᴰ (traceOfTree g sentence t) (map (traceOfTree g sentence) (c .trees)) = subst (λ (l : List (List ℕ)). List·Memᴰ (traceOfTree g sentence t) l) (c .traces) (listed n t a) in
+            let (u, i, e) = map-out (traceOfTree g sentence) (c .trees) m in
             subst (λ (x : Tree). List·Memᴰ x (c .trees)) (sym (one-tree t u (a .derived) (c .sound u i .derived) e)) i;
         different = differ (c .trees) (subst Different (c .traces) (order-different (listing g sentence n) (listing-lists g sentence n .ordered)));
         traces = c .traces;
-        counted = ap length (c .traces) ∙ length-map (c .trees) traceOfTree;
+        counted = ap length (c .traces) ∙ length-map (c .trees) (traceOfTree g sentence);
       }

@@ -20,8 +20,8 @@ use Rattle.model.specs.Counting.{start}
 use Rattle.model.specs.LivePrefixes.{LiveFrom}
 use Rattle.model.specs.WellFormed.{Right}
 use Rattle.model.specs.Conversions.{traceOf}
+use Rattle.model.specs.Demands.{Ends}
 use Rattle.model.proofs.Live.{cons-unlive, queue-fits}
-use Rattle.model.proofs.Lifting.{Ends}
 use Rattle.model.proofs.Analyses.{at, at-good, derived-trace, trace-derives, trace-size, trace-of, traces-live, traces-end, of-tree, rooted-of, tree-counts}
 use Rattle.model.proofs.Tests.{none-some, no-refusal}
 

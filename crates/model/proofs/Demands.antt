@@ -1,97 +1,210 @@
--- Demands 2 and 3 of document 01, for every grammar file that the reader accepts.
+-- Demands 2 and 3 of document 01, for every grammar file that the reader accepts and every sentence of at most 96 of its words.
 -- Assumes nothing.
 use mathlib.Core.Path.{_≡_, refl, sym, ap, subst, _∙_}
 use mathlib.Core.Bool.{Bool, true, false, not}
-use mathlib.Core.Option.{Option, none}
-use mathlib.Core.List.{List, [], _∷_}
-use Prim.Native.Nat.{ℕ, _≤_}
+use mathlib.Core.Option.{Option, none, some}
+use mathlib.Core.List.{List, [], _∷_, _++_, map, List·Memᴰ}
+use Prim.Native.Nat.{ℕ, _<_, _≤_}
 use native.Mathlib.Omega.{arith}
-use borrow.Author.Tests.{ltb-false}
-use lib.Dec.{T, ltb, eqb}
-use lib.ListN.{length}
+use borrow.Author.Tests.{lt-ltb, le-ltb, lt-leb, le-leb, ltb-false, ltb-true}
+use lib.Dec.{T, ltb, leb, eqb}
+use lib.ListN.{length, getD, drop}
 use Rattle.model.specs.declared.Refusal.{Refusal}
+use Rattle.model.specs.declared.Verdict.{Verdict}
+use Rattle.model.specs.declared.CountVerdict.{CountVerdict}
 use Rattle.model.specs.Base.{_orElse_}
-use Rattle.model.specs.Verdict.{refuseIf}
+use Rattle.model.specs.Verdict.{refuseIf, verdict, countVerdict}
 use Rattle.model.specs.Grammar.{Grammar}
-use Rattle.model.specs.GrammarFile.{grammarRefusal, grammarOf}
-use Rattle.model.specs.Trace.{lengthRefusal, stepsRefusal, traceRefusal}
-use Rattle.model.specs.Tree.{Tree, preorder, derives, nodesRefusal, treeOfList, spells, treeRefusal}
-use Rattle.model.specs.Counting.{start}
-use Rattle.model.specs.LivePrefixes.{Live, Lists}
-use Rattle.model.specs.Counting.{live}
 use Rattle.model.specs.WellFormed.{Right}
-use Rattle.model.specs.Conversions.{traceOf, treeOf}
+use Rattle.model.specs.GrammarFile.{grammarRefusal, grammarOf}
+use Rattle.model.specs.Step.{begin}
+use Rattle.model.specs.Trace.{lengthRefusal, stepsRefusal, sentenceRefusal, traceRefusal}
+use Rattle.model.specs.Tree.{Tree, preorder, derives, nodesRefusal, treeOfList, spells, treeRefusal}
+use Rattle.model.specs.Conversions.{BelongsTo, traceOf, treeOf}
+use Rattle.model.specs.Counting.{start, live, effort, listing, count, entry, limitsRefusal, effortRefusal, entryRefusal}
+use Rattle.model.specs.Calls.{written, roomRefusal, checkTraceVerdict, checkTreeVerdict, countCall, entryVerdict, entryOutput}
+use Rattle.model.specs.Demands.{_⇔_, Ends, Recognized, Derivation, ToTree, ToTrace, Demand2, Analysis, traceOfTree, Belongs, Demand3}
+use Rattle.model.proofs.Tests.{none-some}
 use Rattle.model.proofs.Live.{live-lists}
+use Rattle.model.proofs.Listing.{listing-lists, order-different}
 use Rattle.model.proofs.Reading.{accepted-derives, derives-accepted}
 use Rattle.model.proofs.Checker.{accepted-trace, tree-accepted}
-use Rattle.model.proofs.Analyses.{Analyses, analyses, at-good, derived-trace, trace-of, trace-size, rooted-of}
+use Rattle.model.proofs.Analyses.{at, at-good, analyses, derived-trace, trace-derives, trace-of, trace-size, rooted-of, traces-end, of-tree}
 use Rattle.model.proofs.Addresses.{tree-of}
 use Rattle.model.proofs.FromFile.{accepted-right}
 
-not-long : (l : List ℕ) (b : Option Refusal) → lengthRefusal l orElse b ≡ none → length l ≤ 96
-not-long l b e = go (ltb 96 (length l)) refl e
+-- what passes refusal 12 has at most 96 numbers
+short-of : (l : List ℕ) (b : Option Refusal) → lengthRefusal l orElse b ≡ none → length l ≤ 96
+short-of l b e = go (ltb 96 (length l)) refl e
   where
     go : (t : Bool) → ltb 96 (length l) ≡ t → refuseIf t (Refusal.Analysis 12 0) orElse b ≡ none → length l ≤ 96
-    go true f k = let z : _≡_ {A = ℕ} 0 1 = cc in absurd (omega arith)
+    go true f k = none-some k
     go false f k = ltb-false 96 (length l) f
 
 module _ (g : Grammar) (right : Right g) (sentence : List ℕ) where
-  -- demand 2: a trace that is accepted goes to a tree that is accepted, and back to the trace
-  pub record There (trace : List ℕ) : Type 0 where
-    pub accepted : treeRefusal g sentence (treeOf g sentence trace) ≡ none
-    pub back : traceOf g sentence (treeOf g sentence trace) ≡ trace
-
-  tree-of-derived : (t : Tree) → T (derives g sentence t) → treeOf g sentence (traceOf g sentence (preorder t)) ≡ preorder t
-  tree-of-derived t h =
+  -- the trace of a tree that derives the sentence belongs to it, and has a step for each node
+  pub belongs : (t : Tree) → T (derives g sentence t) → Belongs g sentence t
+  belongs t h =
       let r = rooted-of g right sentence t h in
       let d = derived-trace g right sentence t h in
-      ap (treeOf g sentence) (trace-of g right sentence t (d .0) r (d .1)) ∙ tree-of g right t sentence (d .0) (at-good g right sentence t r) (d .1)
-
-  size-of-derived : (t : Tree) → T (derives g sentence t) → length (traceOf g sentence (preorder t)) ≡ length (preorder t)
-  size-of-derived t h =
-      let r = rooted-of g right sentence t h in
-      let d = derived-trace g right sentence t h in
-      ap length (trace-of g right sentence t (d .0) r (d .1)) ∙ trace-size g right sentence t (d .0) r (d .1)
-
-  pub to-tree : (trace : List ℕ) → traceRefusal g sentence trace ≡ none → There trace
-  to-tree p e =
-      let a = accepted-trace g right sentence p e in
-      let l : treeOf g sentence p ≡ preorder (a .tree) = ap (treeOf g sentence) (sym (a .trace)) ∙ tree-of-derived (a .tree) (a .derived) in
-      let n = not-long p (refuseIf (eqb (length p) 0) (Refusal.Analysis 17 0) orElse stepsRefusal g sentence 0 (start g sentence) p) e in
-      let s : length p ≡ length (preorder (a .tree)) = ap length (sym (a .trace)) ∙ size-of-derived (a .tree) (a .derived) in
+      let e = trace-of g right sentence t (d .0) r (d .1) in
       record {
-        accepted = ap (treeRefusal g sentence) l ∙ derives-accepted g sentence (a .tree) (a .derived) (omega arith);
+        traces = subst (λ (x : List ℕ). BelongsTo g sentence x t) (sym e) (d .1);
+        size = ap length e ∙ trace-size g right sentence t (d .0) r (d .1);
+      }
+
+  -- the trace checker accepts just the traces of at most 96 steps by which the recognizer accepts
+  pub trace-short : (trace : List ℕ) → traceRefusal g sentence trace ≡ none → length trace ≤ 96
+  trace-short p e = short-of p (refuseIf (eqb (length p) 0) (Refusal.Analysis 17 0) orElse stepsRefusal g sentence 0 (start g sentence) p) e
+
+  pub trace-only : (trace : List ℕ) → traceRefusal g sentence trace ≡ none → Recognized g sentence trace
+  trace-only p e =
+      let a = accepted-trace g right sentence p e in
+      let b = belongs (a .tree) (a .derived) in
+      subst (Recognized g sentence) (a .trace)
+      (traces-end g right sentence (traceOfTree g sentence (a .tree)) (at g right sentence (a .tree)) (b .traces))
+
+  pub trace-all : (trace : List ℕ) → length trace ≤ 96 → Recognized g sentence trace → traceRefusal g sentence trace ≡ none
+  trace-all p l h =
+      let o = of-tree g right sentence p h in
+      let d = trace-derives g right sentence (o .tree) p (o .rooted) (o .traces) in
+      let e = trace-of g right sentence (o .tree) p (o .rooted) (o .traces) in
+      let s = trace-size g right sentence (o .tree) p (o .rooted) (o .traces) in
+      subst (λ (x : List ℕ). traceRefusal g sentence x ≡ none) e (tree-accepted g right sentence (o .tree) d (omega arith))
+
+  -- the tree checker accepts just the lists of at most 96 numbers of trees that derive the sentence
+  pub tree-short : (list : List ℕ) → treeRefusal g sentence list ≡ none → length list ≤ 96
+  tree-short l e =
+      short-of l (nodesRefusal g 0 (g .start ∷ []) l orElse refuseIf (not (spells g sentence (treeOfList g l))) (Refusal.Analysis 22 0)) e
+
+  pub tree-all : (list : List ℕ) → length list ≤ 96 → Derivation g sentence list → treeRefusal g sentence list ≡ none
+  tree-all l h d =
+      let n : length (preorder (d .tree)) ≤ 96 = omega (arith, ap length (d .listed)) in
+      subst (λ (x : List ℕ). treeRefusal g sentence x ≡ none) (d .listed) (derives-accepted g sentence (d .tree) (d .derived) n)
+
+  -- the tree of the trace of a tree is that tree
+  tree-back : (t : Tree) → T (derives g sentence t) → treeOf g sentence (traceOfTree g sentence t) ≡ preorder t
+  tree-back t h =
+      let r = rooted-of g right sentence t h in
+      let d = derived-trace g right sentence t h in
+      ap (treeOf g sentence) (trace-of g right sentence t (d .0) r (d .1))
+      ∙ tree-of g right t sentence (d .0) (at-good g right sentence t r) (d .1)
+
+-- with a file that the reader accepts and a sentence of its words
+module _ (file : List ℕ) (accepted : grammarRefusal file ≡ none) (sentence : List ℕ) (spoken : sentenceRefusal (grammarOf file) sentence ≡ none) where
+  abbrev g : Grammar
+  g = grammarOf file
+
+  right : Right g
+  right = accepted-right file accepted
+
+  -- the checkers' verdicts are by the analysis alone
+  past : (o : Option Refusal) (n : ℕ) → verdict (grammarRefusal file orElse sentenceRefusal g sentence orElse o) n ≡ verdict o n
+  past o n = rw (accepted, spoken)
+
+  accepted-none : (o : Option Refusal) (n : ℕ) → verdict o n ≡ Verdict.Accepted n → o ≡ none
+  accepted-none none n e = refl
+  accepted-none (some r) n e = let z : _≡_ {A = ℕ} 0 1 = cc in absurd (omega arith)
+
+  none-accepted : (o : Option Refusal) (n : ℕ) → o ≡ none → verdict o n ≡ Verdict.Accepted n
+  none-accepted o n e = rw e
+
+  trace-passed : (p : List ℕ) → checkTraceVerdict file sentence p ≡ Verdict.Accepted (length p) → traceRefusal g sentence p ≡ none
+  trace-passed p e = accepted-none (traceRefusal g sentence p) (length p) (sym (past (traceRefusal g sentence p) (length p)) ∙ e)
+
+  trace-passes : (p : List ℕ) → traceRefusal g sentence p ≡ none → checkTraceVerdict file sentence p ≡ Verdict.Accepted (length p)
+  trace-passes p e = past (traceRefusal g sentence p) (length p) ∙ none-accepted (traceRefusal g sentence p) (length p) e
+
+  tree-passed : (l : List ℕ) → checkTreeVerdict file sentence l ≡ Verdict.Accepted (length l) → treeRefusal g sentence l ≡ none
+  tree-passed l e = accepted-none (treeRefusal g sentence l) (length l) (sym (past (treeRefusal g sentence l) (length l)) ∙ e)
+
+  tree-passes : (l : List ℕ) → treeRefusal g sentence l ≡ none → checkTreeVerdict file sentence l ≡ Verdict.Accepted (length l)
+  tree-passes l e = past (treeRefusal g sentence l) (length l) ∙ none-accepted (treeRefusal g sentence l) (length l) e
+
+  to-tree : (p : List ℕ) → checkTraceVerdict file sentence p ≡ Verdict.Accepted (length p) → ToTree file sentence p
+  to-tree p e =
+      let f = trace-passed p e in
+      let a = accepted-trace g right sentence p f in
+      let b = belongs g right sentence (a .tree) (a .derived) in
+      let l : treeOf g sentence p ≡ preorder (a .tree) = ap (treeOf g sentence) (sym (a .trace)) ∙ tree-back g right sentence (a .tree) (a .derived) in
+      let s : length (preorder (a .tree)) ≡ length p = sym (b .size) ∙ ap length (a .trace) in
+      let c = derives-accepted g sentence (a .tree) (a .derived) (omega (arith, trace-short g right sentence p f)) in
+      record {
+        tree = a .tree;
+        converted = l;
+        belongs = subst (λ (x : List ℕ). BelongsTo g sentence x (a .tree)) (a .trace) (b .traces);
+        accepted = ap (checkTreeVerdict file sentence) l ∙ tree-passes (preorder (a .tree)) c ∙ ap Verdict.Accepted s;
         back = ap (traceOf g sentence) l ∙ a .trace;
       }
 
-  -- and a tree that is accepted to a trace that is accepted, and back to the tree
-  pub record Thence (tree : List ℕ) : Type 0 where
-    pub accepted : traceRefusal g sentence (traceOf g sentence tree) ≡ none
-    pub back : treeOf g sentence (traceOf g sentence tree) ≡ tree
-
-  pub to-trace : (tree : List ℕ) → treeRefusal g sentence tree ≡ none → Thence tree
+  to-trace : (l : List ℕ) → checkTreeVerdict file sentence l ≡ Verdict.Accepted (length l) → ToTrace file sentence l
   to-trace l e =
-      let d = accepted-derives g sentence l e in
-      let n = not-long l (nodesRefusal g 0 (g .start ∷ []) l orElse refuseIf (not-spelled l) (Refusal.Analysis 22 0)) e in
-      let k : length (preorder (d .tree)) ≤ 96 = omega (arith, ap length (d .listed)) in
+      let f = tree-passed l e in
+      let d = accepted-derives g sentence l f in
+      let b = belongs g right sentence (d .tree) (d .derived) in
+      let k : length (preorder (d .tree)) ≤ 96 = omega (arith, ap length (d .listed), tree-short g right sentence l f) in
+      let c = tree-accepted g right sentence (d .tree) (d .derived) k in
+      let h : traceOfTree g sentence (d .tree) ≡ traceOf g sentence l = ap (traceOf g sentence) (d .listed) in
       record {
-        accepted = subst (λ (x : List ℕ). traceRefusal g sentence (traceOf g sentence x) ≡ none) (d .listed) (tree-accepted g right sentence (d .tree) (d .derived) k);
-        back = subst (λ (x : List ℕ). treeOf g sentence (traceOf g sentence x) ≡ x) (d .listed) (tree-of-derived (d .tree) (d .derived));
+        tree = d .tree;
+        listed = d .listed;
+        belongs = subst (λ (x : List ℕ). BelongsTo g sentence x (d .tree)) h (b .traces);
+        accepted = ap (checkTraceVerdict file sentence) (sym h) ∙ trace-passes (traceOfTree g sentence (d .tree)) c ∙ ap Verdict.Accepted (b .size ∙ ap length (d .listed));
+        back = ap (treeOf g sentence) (sym h) ∙ tree-back g right sentence (d .tree) (d .derived) ∙ d .listed;
       }
-    where
-      not-spelled : List ℕ → Bool
-      not-spelled x = not (spells g sentence (treeOfList g x))
 
--- demands 2 and 3 for a file that the reader accepts
-module _ (file : List ℕ) (accepted : grammarRefusal file ≡ none) (sentence : List ℕ) where
-  pub file-to-tree : (trace : List ℕ) → traceRefusal (grammarOf file) sentence trace ≡ none → There (grammarOf file) (accepted-right file accepted) sentence trace
-  file-to-tree = to-tree (grammarOf file) (accepted-right file accepted) sentence
+  pub demand-2 : Demand2 file sentence
+  demand-2 =
+      record {
+        traces = λ p l. (λ e. trace-only g right sentence p (trace-passed p e), λ h. trace-passes p (trace-all g right sentence p l h));
+        trees = λ p l. (λ e. accepted-derives g sentence p (tree-passed p e), λ h. tree-passes p (tree-all g right sentence p l h));
+        to-tree = to-tree;
+        to-trace = to-trace;
+      }
 
-  pub file-to-trace : (tree : List ℕ) → treeRefusal (grammarOf file) sentence tree ≡ none → Thence (grammarOf file) (accepted-right file accepted) sentence tree
-  file-to-trace = to-trace (grammarOf file) (accepted-right file accepted) sentence
+  -- with node limit and effort limit in range
+  module _ (n limit : ℕ) (ranges : limitsRefusal n limit ≡ none) where
+    -- the count call goes by the effort alone
+    count-by : (b : Bool) → ltb limit (effort g sentence n) ≡ b
+        → countCall file sentence n limit ≡ countVerdict (refuseIf b (Refusal.Desk 25 0)) (count g sentence n) (effort g sentence n)
+    count-by b e = rw (accepted, ranges, spoken, e)
 
-  pub file-live : (n : ℕ) → Lists (Live (grammarOf file) sentence n) (live (grammarOf file) sentence n)
-  file-live n = live-lists (grammarOf file) sentence n
+    too-much : (countCall file sentence n limit ≡ CountVerdict.NotCounted (Refusal.Desk 25 0)) ⇔ limit < effort g sentence n
+    too-much = (λ e. over (ltb limit (effort g sentence n)) refl e, λ h. count-by true (lt-ltb limit (effort g sentence n) h))
+      where
+        over : (b : Bool) → ltb limit (effort g sentence n) ≡ b → countCall file sentence n limit ≡ CountVerdict.NotCounted (Refusal.Desk 25 0)
+            → limit < effort g sentence n
+        over true e f = ltb-true limit (effort g sentence n) e
+        over false e f = let k = count-by false e in let z : _≡_ {A = ℕ} 0 1 = cc in absurd (omega arith)
 
-  pub file-analyses : (n : ℕ) → Analyses (grammarOf file) (accepted-right file accepted) sentence n
-  file-analyses n = analyses (grammarOf file) (accepted-right file accepted) sentence n
+    -- so does the call for entry m, with room in the output, and then by the count
+    entry-by : effort g sentence n ≤ limit → (out : List ℕ) → 96 ≤ length out → (m : ℕ) (b : Bool) → leb (count g sentence n) m ≡ b
+        → (entryVerdict file sentence n limit m out ≡ verdict (refuseIf b (Refusal.Desk 26 0)) (length (entry g sentence n m)))
+        × (entryOutput file sentence n limit m out ≡ written (refuseIf b (Refusal.Desk 26 0)) (entry g sentence n m) out)
+    entry-by h out room m b e =
+        let r : ltb (length out) 96 ≡ false = le-ltb (length out) 96 room in
+        let k : ltb limit (effort g sentence n) ≡ false = le-ltb limit (effort g sentence n) h in
+        (rw (accepted, r, ranges, spoken, k, e), rw (accepted, r, ranges, spoken, k, e))
+
+    pub demand-3 : Demand3 file sentence n limit
+    demand-3 =
+        let a = analyses g right sentence n in
+        let l = live-lists g sentence n in
+        let o = listing-lists g sentence n .ordered in
+        record {
+          prefixes = live g sentence n;
+          prefixes-are = λ p. (l .sound p, l .whole p);
+          prefixes-differ = order-different (live g sentence n) (l .ordered);
+          trees = a .trees;
+          trees-are = λ t. (a .sound t, a .whole t);
+          trees-differ = a .different;
+          listing-is = a .traces;
+          belong = λ t m. belongs g right sentence t (a .sound t m .derived);
+          ordered = o;
+          listing-differs = order-different (listing g sentence n) o;
+          listing-counts = a .counted;
+          too-much = too-much;
+          counted = λ h. count-by false (le-ltb limit (effort g sentence n) h) ∙ ap (λ (c : ℕ). CountVerdict.Counted c (effort g sentence n)) (a .counted);
+          entry-is = λ h out room m k. entry-by h out room m false (lt-leb (count g sentence n) m (omega (arith, a .counted)));
+          no-entry = λ h out room m k. entry-by h out room m true (le-leb (count g sentence n) m (omega (arith, a .counted))) .0;
+        }

@@ -15,6 +15,7 @@ use Rattle.model.specs.Step.{Index, Prediction, State, Outcome, fails, l
 use Rattle.model.specs.Trace.{noNode, run}
 use Rattle.model.specs.Tree.{Tree, Forest, node, nil, cons, wordString, hasRoot, hasRoots}
 use Rattle.model.specs.Conversions.{label, childAt, subtree, Traces}
+use Rattle.model.specs.Demands.{Ends}
 use Rattle.model.proofs.Lists.{mem-left, mem-right, map-in}
 use Rattle.model.proofs.Sorting.{sort-in}
 use Rattle.model.proofs.Marks.{Bare, bare, bareState, indicesOf}
@@ -172,20 +173,13 @@ module _ (g : Grammar) where
           unlexical-not r rule f p₀ q₀ ws s′ (eqb→eq (rule .category) (p₀ .category) (rw i tt)) h j
           (ap (λ (s : State (Unit {0})). s .queue) (sym x)) (ap (λ (s : State (Unit {0})). s .words) (sym x))
 
-  -- the steps lead to the end
-  pub record Ends (s₀ : State (Unit {0})) (p : List ℕ) : Type 0 where
-    pub last : State (Unit {0})
-    pub runs : run noNode g s₀ p ≡ some last
-    pub no-queue : last .queue ≡ []
-    pub no-words : last .words ≡ []
-
   pub record Lift (s₀ : State (Unit {0})) (p : List ℕ) : Type 0 where
     pub state : State Tree
     pub bare-is : bareState state ≡ s₀
     pub rooted : Rooted g (state .queue)
     pub traces : Traces g state p
 
-  pub lifted : (p : List ℕ) (s₀ : State (Unit {0})) → Ends s₀ p → Lift s₀ p
+  pub lifted : (p : List ℕ) (s₀ : State (Unit {0})) → Ends g s₀ p → Lift s₀ p
   lifted [] s₀ e =
       let s : State Tree = record { queue = []; words = [] } in
       let k : s₀ ≡ e .last = cc (e .runs) in
@@ -194,7 +188,7 @@ module _ (g : Grammar) where
       record { state = s; bare-is = λ i. record { queue = sym a i; words = sym b i }; rooted = λ x m. elim m [ ]; traces = (refl, refl) }
   lifted (r ∷ p) s₀ e = go (step noNode g s₀ r) refl (λ s e′. lifted p s e′)
     where
-      go : (o : Outcome (Unit {0})) → step noNode g s₀ r ≡ o → ((s : State (Unit {0})) → Ends s p → Lift s p) → Lift s₀ (r ∷ p)
+      go : (o : Outcome (Unit {0})) → step noNode g s₀ r ≡ o → ((s : State (Unit {0})) → Ends g s p → Lift s p) → Lift s₀ (r ∷ p)
       go (fails n) f ih =
           let k : none ≡ some (e .last) = rw (f, run) at (e .runs) in
           let z : _≡_ {A = ℕ} 0 1 = cc in

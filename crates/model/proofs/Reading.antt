@@ -15,6 +15,7 @@ use Rattle.model.specs.Verdict.{refuseIf}
 use Rattle.model.specs.Trace.{lengthRefusal}
 use Rattle.model.specs.Grammar.{Grammar, Rule, ruleAt}
 use Rattle.model.specs.Tree.{Tree, Forest, node, nil, cons, preorder, preorders, hasRoot, hasRoots, rootBy, arity, firsts, others, forest, nodesRefusal, treeRefusal, treeOfList, spells, derives}
+use Rattle.model.specs.Demands.{Derivation}
 use Rattle.model.proofs.Tests.{and-l, and-r, and-both, no-refusal, not-off}
 
 passes : (b : Bool) → T b → b ≡ true
@@ -138,12 +139,6 @@ module _ (g : Grammar) where
         rw append-assoc
         (back u c (preorders us ++ rest) (and-l (hasRoot g u c) (hasRoots g us cs) t)
         ∙ ap (λ (x : Forest). cons u x) (backs us cs rest (and-r (hasRoot g u c) (hasRoots g us cs) t)))
-
--- The tree checker accepts a list just if it is the list of a tree that derives the sentence, and has at most 96 numbers.
-pub record Derivation (g : Grammar) (sentence list : List ℕ) : Type 0 where
-  pub tree : Tree
-  pub listed : preorder tree ≡ list
-  pub derived : T (derives g sentence tree)
 
 use-none : (a b : Option Refusal) → a orElse b ≡ none → (a ≡ none) × (b ≡ none)
 use-none none b e = (refl, e)

@@ -13,6 +13,7 @@ pub mod LivePrefixes
 pub mod Survey
 pub mod Calls
 pub mod Program
+pub mod Demands
 pub mod Rows
 pub mod ExampleFiles
 pub mod Examples
