@@ -35,3 +35,4 @@ pub mod RowsNamed
 pub mod RowsCalls
 pub mod RowsBounds
 pub mod RowsCode
+pub mod RowsAgree

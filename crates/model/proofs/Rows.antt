@@ -14,11 +14,12 @@ use Rattle.model.specs.Grammar.{Variable, Rule, Grammar, emptyWord, rule
 use Rattle.model.specs.Step.{Index, Prediction, State, Outcome, fails, leads, shorten, trim, sort, sameFirst, readWord, scan, daughtersFrom, variableIndices, expand, predict, apply, step, begin}
 use Rattle.model.specs.Rows.{Slot, RowState, RowOutcome, halts, moves, expandRow, readWordRow, scanRow, predictRow, applyRow, stepRow, beginRow}
 use Rattle.model.specs.WellFormed.{Perm, same, more, swap, chain, RightRule, Right}
+use Rattle.model.specs.RowsAgree.{number, IndexedSlot, SameOutcome}
 use Rattle.model.proofs.Perm.{perm-sym, perm-map, perm-length}
 use Rattle.model.proofs.Marks.{indicesOf}
 use Rattle.model.proofs.Queue.{sort-perm}
 use Rattle.model.proofs.Apart.{Every, every-append, every-to, every-perm, Line, line-predict, line-read}
-use Rattle.model.proofs.RowsLine.{Put, InOrder, First, first, predict-order, trim-order, number, nodesOf}
+use Rattle.model.proofs.RowsLine.{InOrder, First, first, predict-order, trim-order, nodesOf}
 use Rattle.model.proofs.Lists.{length-numbers, map-append}
 
 -- ---- numbers that differ
@@ -119,27 +120,20 @@ module _ (g : Grammar) where
     pub kept : Kept (s .queue) (t .row) (t .made) (t .pending)
     pub words : t .words ≡ s .words
 
-  -- they fail by the same test, or both go on and stand at the same place
-  abbrev pub SameRow : Outcome ℕ → RowOutcome → Type 0
-  SameRow (fails m) (halts n) = n ≡ m
-  SameRow (fails m) (moves t) = ⊥
-  SameRow (leads s) (halts n) = ⊥
-  SameRow (leads s) (moves t) = AgreeRow s t
-
-  scan-agree : (w : ℕ) (q : List (Prediction ℕ)) (row : List Slot) (made pending : ℕ) (ws : List ℕ) → Kept q row made pending → SameRow (scan w q ws) (scanRow w row made pending ws)
+  scan-agree : (w : ℕ) (q : List (Prediction ℕ)) (row : List Slot) (made pending : ℕ) (ws : List ℕ) → Kept q row made pending → SameOutcome AgreeRow (scan w q ws) (scanRow w row made pending ws)
   scan-agree w q row made pending ws h = go (eqb w emptyWord)
     where
       read : (b : Bool) (xs : List ℕ)
-          → SameRow (if b then leads (record { queue = q; words = xs }) else fails 16) (if b then moves (record { row = row; made = made; pending = pending; words = xs }) else halts 16)
+          → SameOutcome AgreeRow (if b then leads (record { queue = q; words = xs }) else fails 16) (if b then moves (record { row = row; made = made; pending = pending; words = xs }) else halts 16)
       read true xs = record { kept = h; words = refl }
       read false xs = refl
 
-      word : (ws : List ℕ) → SameRow (readWord w q ws) (readWordRow w row made pending ws)
+      word : (ws : List ℕ) → SameOutcome AgreeRow (readWord w q ws) (readWordRow w row made pending ws)
       word [] = refl
       word (x ∷ xs) = read (eqb w x) xs
 
       go : (b : Bool)
-          → SameRow (if b then leads (record { queue = q; words = ws }) else readWord w q ws) (if b then moves (record { row = row; made = made; pending = pending; words = ws }) else readWordRow w row made pending ws)
+          → SameOutcome AgreeRow (if b then leads (record { queue = q; words = ws }) else readWord w q ws) (if b then moves (record { row = row; made = made; pending = pending; words = ws }) else readWordRow w row made pending ws)
       go true = record { kept = h; words = refl }
       go false = word ws
 
@@ -166,13 +160,13 @@ module _ (g : Grammar) where
       }
 
   applied : (r : Rule) (p : Prediction ℕ) (q : List (Prediction ℕ)) (row : List Slot) (made pending : ℕ) (ws : List ℕ) → RightRule g r → Kept (p ∷ q) row made pending → (f : First p q row)
-      → SameRow (apply (number made) g (some r) (p ∷ q) ws) (applyRow (some r) (f .slot ∷ f .rest) made pending ws)
+      → SameOutcome AgreeRow (apply (number made) g (some r) (p ∷ q) ws) (applyRow (some r) (f .slot ∷ f .rest) made pending ws)
   applied r p q row made pending ws right h f =
-      subst (λ (b : Bool). SameRow (apply (number made) g (some r) (p ∷ q) ws) (if b then (if isLexical r then scanRow (r .word) (f .rest) made (pending - 1) ws else moves (predictRow r (f .slot .owner) (f .slot ∷ f .rest) made pending ws)) else halts 15))
+      subst (λ (b : Bool). SameOutcome AgreeRow (apply (number made) g (some r) (p ∷ q) ws) (if b then (if isLexical r then scanRow (r .word) (f .rest) made (pending - 1) ws else moves (predictRow r (f .slot .owner) (f .slot ∷ f .rest) made pending ws)) else halts 15))
       (ap (eqb (r .category)) (sym (f .category))) (go (eqb (r .category) (p .category)) (isLexical r) refl refl)
     where
       go : (b l : Bool) → eqb (r .category) (p .category) ≡ b → isLexical r ≡ l
-          → SameRow (if b then (if l then scan (r .word) q ws else predict (number made) g r p q ws) else fails 15)
+          → SameOutcome AgreeRow (if b then (if l then scan (r .word) q ws else predict (number made) g r p q ws) else fails 15)
           (if b then (if l then scanRow (r .word) (f .rest) made (pending - 1) ws else moves (predictRow r (f .slot .owner) (f .slot ∷ f .rest) made pending ws)) else halts 15)
       go false l e d = refl
       go true true e d =
@@ -190,12 +184,12 @@ module _ (g : Grammar) where
   pub no-row : (row : List Slot) → InOrder [] row → row ≡ []
   no-row row o = go (o .line) (o .perm) (o .spells)
     where
-      go : (l : List Put) → Perm l [] → row ≡ map (λ x. x .1) l → row ≡ []
+      go : (l : List IndexedSlot) → Perm l [] → row ≡ map (λ x. x .1) l → row ≡ []
       go [] h e = e
       go (x ∷ l) h e = absurd (omega (arith, perm-length h))
 
   apply-agree : (o : Option Rule) → ((r : Rule) → o ≡ some r → RightRule g r) → (q : List (Prediction ℕ)) (row : List Slot) (made pending : ℕ) (ws : List ℕ) → Kept q row made pending
-      → SameRow (apply (number made) g o q ws) (applyRow o row made pending ws)
+      → SameOutcome AgreeRow (apply (number made) g o q ws) (applyRow o row made pending ws)
   apply-agree none right q row made pending ws h = refl
   apply-agree (some r) right [] row made pending ws h = rw (no-row row (h .order)) refl
   apply-agree (some r) right (p ∷ q) row made pending ws h =
@@ -203,7 +197,7 @@ module _ (g : Grammar) where
       rw (f .is) (applied r p q row made pending ws (right r refl) h f)
 
   -- one step of both
-  pub step-agree : Right g → (s : State ℕ) (t : RowState) → AgreeRow s t → (r : ℕ) → SameRow (step (number (t .made)) g s r) (stepRow g t r)
+  pub step-agree : Right g → (s : State ℕ) (t : RowState) → AgreeRow s t → (r : ℕ) → SameOutcome AgreeRow (step (number (t .made)) g s r) (stepRow g t r)
   step-agree right s t h r = rw (h .words) (apply-agree (ruleAt g r) (right .rules r) (s .queue) (t .row) (t .made) (t .pending) (s .words) (h .kept))
 
   pub begin-agree : Right g → (sentence : List ℕ) → AgreeRow (begin (number 1) g 0 sentence) (beginRow g sentence)

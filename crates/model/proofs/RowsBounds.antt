@@ -14,15 +14,16 @@ use Rattle.model.specs.GrammarFile.{grammarRefusal, grammarOf}
 use Rattle.model.specs.Step.{Index, Prediction, State, Outcome, fails, leads, step, begin}
 use Rattle.model.specs.Rows.{Slot, RowState, RowOutcome, halts, moves, predictRow, readWordRow, scanRow, applyRow, stepRow, beginRow, runRow}
 use Rattle.model.specs.WellFormed.{Right}
+use Rattle.model.specs.RowsAgree.{number, IndexedSlot, slotIn, indexedFrom, indexedOf, indexedSlots, SameOutcome}
 use Rattle.model.proofs.Perm.{perm-sym, perm-length}
 use Rattle.model.proofs.Apart.{Every, every-append, every-perm, Sized}
-use Rattle.model.proofs.RowsLine.{Put, slotIn, putFrom, putsOf, puts, number, nodesOf}
-use Rattle.model.proofs.Rows.{Below, AgreeRow, SameRow, step-agree, begin-agree}
+use Rattle.model.proofs.RowsLine.{nodesOf}
+use Rattle.model.proofs.Rows.{Below, AgreeRow, step-agree, begin-agree}
 use Rattle.model.proofs.FromFile.{dimensions-four}
 
 -- ---- of one state
 
-from-length : (o c k : ℕ) (is : List Index) → length (putFrom o c k is) ≡ length is
+from-length : (o c k : ℕ) (is : List Index) → length (indexedFrom o c k is) ≡ length is
 from-length o c k [] = refl
 from-length o c k (i ∷ is) = ap suc (from-length o c (suc k) is)
 
@@ -30,7 +31,7 @@ from-length o c k (i ∷ is) = ap suc (from-length o c (suc k) is)
 abbrev pub Small : Grammar → ℕ → Slot → Type 0
 Small g made s = (s .owner < made) × (s .component < dimension g (s .category))
 
-from-small : (g : Grammar) (made o c k : ℕ) (is : List Index) → o < made → k + length is ≡ dimension g c → Every (λ (x : Put). Small g made (x .1)) (putFrom o c k is)
+from-small : (g : Grammar) (made o c k : ℕ) (is : List Index) → o < made → k + length is ≡ dimension g c → Every (λ (x : IndexedSlot). Small g made (x .1)) (indexedFrom o c k is)
 from-small g made o c k [] h e = tt
 from-small g made o c k (i ∷ is) h e = ((h, omega arith), from-small g made o c (suc k) is h (omega arith))
 
@@ -39,23 +40,23 @@ every-map P f [] h = tt
 every-map P f (x ∷ l) h = (h .0, every-map P f l (h .1))
 
 module _ (g : Grammar) where
-  puts-length : (q : List (Prediction ℕ)) → Every (Sized g) q → ((c : ℕ) → dimension g c ≤ 4) → length (puts q) ≤ 4 * length q
+  puts-length : (q : List (Prediction ℕ)) → Every (Sized g) q → ((c : ℕ) → dimension g c ≤ 4) → length (indexedSlots q) ≤ 4 * length q
   puts-length [] h d = omega arith
   puts-length (p ∷ q) h d =
-      omega (arith, length-append (putsOf p) (puts q), from-length (p .node) (p .category) 0 (p .indices), h .0 .sized, d (p .category), puts-length q (h .1) d)
+      omega (arith, length-append (indexedOf p) (indexedSlots q), from-length (p .node) (p .category) 0 (p .indices), h .0 .sized, d (p .category), puts-length q (h .1) d)
 
-  puts-least : (q : List (Prediction ℕ)) → Every (Sized g) q → length q ≤ length (puts q)
+  puts-least : (q : List (Prediction ℕ)) → Every (Sized g) q → length q ≤ length (indexedSlots q)
   puts-least [] h = omega arith
-  puts-least (p ∷ q) h = omega (arith, length-append (putsOf p) (puts q), from-length (p .node) (p .category) 0 (p .indices), h .0 .inhabited, puts-least q (h .1))
+  puts-least (p ∷ q) h = omega (arith, length-append (indexedOf p) (indexedSlots q), from-length (p .node) (p .category) 0 (p .indices), h .0 .inhabited, puts-least q (h .1))
 
-  puts-small : (made : ℕ) (q : List (Prediction ℕ)) → Every (Sized g) q → Every (Below made) (nodesOf q) → Every (λ (x : Put). Small g made (x .1)) (puts q)
+  puts-small : (made : ℕ) (q : List (Prediction ℕ)) → Every (Sized g) q → Every (Below made) (nodesOf q) → Every (λ (x : IndexedSlot). Small g made (x .1)) (indexedSlots q)
   puts-small made [] h b = tt
   puts-small made (p ∷ q) h b =
-      every-append (λ (x : Put). Small g made (x .1)) (putsOf p) (puts q)
+      every-append (λ (x : IndexedSlot). Small g made (x .1)) (indexedOf p) (indexedSlots q)
       (from-small g made (p .node) (p .category) 0 (p .indices) (b .0) (omega (arith, h .0 .sized))) (puts-small made q (h .1) (b .1))
 
   module _ (s : State ℕ) (t : RowState) (h : AgreeRow g s t) where
-    row-is : length (t .row) ≡ length (puts (s .queue))
+    row-is : length (t .row) ≡ length (indexedSlots (s .queue))
     row-is = ap length (h .kept .order .spells) ∙ length-map (h .kept .order .line) slotIn ∙ perm-length (h .kept .order .perm)
 
     -- with at most 4 components each
@@ -69,7 +70,7 @@ module _ (g : Grammar) where
     row-small =
         subst (Every (Small g (t .made))) (sym (h .kept .order .spells))
         (every-map (Small g (t .made)) slotIn (h .kept .order .line)
-        (every-perm (λ (x : Put). Small g (t .made) (x .1)) (perm-sym (h .kept .order .perm)) (puts-small (t .made) (s .queue) (h .kept .line .fit) (h .kept .below))))
+        (every-perm (λ (x : IndexedSlot). Small g (t .made) (x .1)) (perm-sym (h .kept .order .perm)) (puts-small (t .made) (s .queue) (h .kept .line .fit) (h .kept .below))))
 
 -- ---- states that steps can reach: what a loop over steps keeps
 
@@ -83,7 +84,7 @@ module _ (g : Grammar) (right : Right g) where
   pub reached-step : (t t′ : RowState) (r : ℕ) → Reached g t → stepRow g t r ≡ moves t′ → Reached g t′
   reached-step t t′ r h e = go (step (number (t .made)) g (h .0) r) (stepRow g t r) (step-agree g right (h .0) t (h .1) r) e
     where
-      go : (o : Outcome ℕ) (u : RowOutcome) → SameRow g o u → u ≡ moves t′ → Reached g t′
+      go : (o : Outcome ℕ) (u : RowOutcome) → SameOutcome (AgreeRow g) o u → u ≡ moves t′ → Reached g t′
       go (fails m) (halts n) k f = let z : _≡_ {A = ℕ} 0 1 = cc in absurd (omega arith)
       go (fails m) (moves u) k f = absurd k
       go (leads s) (halts n) k f = absurd k

@@ -242,21 +242,3 @@ module _ (g : Grammar) where
     pub tree-of-same : (sentence trace : List ℕ) → treeOfRow g sentence trace ≡ treeOf g sentence trace
     tree-of-same sentence trace =
         ap (λ (l : List (Address × ℕ)). map (λ x. x .1) (sortNodes l)) (placed-same (λ n. []) (begin below g [] sentence) (beginRow g sentence) trace (begin-named g below right [] sentence))
-
--- ---- for a file that the reader accepts
-
-module _ (file : List ℕ) (accepted : grammarRefusal file ≡ none) (sentence : List ℕ) where
-  pub file-trace-refusal : (trace : List ℕ) → traceRefusalRow (grammarOf file) sentence trace ≡ traceRefusal (grammarOf file) sentence trace
-  file-trace-refusal = trace-refusal (grammarOf file) (accepted-right file accepted) sentence
-
-  pub file-effort : (n : ℕ) → effortRow (grammarOf file) sentence n ≡ effort (grammarOf file) sentence n
-  file-effort = effort-same (grammarOf file) (accepted-right file accepted) sentence
-
-  pub file-listing : (n : ℕ) → listingRow (grammarOf file) sentence n ≡ listing (grammarOf file) sentence n
-  file-listing = listing-same (grammarOf file) (accepted-right file accepted) sentence
-
-  pub file-trace-of : (tree : List ℕ) → traceOfRow (grammarOf file) sentence tree ≡ traceOf (grammarOf file) sentence tree
-  file-trace-of = trace-of-same (grammarOf file) (accepted-right file accepted) sentence
-
-  pub file-tree-of : (trace : List ℕ) → treeOfRow (grammarOf file) sentence trace ≡ treeOf (grammarOf file) sentence trace
-  file-tree-of = tree-of-same (grammarOf file) (accepted-right file accepted) sentence

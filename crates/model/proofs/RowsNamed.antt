@@ -14,10 +14,11 @@ use Rattle.model.specs.Grammar.{Variable, Rule, Grammar, ruleAt, isLexic
 use Rattle.model.specs.Step.{Index, Prediction, State, Outcome, fails, leads, variableIndices, indexOf, sort, trim, scan, daughtersFrom, apply, step, begin}
 use Rattle.model.specs.Rows.{Slot, RowState, RowOutcome, halts, moves, stepRow, beginRow, extended}
 use Rattle.model.specs.WellFormed.{Right}
+use Rattle.model.specs.RowsAgree.{number, SameOutcome}
 use Rattle.model.proofs.Remark.{remark, renamed, renamedOutcome, step-remark}
 use Rattle.model.proofs.Apart.{Every}
-use Rattle.model.proofs.RowsLine.{first, number, nodesOf}
-use Rattle.model.proofs.Rows.{Below, Kept, AgreeRow, SameRow, no-row, step-agree, begin-agree}
+use Rattle.model.proofs.RowsLine.{first, nodesOf}
+use Rattle.model.proofs.Rows.{Below, Kept, AgreeRow, no-row, step-agree, begin-agree}
 
 -- the number of the front
 abbrev pub frontOwner : List Slot → ℕ
@@ -72,7 +73,7 @@ module _ (g : Grammar) where
     SameNamed names (leads s) (halts n) = ⊥
     SameNamed names (leads s) (moves t) = AgreeNamed names s t
 
-    named-outcome : (names : ℕ → A) (o : Outcome ℕ) (u : RowOutcome) → SameRow g o u → SameNamed names (renamedOutcome names o) u
+    named-outcome : (names : ℕ → A) (o : Outcome ℕ) (u : RowOutcome) → SameOutcome (AgreeRow g) o u → SameNamed names (renamedOutcome names o) u
     named-outcome names (fails m) (halts n) h = h
     named-outcome names (fails m) (moves t) h = absurd h
     named-outcome names (leads s) (halts n) h = absurd h

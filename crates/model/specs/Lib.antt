@@ -15,5 +15,6 @@ pub mod Calls
 pub mod Program
 pub mod Demands
 pub mod Rows
+pub mod RowsAgree
 pub mod ExampleFiles
 pub mod Examples
