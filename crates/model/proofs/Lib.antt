@@ -22,6 +22,7 @@ pub mod Only
 pub mod Analyses
 pub mod Checker
 pub mod Variables
+pub mod RuleFromRecord
 pub mod FromFile
 pub mod Remark
 pub mod Addresses
@@ -35,3 +36,4 @@ pub mod RowsNamed
 pub mod RowsCalls
 pub mod RowsBounds
 pub mod RowsCode
+pub mod WellFormed

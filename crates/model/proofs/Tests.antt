@@ -58,6 +58,10 @@ pub or-r : (a b : Bool) → a || b ≡ false → b ≡ false
 or-r true b e = let z : _≡_ {A = ℕ} 0 1 = cc in absurd (omega arith)
 or-r false b e = e
 
+pub and-false : (a b : Bool) → a && b ≡ false → (a ≡ false) ⊎ (b ≡ false)
+and-false true b e = inr e
+and-false false b e = inl refl
+
 pub any-none : (test : ℕ → Bool) (n : ℕ) → anyBelow test n ≡ false → (k : ℕ) → k < n → test k ≡ false
 any-none test zero e k h = let z : ⊥ = omega arith in absurd z
 any-none test (suc n) e k h = go (ℕ-discrete k n) (λ l. any-none test n (or-l (anyBelow test n) (test n) e) k l)
