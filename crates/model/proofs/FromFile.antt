@@ -1,6 +1,6 @@
 -- A file that the reader accepts holds a right grammar: what its heading and its records have been tested for.
 -- Assumes nothing.
-use mathlib.Core.Path.{_≡_, subst}
+use mathlib.Core.Path.{_≡_, ap, subst, _∙_}
 use mathlib.Core.Bool.{Bool, _&&_}
 use mathlib.Core.Option.{Option, none, some}
 use mathlib.Core.List.{List, map}
@@ -18,7 +18,7 @@ use Rattle.model.specs.WellFormed.{RightRule, Right}
 use Rattle.model.proofs.Tests.{no-refusal, first-of, rest-of, first-none, not-off, and-l, and-r, every-getD, within-low}
 use Rattle.model.proofs.RuleFromRecord.{Tested, DimensionsIn, rule-right}
 
--- the rule of a number
+-- rules made from the numbers from `from` on: a rule that is found at r is that of `from` + r, and each is found
 rule-at : (f : ℕ → Rule) (from n r : ℕ) (rule : Rule) → getElem? (map f (numbersFrom from n)) r ≡ some rule → (r < n) × (f (from + r) ≡ rule)
 rule-at f from zero r rule e = let z : _≡_ {A = ℕ} 0 1 = cc in absurd (omega arith)
 rule-at f from (suc n) zero rule e = let a : from + 0 ≡ from = omega arith in let b : f from ≡ rule = cc in (omega arith, rw a b)
@@ -27,10 +27,18 @@ rule-at f from (suc n) (suc r) rule e =
     let a : suc from + r ≡ from + suc r = omega arith in
     (omega (arith, x .0), subst (λ (k : ℕ). f k ≡ rule) a (x .1))
 
+at-rule : (f : ℕ → Rule) (from n r : ℕ) → r < n → getElem? (map f (numbersFrom from n)) r ≡ some (f (from + r))
+at-rule f from zero r h = let z : ⊥ = omega arith in absurd z
+at-rule f from (suc n) zero h = let a : from + 0 ≡ from = omega arith in rw a
+at-rule f from (suc n) (suc r) h = let a : from + suc r ≡ suc from + r = omega arith in rw a (at-rule f (suc from) n r (omega arith))
+
 module _ (file : List ℕ) where
-  -- the rule that record r holds
+  -- the rule that record r holds is rule r of the grammar
   abbrev pub ruleRead : ℕ → Rule
   ruleRead r = ruleOf (dimensionsOf file) (recordOf file r)
+
+  pub rule-read : (r : ℕ) → r < rulesOf file → ruleAt (grammarOf file) r ≡ some (ruleRead r)
+  rule-read r h = let k : 0 + r ≡ r = omega arith in at-rule ruleRead 0 (rulesOf file) r h ∙ ap (λ (i : ℕ). some (ruleRead i)) k
 
   -- what holds of the rule of every record holds of every rule of the grammar
   pub each-rule : (P : Rule → Type 0) → ((r : ℕ) → r < rulesOf file → P (ruleRead r)) → (r : ℕ) (rule : Rule) → ruleAt (grammarOf file) r ≡ some rule → P rule

@@ -37,3 +37,6 @@ pub mod RowsCalls
 pub mod RowsBounds
 pub mod RowsCode
 pub mod WellFormed
+pub mod SurveyVisits
+pub mod SurveyRounds
+pub mod SurveyTrees
