@@ -1,27 +1,24 @@
--- A file that the reader accepts holds a right grammar.
+-- A file that the reader accepts holds a right grammar: what its heading and its records have been tested for.
 -- Assumes nothing.
-use mathlib.Core.Path.{_≡_, refl, sym, ap, subst, _∙_}
-use mathlib.Core.Bool.{Bool, true, false, _&&_, _||_, not}
+use mathlib.Core.Path.{_≡_, ap, subst, _∙_}
+use mathlib.Core.Bool.{Bool, _&&_}
 use mathlib.Core.Option.{Option, none, some}
-use mathlib.Core.List.{List, [], _∷_, map, List·Memᴰ, List·Memᴰ·head, List·Memᴰ·tail}
+use mathlib.Core.List.{List, map}
 use Prim.Native.Nat.{ℕ, zero, suc, _+_, _-_, _*_, _/_, _%_, _<_, _≤_}
 use native.Mathlib.Omega.{arith}
-use native.Mathlib.Decide.{ℕ-discrete, decLt}
-use borrow.Author.Tests.{leb-false, ltb-false, lt-ltb, le-ltb}
-use lib.Dec.{T, leb, ltb, eqb, leb→le, eqb→eq}
-use lib.ListN.{length, getD, take, drop, getElem?, length-take, length-drop}
-use lib.Seq.{take-take, getD-take, getD-drop}
+use native.Mathlib.Decide.{decLt}
+use lib.Dec.{T, ltb, eqb, eqb→eq, ltb→lt}
+use lib.ListN.{length, getD, getElem?, length-take, length-drop, List·getD-eq-default}
 use Rattle.model.specs.declared.Refusal.{Refusal}
-use Rattle.model.specs.Base.{_orElse_, firstFrom, every, numbersFrom, anyBelow, allBelow, occurrences, total}
+use Rattle.model.specs.Base.{_orElse_, firstFrom, every, numbersFrom}
 use Rattle.model.specs.Verdict.{refuseIf}
-use Rattle.model.specs.Grammar.{Grammar, Rule, isLexical, dimension, emptyWord}
-use Rattle.model.specs.GrammarFile.{within, allZero, blocks, categoriesOf, startOf, wordsOf, rulesOf, dimensionsOf, blocksFor, recordOf, field, fields, dimensionIn, daughtersOf, wordOf, lengthsOf, variables, wrongCategory, wrongWord, eachOnce, wrongVariables, unusedSet, ruleRefusal, wrongLength, wrongCheck, wrongBlock, wrongHeading, wrongCount, wrongRest, grammarRefusal, sequences, ruleOf, grammarOf}
-use Rattle.model.specs.Base.{sameList}
-use Rattle.model.specs.WellFormed.{Perm, same, chain, RightRule, Right, named, daughterVariables}
-use Rattle.model.proofs.Variables.{all-variables, parts-named, parts-length, decode}
-use Rattle.model.proofs.Tests.{none-some, no-refusal, first-of, rest-of, first-none, not-off, and-l, and-r, or-l, or-r, any-none, all-true, every-getD, within-low}
+use Rattle.model.specs.Grammar.{Rule, ruleAt, dimension}
+use Rattle.model.specs.GrammarFile.{within, allZero, blocks, categoriesOf, startOf, wordsOf, rulesOf, dimensionsOf, blocksFor, recordOf, fields, dimensionIn, wrongCategory, wrongWord, wrongVariables, unusedSet, repeated, ruleRefusal, wrongLength, wrongCheck, wrongBlock, wrongHeading, wrongBlocks, wrongCount, wrongRest, grammarRefusal, ruleOf, grammarOf}
+use Rattle.model.specs.WellFormed.{RightRule, Right}
+use Rattle.model.proofs.Tests.{no-refusal, first-of, rest-of, first-none, not-off, and-l, and-r, every-getD, within-low}
+use Rattle.model.proofs.RuleFromRecord.{Tested, DimensionsIn, rule-right}
 
--- the rule of a number
+-- rules made from the numbers from `from` on: a rule that is found at r is that of `from` + r, and each is found
 rule-at : (f : ℕ → Rule) (from n r : ℕ) (rule : Rule) → getElem? (map f (numbersFrom from n)) r ≡ some rule → (r < n) × (f (from + r) ≡ rule)
 rule-at f from zero r rule e = let z : _≡_ {A = ℕ} 0 1 = cc in absurd (omega arith)
 rule-at f from (suc n) zero rule e = let a : from + 0 ≡ from = omega arith in let b : f from ≡ rule = cc in (omega arith, rw a b)
@@ -30,111 +27,25 @@ rule-at f from (suc n) (suc r) rule e =
     let a : suc from + r ≡ from + suc r = omega arith in
     (omega (arith, x .0), subst (λ (k : ℕ). f k ≡ rule) a (x .1))
 
--- one rule
+at-rule : (f : ℕ → Rule) (from n r : ℕ) → r < n → getElem? (map f (numbersFrom from n)) r ≡ some (f (from + r))
+at-rule f from zero r h = let z : ⊥ = omega arith in absurd z
+at-rule f from (suc n) zero h = let a : from + 0 ≡ from = omega arith in rw a
+at-rule f from (suc n) (suc r) h = let a : from + suc r ≡ suc from + r = omega arith in rw a (at-rule f (suc from) n r (omega arith))
+
 module _ (file : List ℕ) where
-  abbrev g : Grammar
-  g = grammarOf file
+  -- the rule that record r holds is rule r of the grammar
+  abbrev pub ruleRead : ℕ → Rule
+  ruleRead r = ruleOf (dimensionsOf file) (recordOf file r)
 
-  abbrev dimensions : List ℕ
-  dimensions = dimensionsOf file
+  pub rule-read : (r : ℕ) → r < rulesOf file → ruleAt (grammarOf file) r ≡ some (ruleRead r)
+  rule-read r h = let k : 0 + r ≡ r = omega arith in at-rule ruleRead 0 (rulesOf file) r h ∙ ap (λ (i : ℕ). some (ruleRead i)) k
 
-  module _ (e : List ℕ) (long : length e ≡ 24) (dims-in : (c : ℕ) → c < length dimensions → (1 ≤ getD dimensions c 0) × (getD dimensions c 0 ≤ 4))
-      (cat-ok : wrongCategory dimensions e ≡ false) (word-ok : wrongWord dimensions e (wordsOf file) ≡ false) (vars-ok : wrongVariables dimensions e ≡ false) where
-    abbrev n : ℕ
-    n = field e 1
-
-    cat-in : field e 0 < length dimensions
-    cat-in = leb-false (length dimensions) (field e 0) (or-l (leb (length dimensions) (field e 0)) (ltb 3 n) (or-l (leb (length dimensions) (field e 0) || ltb 3 n) (anyBelow (λ j. leb (length dimensions) (field e (2 + j))) n) cat-ok))
-
-    three : n ≤ 3
-    three = ltb-false 3 n (or-r (leb (length dimensions) (field e 0)) (ltb 3 n) (or-l (leb (length dimensions) (field e 0) || ltb 3 n) (anyBelow (λ j. leb (length dimensions) (field e (2 + j))) n) cat-ok))
-
-    daughter-in : (j : ℕ) → j < n → field e (2 + j) < length dimensions
-    daughter-in j h = leb-false (length dimensions) (field e (2 + j)) (any-none (λ j. leb (length dimensions) (field e (2 + j))) n (or-r (leb (length dimensions) (field e 0) || ltb 3 n) (anyBelow (λ j. leb (length dimensions) (field e (2 + j))) n) cat-ok) j h)
-
-    field-length : (i k : ℕ) → i + k ≤ 24 → length (fields e i k) ≡ k
-    field-length i k h = simp (length-take, length-drop) (omega arith)
-
-    field-at : (i k j : ℕ) → j < k → getD (fields e i k) j 0 ≡ field e (i + j)
-    field-at i k j h = rw (getD-take, getD-drop)
-
-    daughters-length : length (daughtersOf e) ≡ n
-    daughters-length = field-length 2 n (omega (arith, three))
-
-    abbrev rule : Rule
-    rule = ruleOf dimensions e
-
-    -- with or without daughters
-    lexical-none : isLexical rule ≡ true → n ≡ 0
-    lexical-none l = go (daughtersOf e) daughters-length l
-      where
-        go : (ds : List ℕ) → length ds ≡ n → (elim ds [ [] ↦ true | d ∷ es ↦ false ]) ≡ true → n ≡ 0
-        go [] k m = sym k
-        go (d ∷ ds) k m = let z : _≡_ {A = ℕ} 0 1 = cc in absurd (omega arith)
-
-    not-lexical-some : isLexical rule ≡ false → 0 < n
-    not-lexical-some l = go (daughtersOf e) daughters-length l
-      where
-        go : (ds : List ℕ) → length ds ≡ n → (elim ds [ [] ↦ true | d ∷ es ↦ false ]) ≡ false → 0 < n
-        go [] k m = let z : _≡_ {A = ℕ} 0 1 = cc in absurd (omega arith)
-        go (d ∷ ds) k m = omega arith
-
-    daughter-mem : (d : ℕ) → List·Memᴰ d (daughtersOf e) → d < length dimensions
-    daughter-mem d m =
-        let (k, h, f) = mem-getD m in
-        omega (arith, daughter-in k (omega (arith, daughters-length)), f, field-at 2 n k (omega (arith, daughters-length)))
-      where
-        mem-getD : {x : ℕ} {l : List ℕ} → List·Memᴰ x l → (k : ℕ) × (k < length l) × (x ≡ getD l k 0)
-        mem-getD (List·Memᴰ·head f) = (0, omega arith, f)
-        mem-getD (List·Memᴰ·tail i) = let (k, h, f) = mem-getD i in (suc k, omega arith, f)
-
-    total-four : (ds : List ℕ) → ((d : ℕ) → List·Memᴰ d ds → d < length dimensions) → total (map (λ c. getD dimensions c 0) ds) ≤ 4 * length ds
-    total-four [] h = omega arith
-    total-four (d ∷ ds) h = omega (arith, dims-in d (h d (List·Memᴰ·head refl)), total-four ds (λ c m. h c (List·Memᴰ·tail m)))
-
-    twelve : variables dimensions e ≤ 12
-    twelve = omega (arith, total-four (daughtersOf e) daughter-mem, daughters-length, three)
-
-    vars-right : isLexical rule ≡ false → T (eqb (total (lengthsOf dimensions e)) (variables dimensions e) && eachOnce dimensions e)
-    vars-right l = not-off (eqb (total (lengthsOf dimensions e)) (variables dimensions e) && eachOnce dimensions e) (rw (lt-ltb 0 n (not-lexical-some l)) at vars-ok)
-
-    comps-are : isLexical rule ≡ false → rule .components ≡ sequences (lengthsOf dimensions e) (fields e 11 12)
-    comps-are l = rw (lt-ltb 0 n (not-lexical-some l))
-
-    named-are : isLexical rule ≡ false → named (rule .components) ≡ map decode (fields e 11 (variables dimensions e))
-    named-are l =
-        let t = eqb→eq (total (lengthsOf dimensions e)) (variables dimensions e) (and-l (eqb (total (lengthsOf dimensions e)) (variables dimensions e)) (eachOnce dimensions e) (vars-right l)) in
-        ap named (comps-are l) ∙ parts-named (lengthsOf dimensions e) (fields e 11 12)
-        ∙ ap (λ (k : ℕ). map decode (take k (fields e 11 12))) t
-        ∙ ap (map decode) (take-take (variables dimensions e) 12 (drop 11 e) twelve)
-
-    once-each : isLexical rule ≡ false → (j c : ℕ) → j < n → c < getD dimensions (field e (2 + j)) 0 → occurrences (4 * j + c) (fields e 11 (variables dimensions e)) ≡ 1
-    once-each l j c h k =
-        let o = and-r (eqb (total (lengthsOf dimensions e)) (variables dimensions e)) (eachOnce dimensions e) (vars-right l) in
-        eqb→eq (occurrences (4 * j + c) (fields e 11 (variables dimensions e))) 1
-        (all-true (λ c. eqb (occurrences (4 * j + c) (fields e 11 (variables dimensions e))) 1) (dimensionIn dimensions (field e (2 + j)))
-        (all-true (λ j. allBelow (λ c. eqb (occurrences (4 * j + c) (fields e 11 (variables dimensions e))) 1) (dimensionIn dimensions (field e (2 + j)))) n o j h) c k)
-
-    complete : isLexical rule ≡ false → Perm (named (rule .components)) (daughterVariables g 0 (rule .daughters))
-    complete l =
-        chain (same (named-are l))
-        (all-variables g (daughtersOf e) (fields e 11 (variables dimensions e)) (λ d m. dims-in d (daughter-mem d m) .1)
-        (field-length 11 (variables dimensions e) (omega (arith, twelve)))
-        (λ j c h k. once-each l j c (omega (arith, daughters-length)) (subst (λ (x : ℕ). c < getD dimensions x 0) (field-at 2 n j (omega (arith, daughters-length))) k)))
-
-    pub rule-right : RightRule g rule
-    rule-right =
-        record {
-          word-alone = λ l. alone (lexical-none l);
-          components = λ l. ap length (comps-are l) ∙ parts-length (lengthsOf dimensions e) (fields e 11 12) ∙ field-length 7 (getD dimensions (field e 0) 0) (omega (arith, dims-in (field e 0) cat-in));
-          complete = complete;
-          inhabited = λ d m. dims-in d (daughter-mem d m) .0;
-        }
-      where
-        alone : n ≡ 0 → getD dimensions (field e 0) 0 ≡ 1
-        alone z =
-            let w : not (eqb (getD dimensions (field e 0) 0) 1) || (leb (wordsOf file) (wordOf e) && not (eqb (wordOf e) emptyWord)) ≡ false = rw (le-ltb 0 n (omega arith)) at word-ok in
-            eqb→eq (getD dimensions (field e 0) 0) 1 (not-off (eqb (getD dimensions (field e 0) 0) 1) (or-l (not (eqb (getD dimensions (field e 0) 0) 1)) (leb (wordsOf file) (wordOf e) && not (eqb (wordOf e) emptyWord)) w))
+  -- what holds of the rule of every record holds of every rule of the grammar
+  pub each-rule : (P : Rule → Type 0) → ((r : ℕ) → r < rulesOf file → P (ruleRead r)) → (r : ℕ) (rule : Rule) → ruleAt (grammarOf file) r ≡ some rule → P rule
+  each-rule P h r rule e =
+      let x = rule-at ruleRead 0 (rulesOf file) r rule e in
+      let k : 0 + r ≡ r = omega arith in
+      subst P (subst (λ (i : ℕ). ruleRead i ≡ rule) k (x .1)) (h r (x .0))
 
 module _ (file : List ℕ) (accepted : grammarRefusal file ≡ none) where
   -- the tests, one after the other
@@ -151,7 +62,7 @@ module _ (file : List ℕ) (accepted : grammarRefusal file ≡ none) where
   c₄ = refuseIf (wrongHeading file) (Refusal.Grammar 4 0)
 
   abbrev c₅ : Option Refusal
-  c₅ = refuseIf (not (eqb (blocks file) (blocksFor (rulesOf file)))) (Refusal.Grammar 5 0)
+  c₅ = refuseIf (wrongBlocks file) (Refusal.Grammar 5 0)
 
   abbrev c₆ : Option Refusal
   c₆ = firstFrom (λ k. refuseIf (wrongCount file k) (Refusal.Grammar 5 k)) 1 (blocks file - 1)
@@ -183,7 +94,7 @@ module _ (file : List ℕ) (accepted : grammarRefusal file ≡ none) where
       omega (arith, eqb→eq (length file % 512) 0 (and-l (eqb (length file % 512) 0) (within 1 14 (blocks file)) t))
 
   enough-blocks : length file / 512 ≡ 1 + (rulesOf file + 20) / 21
-  enough-blocks = eqb→eq (blocks file) (blocksFor (rulesOf file)) (not-off (eqb (blocks file) (blocksFor (rulesOf file))) (no-refusal (not (eqb (blocks file) (blocksFor (rulesOf file)))) (Refusal.Grammar 5 0) (first-of c₅ (c₆ orElse c₇ orElse c₈) from₅)))
+  enough-blocks = eqb→eq (blocks file) (blocksFor (rulesOf file)) (not-off (eqb (blocks file) (blocksFor (rulesOf file))) (no-refusal (wrongBlocks file) (Refusal.Grammar 5 0) (first-of c₅ (c₆ orElse c₇ orElse c₈) from₅)))
 
   -- the heading's tests
   abbrev h₁ : Bool
@@ -202,7 +113,7 @@ module _ (file : List ℕ) (accepted : grammarRefusal file ≡ none) where
   h₅ = ltb (startOf file) (categoriesOf file)
 
   abbrev h₆ : Bool
-  h₆ = eqb (getD (dimensionsOf file) (startOf file) 0) 1
+  h₆ = eqb (dimensionIn (dimensionsOf file) (startOf file)) 1
 
   abbrev h₇ : Bool
   h₇ = allZero (fields file 9 7)
@@ -216,63 +127,79 @@ module _ (file : List ℕ) (accepted : grammarRefusal file ≡ none) where
   to₆ : T (h₁ && h₂ && h₃ && h₄ && h₅ && h₆)
   to₆ = and-l (h₁ && h₂ && h₃ && h₄ && h₅ && h₆) h₇ (and-l (h₁ && h₂ && h₃ && h₄ && h₅ && h₆ && h₇) h₈ heading)
 
-  to₄ : T (h₁ && h₂ && h₃ && h₄)
-  to₄ = and-l (h₁ && h₂ && h₃ && h₄) h₅ (and-l (h₁ && h₂ && h₃ && h₄ && h₅) h₆ to₆)
+  to₅ : T (h₁ && h₂ && h₃ && h₄ && h₅)
+  to₅ = and-l (h₁ && h₂ && h₃ && h₄ && h₅) h₆ to₆
 
-  dims-four : (c : ℕ) → c < length (dimensionsOf file) → (1 ≤ getD (dimensionsOf file) c 0) × (getD (dimensionsOf file) c 0 ≤ 4)
-  dims-four c h = within-low 1 4 (getD (dimensionsOf file) c 0) (every-getD (within 1 4) (dimensionsOf file) (and-r (h₁ && h₂ && h₃) h₄ to₄) c h)
+  to₄ : T (h₁ && h₂ && h₃ && h₄)
+  to₄ = and-l (h₁ && h₂ && h₃ && h₄) h₅ to₅
+
+  to₃ : T (h₁ && h₂ && h₃)
+  to₃ = and-l (h₁ && h₂ && h₃) h₄ to₄
+
+  to₂ : T (h₁ && h₂)
+  to₂ = and-l (h₁ && h₂) h₃ to₃
+
+  -- the heading's numbers are in range
+  pub categories-in : (1 ≤ categoriesOf file) × (categoriesOf file ≤ 64)
+  categories-in = within-low 1 64 (categoriesOf file) (and-l h₁ h₂ to₂)
+
+  pub words-in : (1 ≤ wordsOf file) × (wordsOf file ≤ 4096)
+  words-in = within-low 1 4096 (wordsOf file) (and-r h₁ h₂ to₂)
+
+  pub rules-in : (1 ≤ rulesOf file) × (rulesOf file ≤ 256)
+  rules-in = within-low 1 256 (rulesOf file) (and-r (h₁ && h₂) h₃ to₃)
+
+  pub start-in : startOf file < categoriesOf file
+  start-in = ltb→lt (startOf file) (categoriesOf file) (and-r (h₁ && h₂ && h₃ && h₄) h₅ to₅)
+
+  pub dimensions-in : DimensionsIn (grammarOf file)
+  dimensions-in c h = within-low 1 4 (getD (dimensionsOf file) c 0) (every-getD (within 1 4) (dimensionsOf file) (and-r (h₁ && h₂ && h₃) h₄ to₄) c h)
+
+  -- there are as many dimensions as categories
+  pub dimensions-length : length (dimensionsOf file) ≡ categoriesOf file
+  dimensions-length = simp (length-take, length-drop) (omega (arith, whole-blocks, enough-blocks, categories-in))
 
   -- what a number that holds a category and a component needs
   pub dimensions-four : (c : ℕ) → dimension (grammarOf file) c ≤ 4
   dimensions-four c = go (decLt c (length (dimensionsOf file)))
     where
-      outside : (l : List ℕ) (c : ℕ) → (c < length l → ⊥) → getD l c 0 ≤ 4
-      outside [] c h = omega arith
-      outside (x ∷ l) zero h = absurd (h (omega arith))
-      outside (x ∷ l) (suc c) h = outside l c (λ k. h (omega arith))
-
       go : Dec (c < length (dimensionsOf file)) → getD (dimensionsOf file) c 0 ≤ 4
-      go (yes h) = dims-four c h .1
-      go (no h) = outside (dimensionsOf file) c h
+      go (yes h) = dimensions-in c h .1
+      go (no h) = omega (arith, List·getD-eq-default (dimensionsOf file) 0 {n = c} (omega arith))
 
   pub categories-few : length (grammarOf file .dimensions) ≤ 64
-  categories-few = simp (length-take, length-drop) (omega (arith, within-low 1 64 (categoriesOf file) (and-l h₁ h₂ (and-l (h₁ && h₂) h₃ (and-l (h₁ && h₂ && h₃) h₄ to₄)))))
+  categories-few = omega (arith, dimensions-length, categories-in)
 
+  -- every record passes its tests
   record-length : (r : ℕ) → r < rulesOf file → length (recordOf file r) ≡ 24
   record-length r h = simp (length-take, length-drop) (omega (arith, whole-blocks, enough-blocks))
 
-  right-rule : (r : ℕ) → r < rulesOf file → RightRule (grammarOf file) (ruleOf (dimensionsOf file) (recordOf file r))
-  right-rule r h =
+  pub record-tested : (r : ℕ) → r < rulesOf file → Tested (grammarOf file) (recordOf file r)
+  record-tested r h =
       let k : 0 + r ≡ r = omega arith in
-      let e = recordOf file r in
-      let d = dimensionsOf file in
-      let a : ruleRefusal file r ≡ none = subst (λ (x : ℕ). ruleRefusal file x ≡ none) k (first-none (ruleRefusal file) 0 (rulesOf file) (first-of c₇ c₈ from₇) r h) in
-      tests r h a
+      tests r h (subst (λ (x : ℕ). ruleRefusal file x ≡ none) k (first-none (ruleRefusal file) 0 (rulesOf file) (first-of c₇ c₈ from₇) r h))
     where
-      tests : (r : ℕ) → r < rulesOf file → ruleRefusal file r ≡ none → RightRule (grammarOf file) (ruleOf (dimensionsOf file) (recordOf file r))
+      tests : (r : ℕ) → r < rulesOf file → ruleRefusal file r ≡ none → Tested (grammarOf file) (recordOf file r)
       tests r h a =
           let e = recordOf file r in
           let d = dimensionsOf file in
           let r₆ = refuseIf (wrongCategory d e) (Refusal.Grammar 6 r) in
           let r₇ = refuseIf (wrongWord d e (wordsOf file)) (Refusal.Grammar 7 r) in
           let r₈ = refuseIf (wrongVariables d e) (Refusal.Grammar 8 r) in
-          let r₉ = refuseIf (unusedSet d e) (Refusal.Grammar 9 r) orElse refuseIf (anyBelow (λ j. sameList (recordOf file j) e) r) (Refusal.Grammar 10 r) in
+          let r₉ = refuseIf (unusedSet d e) (Refusal.Grammar 9 r) orElse refuseIf (repeated (recordOf file) r) (Refusal.Grammar 10 r) in
           let b = rest-of r₆ (r₇ orElse r₈ orElse r₉) a in
           let c = rest-of r₇ (r₈ orElse r₉) b in
-          rule-right file e (record-length r h) dims-four
-          (no-refusal (wrongCategory d e) (Refusal.Grammar 6 r) (first-of r₆ (r₇ orElse r₈ orElse r₉) a))
-          (no-refusal (wrongWord d e (wordsOf file)) (Refusal.Grammar 7 r) (first-of r₇ (r₈ orElse r₉) b))
-          (no-refusal (wrongVariables d e) (Refusal.Grammar 8 r) (first-of r₈ r₉ c))
+          record {
+            long = record-length r h;
+            category = no-refusal (wrongCategory d e) (Refusal.Grammar 6 r) (first-of r₆ (r₇ orElse r₈ orElse r₉) a);
+            word = no-refusal (wrongWord d e (wordsOf file)) (Refusal.Grammar 7 r) (first-of r₇ (r₈ orElse r₉) b);
+            variables = no-refusal (wrongVariables d e) (Refusal.Grammar 8 r) (first-of r₈ r₉ c);
+          }
 
   -- what the reader accepts is a right grammar
   pub accepted-right : Right (grammarOf file)
   accepted-right =
       record {
         start-alone = eqb→eq (getD (dimensionsOf file) (startOf file) 0) 1 (and-r (h₁ && h₂ && h₃ && h₄ && h₅) h₆ to₆);
-        rules = λ r rule e. go r rule (rule-at (λ i. ruleOf (dimensionsOf file) (recordOf file i)) 0 (rulesOf file) r rule e);
+        rules = each-rule file (RightRule (grammarOf file)) (λ r h. rule-right (grammarOf file) (recordOf file r) (record-tested r h) dimensions-in);
       }
-    where
-      go : (r : ℕ) (rule : Rule) → (r < rulesOf file) × (ruleOf (dimensionsOf file) (recordOf file (0 + r)) ≡ rule) → RightRule (grammarOf file) rule
-      go r rule x =
-          let k : 0 + r ≡ r = omega arith in
-          subst (RightRule (grammarOf file)) (subst (λ (i : ℕ). ruleOf (dimensionsOf file) (recordOf file i) ≡ rule) k (x .1)) (right-rule r (x .0))

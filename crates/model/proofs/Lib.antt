@@ -22,6 +22,7 @@ pub mod Only
 pub mod Analyses
 pub mod Checker
 pub mod Variables
+pub mod RuleFromRecord
 pub mod FromFile
 pub mod Remark
 pub mod Addresses
@@ -36,3 +37,7 @@ pub mod RowsCalls
 pub mod RowsBounds
 pub mod RowsCode
 pub mod RowsAgree
+pub mod WellFormed
+pub mod SurveyVisits
+pub mod SurveyRounds
+pub mod SurveyTrees

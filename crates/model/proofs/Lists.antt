@@ -3,7 +3,7 @@
 use mathlib.Core.Bool.{Bool, true, false, _&&_, _||_, not}
 use mathlib.Core.Option.{Option, none, some}
 use lib.Dec.{T, ltb, leb, eqb, eqb→eq, eqb-refl}
-use lib.ListN.{length, getD, take, drop, length-append, length-map, length-take, length-drop}
+use lib.ListN.{length, getD, getElem?, take, drop, length-append, length-map, length-take, length-drop}
 use mathlib.Core.Path.{_≡_, refl, ap, subst, sym, ap₂, _∙_}
 use mathlib.Core.Logic.{_⊎_, inl, inr}
 use mathlib.Core.List.{List, [], _∷_, _++_, map, List·Memᴰ, List·Memᴰ·head, List·Memᴰ·tail, List·Memᴰ·cases-cons, List·Memᴰ·append-cases, tail, append-assoc, append-nil}
@@ -20,6 +20,12 @@ module _ {A : Type 0} where
   pub mem-right : {a : A} (s : List A) {t : List A} → List·Memᴰ a t → List·Memᴰ a (s ++ t)
   mem-right [] m = m
   mem-right (x ∷ s) m = List·Memᴰ·tail (mem-right s m)
+
+  -- what has a number in the list has one below its length
+  pub number-below : (l : List A) (r : ℕ) {x : A} → getElem? l r ≡ some x → r < length l
+  number-below [] r e = let z : _≡_ {A = ℕ} 0 1 = cc in absurd (omega arith)
+  number-below (y ∷ l) zero e = omega arith
+  number-below (y ∷ l) (suc r) e = omega (arith, number-below l r e)
 
 module _ {A B : Type 0} where
   -- what is in one of the joined lists

@@ -12,7 +12,7 @@ use lib.Dec.{T, ltb, leb, eqb, eqb→eq, eqb-refl, leb→le}
 use lib.ListN.{length, getD, take, drop, length-append, length-map, length-take, length-drop}
 use Rattle.model.specs.declared.Refusal.{Refusal}
 use Rattle.model.specs.Verdict.{refuseIf}
-use Rattle.model.specs.Base.{allBelow, firstFrom, every, anyBelow, _orElse_}
+use Rattle.model.specs.Base.{if_then_else_, allBelow, firstFrom, every, anyBelow, _orElse_}
 use Rattle.model.specs.GrammarFile.{within}
 
 pub none-some : {A B : Type 0} {a : A} → some a ≡ none → B
@@ -58,6 +58,10 @@ pub or-r : (a b : Bool) → a || b ≡ false → b ≡ false
 or-r true b e = let z : _≡_ {A = ℕ} 0 1 = cc in absurd (omega arith)
 or-r false b e = e
 
+pub and-false : (a b : Bool) → a && b ≡ false → (a ≡ false) ⊎ (b ≡ false)
+and-false true b e = inr e
+and-false false b e = inl refl
+
 pub any-none : (test : ℕ → Bool) (n : ℕ) → anyBelow test n ≡ false → (k : ℕ) → k < n → test k ≡ false
 any-none test zero e k h = let z : ⊥ = omega arith in absurd z
 any-none test (suc n) e k h = go (ℕ-discrete k n) (λ l. any-none test n (or-l (anyBelow test n) (test n) e) k l)
@@ -85,3 +89,8 @@ within-low a b x t = (leb→le a x (and-l (leb a x) (leb x b) t), leb→le x b (
 pub and-both : (a b : Bool) → T a → T b → T (a && b)
 and-both true b t u = u
 and-both false b t u = absurd t
+
+-- what holds after either outcome of a test
+pub after-test : {A : Type 0} (P : A → Type 0) (b : Bool) {x y : A} → (T b → P x) → ((T b → ⊥) → P y) → P (if b then x else y)
+after-test P true pass fail = pass tt
+after-test P false pass fail = fail (λ t. t)
