@@ -2,9 +2,9 @@
 -- Assumes nothing.
 use mathlib.Core.Path.{_≡_, refl, sym, ap, _∙_}
 use mathlib.Core.List.{List, [], _∷_}
-use Prim.Native.Nat.{ℕ, _+_, _-_, _<_, _≤_}
+use Prim.Native.Nat.{ℕ, _+_, _-_, _*_, _<_, _≤_}
 use native.Mathlib.Omega.{arith}
-use lib.ListN.{length, getD, take, drop, length-drop, length-take, drop-of-length-le}
+use lib.ListN.{length, getD, take, drop, length-drop, length-take, drop-of-length-le, List·getD-eq-default}
 use lib.Seq.{drop-length, take-nil, take-all, getD-take, getD-drop}
 use Rattle.model.specs.GrammarFile.{fields}
 
@@ -25,3 +25,12 @@ module _ (bytes : List ℕ) (i n : ℕ) where
 
   pub part-at : (j : ℕ) → j < n → getD (fields bytes i n) j 0 ≡ getD bytes (i + j) 0
   part-at j h = rw (getD-take, getD-drop)
+
+  pub part-past : (j : ℕ) → n ≤ j → getD (fields bytes i n) j 0 ≡ 0
+  part-past j h = List·getD-eq-default (fields bytes i n) 0 {n = j} (omega (arith, part-length))
+
+-- two bytes of a part
+pub part-two : (bytes : List ℕ) (i n j : ℕ) → j + 1 < n → getD (fields bytes i n) j 0 + 256 * getD (fields bytes i n) (j + 1) 0 ≡ getD bytes (i + j) 0 + 256 * getD bytes (i + j + 1) 0
+part-two bytes i n j h =
+    let e : i + (j + 1) ≡ i + j + 1 = omega arith in
+    omega (arith, part-at bytes i n j (omega arith), part-at bytes i n (j + 1) h, ap (λ (k : ℕ). getD bytes k 0) e)
