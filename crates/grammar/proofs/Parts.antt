@@ -1,0 +1,36 @@
+-- The part of a list from a place on: where it ends early, and what stands in it.
+-- Assumes nothing.
+use mathlib.Core.Path.{_≡_, refl, sym, ap, _∙_}
+use mathlib.Core.List.{List, [], _∷_}
+use Prim.Native.Nat.{ℕ, _+_, _-_, _*_, _<_, _≤_}
+use native.Mathlib.Omega.{arith}
+use lib.ListN.{length, getD, take, drop, length-drop, length-take, drop-of-length-le, List·getD-eq-default}
+use lib.Seq.{drop-length, take-nil, take-all, getD-take, getD-drop}
+use Rattle.model.specs.GrammarFile.{fields}
+
+module _ (bytes : List ℕ) (i n : ℕ) where
+  pub part-none : length bytes ≤ i → take (length bytes - length bytes) (drop (length bytes) bytes) ≡ fields bytes i n
+  part-none h = rw (drop-length bytes, drop-of-length-le bytes {i = i} h, take-nil, take-nil)
+
+  pub part-rest : length bytes - i ≤ n → take (length bytes - i) (drop i bytes) ≡ fields bytes i n
+  part-rest h =
+      take-all (length bytes - i) (drop i bytes) (omega (arith, length-drop i bytes))
+      ∙ sym (take-all n (drop i bytes) (omega (arith, length-drop i bytes)))
+
+  pub part-within : take (i + n - i) (drop i bytes) ≡ fields bytes i n
+  part-within = let e : i + n - i ≡ n = omega arith in rw e
+
+  pub part-length : length (fields bytes i n) ≤ n
+  part-length = simp length-take (omega arith)
+
+  pub part-at : (j : ℕ) → j < n → getD (fields bytes i n) j 0 ≡ getD bytes (i + j) 0
+  part-at j h = rw (getD-take, getD-drop)
+
+  pub part-past : (j : ℕ) → n ≤ j → getD (fields bytes i n) j 0 ≡ 0
+  part-past j h = List·getD-eq-default (fields bytes i n) 0 {n = j} (omega (arith, part-length))
+
+-- two bytes of a part
+pub part-two : (bytes : List ℕ) (i n j : ℕ) → j + 1 < n → getD (fields bytes i n) j 0 + 256 * getD (fields bytes i n) (j + 1) 0 ≡ getD bytes (i + j) 0 + 256 * getD bytes (i + j + 1) 0
+part-two bytes i n j h =
+    let e : i + (j + 1) ≡ i + j + 1 = omega arith in
+    omega (arith, part-at bytes i n j (omega arith), part-at bytes i n (j + 1) h, ap (λ (k : ℕ). getD bytes k 0) e)

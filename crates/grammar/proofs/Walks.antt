@@ -1,0 +1,71 @@
+-- A list walked from the front, one element further: what a test of all, a sum, a count and a comparison say of what is left.
+-- Assumes nothing.
+use mathlib.Core.Path.{_≡_, refl, sym, ap, _∙_}
+use mathlib.Core.Bool.{Bool, true, false, _&&_}
+use mathlib.Core.List.{List, [], _∷_}
+use Prim.Native.Nat.{ℕ, suc, _+_, _*_, _<_, _≤_}
+use native.Mathlib.Omega.{arith}
+use native.Mathlib.Numerals.{add-one}
+use borrow.Author.Tests.{eq-eqb, ne-eqb}
+use lib.Dec.{eqb}
+use lib.ListN.{length, getD, drop, drop-of-length-le}
+use lib.Seq.{drop-cons}
+use Rattle.model.specs.Base.{every, occurrences, total, sameList}
+use Rattle.model.specs.GrammarFile.{weighted}
+
+-- every element passes the test
+module _ (test : ℕ → Bool) (l : List ℕ) (i : ℕ) where
+  pub every-pass : i < length l → test (getD l i 0) ≡ true → every test (drop i l) ≡ every test (drop (i + 1) l)
+  every-pass h t = rw (add-one, drop-cons l i 0 h) (rw t)
+
+  pub every-fail : i < length l → test (getD l i 0) ≡ false → every test (drop i l) ≡ false
+  every-fail h t = rw (drop-cons l i 0 h) (rw t)
+
+  pub every-end : length l ≤ i → every test (drop i l) ≡ true
+  every-end h = rw (drop-of-length-le l {i = i} h)
+
+-- sums
+module _ (l : List ℕ) (i : ℕ) where
+  pub total-more : i < length l → total (drop i l) ≡ getD l i 0 + total (drop (i + 1) l)
+  total-more h = rw (add-one, drop-cons l i 0 h)
+
+  pub total-end : length l ≤ i → total (drop i l) ≡ 0
+  total-end h = rw (drop-of-length-le l {i = i} h)
+
+  pub weighted-more : i < length l → weighted (i + 1) (drop i l) ≡ (i + 1) * getD l i 0 + weighted (i + 1 + 1) (drop (i + 1) l)
+  weighted-more h = rw (add-one (i + 1), add-one i, drop-cons l i 0 h)
+
+  pub weighted-end : length l ≤ i → weighted (i + 1) (drop i l) ≡ 0
+  weighted-end h = rw (drop-of-length-le l {i = i} h)
+
+-- how often x occurs
+module _ (x : ℕ) (l : List ℕ) (i : ℕ) where
+  pub found-here : i < length l → x ≡ getD l i 0 → occurrences x (drop i l) ≡ 1 + occurrences x (drop (i + 1) l)
+  found-here h e = rw (add-one, drop-cons l i 0 h) (rw (eq-eqb x (getD l i 0) e))
+
+  pub found-later : i < length l → (x ≡ getD l i 0 → ⊥) → occurrences x (drop i l) ≡ occurrences x (drop (i + 1) l)
+  found-later h e = rw (add-one, drop-cons l i 0 h) (rw (ne-eqb x (getD l i 0) e) (omega arith))
+
+  pub found-end : length l ≤ i → occurrences x (drop i l) ≡ 0
+  found-end h = rw (drop-of-length-le l {i = i} h)
+
+-- two lists compared
+module _ (a b : List ℕ) (i : ℕ) where
+  pub same-here : i < length a → i < length b → getD a i 0 ≡ getD b i 0 → sameList (drop i a) (drop i b) ≡ sameList (drop (i + 1) a) (drop (i + 1) b)
+  same-here h k e = rw (add-one, drop-cons a i 0 h, drop-cons b i 0 k) (rw (eq-eqb (getD a i 0) (getD b i 0) e))
+
+  pub differs-here : i < length a → i < length b → (getD a i 0 ≡ getD b i 0 → ⊥) → sameList (drop i a) (drop i b) ≡ false
+  differs-here h k e = rw (drop-cons a i 0 h, drop-cons b i 0 k) (rw (ne-eqb (getD a i 0) (getD b i 0) e))
+
+  pub same-end : length a ≤ i → length b ≤ i → sameList (drop i a) (drop i b) ≡ true
+  same-end h k = rw (drop-of-length-le a {i = i} h, drop-of-length-le b {i = i} k)
+
+pub same-length : (a b : List ℕ) → (length a ≡ length b → ⊥) → sameList a b ≡ false
+same-length [] [] d = absurd (d refl)
+same-length [] (y ∷ b) d = refl
+same-length (x ∷ a) [] d = refl
+same-length (x ∷ a) (y ∷ b) d = go (eqb x y) (same-length a b (λ e. d (ap suc e)))
+  where
+    go : (t : Bool) → sameList a b ≡ false → t && sameList a b ≡ false
+    go true e = e
+    go false e = refl

@@ -1,0 +1,31 @@
+// The grammar file: its layout, its fields and its reader (document 01, "The grammar file", refusals 1 to 10).
+mod bytes;
+mod layout;
+mod lists;
+mod rule;
+
+pub use bytes::byte;
+pub use bytes::fields;
+pub use bytes::four_bytes;
+pub use bytes::two_bytes;
+pub use layout::categories;
+pub use layout::dimension;
+pub use layout::dimensions;
+pub use layout::record;
+pub use layout::record_byte;
+pub use layout::record_place;
+pub use layout::rules;
+pub use layout::start;
+pub use layout::words;
+pub use lists::all_zero;
+pub use lists::block_check;
+pub use lists::occurrences;
+pub use lists::same_record;
+pub use lists::total;
+pub use rule::category_of;
+pub use rule::component_length;
+pub use rule::daughter;
+pub use rule::daughter_count;
+pub use rule::variable_component;
+pub use rule::variable_daughter;
+pub use rule::word_of;

@@ -1,0 +1,81 @@
+// Tests and sums over a whole list of bytes.
+ghost use mathlib.Core.Path.{_≡_};
+ghost use Prim.Native.Nat.{_<_, _≤_};
+ghost use lib.ListN.{length};
+ghost use Rattle.model.specs.Base.{occurrences, total};
+ghost use Rattle.model.specs.GrammarFile.{allZero, fields, weighted, sameRecord};
+use crate::bytes::fields;
+
+// Whether every byte is 0.
+pub fn all_zero(bytes: &[u8]) -> bool
+    ensures { λ r. ⌜ r ≡ allZero (now (bytes .entry)) ⌝ }
+{
+    let mut i: usize = 0;
+    while i < bytes.len() {
+        if bytes[i] != 0 {
+            return false;
+        }
+        i += 1;
+    }
+    true
+}
+
+// The sum of the bytes.
+pub fn total(bytes: &[u8]) -> u32
+    requires { ⌜ length (now bytes) < 65536 ⌝ }
+    ensures { λ r. ⌜ r ≡ total (now (bytes .entry)) ⌝ }
+{
+    let mut sum: u32 = 0;
+    let mut i: usize = 0;
+    while i < bytes.len() {
+        sum += bytes[i] as u32;
+        i += 1;
+    }
+    sum
+}
+
+// How often x is among the bytes.
+pub fn occurrences(x: usize, bytes: &[u8]) -> usize
+    ensures { λ r. ⌜ r ≡ occurrences x (now (bytes .entry)) ⌝ }
+{
+    let mut found: usize = 0;
+    let mut i: usize = 0;
+    while i < bytes.len() {
+        if x == bytes[i] as usize {
+            found += 1;
+        }
+        i += 1;
+    }
+    found
+}
+
+// The check of a block: the sum over its bytes 0 to 507 of (i + 1) times byte i.
+pub fn block_check(block: &[u8]) -> u32
+    ensures { λ r. ⌜ r ≡ weighted 1 (fields (now (block .entry)) 0 508) ⌝ }
+{
+    let summed = fields(block, 0, 508);
+    let mut sum: u32 = 0;
+    let mut i: usize = 0;
+    while i < summed.len() {
+        sum += (i as u32 + 1) * (summed[i] as u32);
+        i += 1;
+    }
+    sum
+}
+
+// Whether two records are the same, up to the first byte that differs.
+pub fn same_record(a: &[u8], b: &[u8]) -> bool
+    ensures { λ r. ⌜ r ≡ sameRecord (now (a .entry)) (now (b .entry)) ⌝ }
+{
+    if a.len() != b.len() {
+        return false;
+    }
+    let mut i: usize = 0;
+    while i < a.len() {
+        if a[i] != b[i] {
+            return false;
+        }
+        i += 1;
+    }
+    true
+}
