@@ -1,0 +1,28 @@
+-- `buffers::number_at` meets its contract.
+-- Assumes nothing.
+use mathlib.Core.Path.{sym}
+use lib.ListN.{List·getD-eq-default}
+use borrow.Author.Needs.{needs}
+use Rattle.buffers.proofs.number_at.Statement.{statement}
+use Rattle.buffers.proofs.number_at.Tie as tie
+use Rattle.buffers.proofs.number_at.Reads as reads
+use Rattle.buffers.proofs.number_at.Lts as lts
+
+-- src/lib.rt:15:25
+mul-result : tie.Need-mul-result
+mul-result c = search needs
+
+-- src/lib.rt:15:25
+shared-slice-read-result : tie.Need-shared-slice-read-result
+shared-slice-read-result c = search needs
+
+-- src/lib.rt:12:1
+returns : tie.Need-returns
+returns c = search needs
+
+-- src/lib.rt:12:1
+returns-2 : tie.Need-returns-2
+returns-2 c = sym (List·getD-eq-default (c .before .args .list .now) 0 (c .if1 .left))
+
+pub number-at-spec : {M : Type 1} → statement M
+number-at-spec = tie.close (tie.spec mul-result shared-slice-read-result returns returns-2)
