@@ -1,4 +1,4 @@
--- The variableIndices of the new predictions are those of the rule's variables.
+-- The slots of the new predictions are those of the rule's variables.
 -- Assumes nothing.
 use mathlib.Core.Path.{_≡_, refl, sym, ap, _∙_}
 use mathlib.Core.Bool.{Bool, true, false, _&&_}
@@ -21,7 +21,7 @@ use Rattle.model.proofs.Once.{Once, rule-once}
 use Rattle.model.proofs.Tests.{and-l, and-r}
 use Rattle.model.proofs.Lists.{map-append}
 
--- the variables of the variableIndices
+-- the variables of the slots
 vars-append : (a b : List (Variable × Index)) → vars (a ++ b) ≡ vars a ++ vars b
 vars-append [] b = refl
 vars-append (x ∷ a) b = ap (λ (l : List Variable). x .0 ∷ l) (vars-append a b)
@@ -115,7 +115,7 @@ module _ (g : Grammar) (right : Right g) where
       = rw c₀ (z ∙ sym (map-vars (varSlot ss ys) j (numbersFrom 0 (dimension g d)))) in
       cc (e, ih) ∙ sym (map-append (varSlot ss ys) (map (variable j) (numbersFrom 0 (dimension g d))) (daughterVariables g (suc j) ds))
 
-  -- the variableIndices of the variables are those of the new predictions
+  -- the slots of the variables are those of the new predictions
   pub expand-slots : (rule : Rule) (p : Prediction Tree) (r : ℕ) (ts : Forest) → p .node ≡ node r ts → T (hasRoots g ts (rule .daughters))
       → RightRule g rule → isLexical rule ≡ false → length (p .indices) ≡ length (rule .components)
       → Perm (map (slotOfVar (yields g ts)) (variableIndices (p .indices) (rule .components))) (queueSlots g (expand subtree g rule p))

@@ -22,7 +22,7 @@ use Rattle.model.proofs.Apart.{Every, every-append, every-to, every-per
 use Rattle.model.proofs.RowsLine.{InOrder, First, first, predict-order, trim-order, nodesOf}
 use Rattle.model.proofs.Lists.{length-numbers, map-append}
 
--- ---- numbers that differ
+-- numbers that differ
 
 abbrev pub Other : ℕ → ℕ → Type 0
 Other m n = n ≡ m → ⊥
@@ -61,7 +61,7 @@ fresh-distinct a (suc n) l h d = (
   fresh-distinct (suc a) n l (every-to (Below a) (Below (suc a)) (λ x u. omega arith) l h) d,
 )
 
--- ---- the numbers of a queue
+-- the numbers of a queue
 
 abbrev nodeOf : Prediction ℕ → ℕ
 nodeOf p = p .node
@@ -104,7 +104,7 @@ next-length g rule made p q =
     sym (nodes-length (trim (sort (expand (number made) g rule p ++ q)))) ∙ sym (perm-length (next-nodes g rule made p q))
     ∙ length-append (numbersFrom made n) (nodesOf q) ∙ ap₂ (λ (a b : ℕ). a + b) (length-numbers made n) (nodes-length q)
 
--- ---- the two recognizers
+-- the two recognizers
 
 module _ (g : Grammar) where
   -- what is kept of a queue, a row, and the two numbers beside it

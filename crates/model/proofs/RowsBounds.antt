@@ -21,7 +21,7 @@ use Rattle.model.proofs.RowsLine.{nodesOf}
 use Rattle.model.proofs.Rows.{Below, AgreeRow, step-agree, begin-agree}
 use Rattle.model.proofs.FromFile.{dimensions-four}
 
--- ---- of one state
+-- of one state
 
 from-length : (o c k : ℕ) (is : List Index) → length (indexedFrom o c k is) ≡ length is
 from-length o c k [] = refl
@@ -72,7 +72,7 @@ module _ (g : Grammar) where
         (every-map (Small g (t .made)) slotIn (h .kept .order .line)
         (every-perm (λ (x : IndexedSlot). Small g (t .made) (x .1)) (perm-sym (h .kept .order .perm)) (puts-small (t .made) (s .queue) (h .kept .line .fit) (h .kept .below))))
 
--- ---- states that steps can reach: what a loop over steps keeps
+-- states that steps can reach: what a loop over steps keeps
 
 abbrev pub Reached : Grammar → RowState → Type 0
 Reached g t = (s : State ℕ) × AgreeRow g s t
@@ -95,7 +95,7 @@ module _ (file : List ℕ) (accepted : grammarRefusal file ≡ none) where
   pub file-row : (t : RowState) → Reached (grammarOf file) t → (length (t .row) ≤ 4 * t .pending) × (t .pending ≤ length (t .row))
   file-row t h = (row-bound (grammarOf file) (h .0) t (h .1) (dimensions-four file accepted), row-least (grammarOf file) (h .0) t (h .1))
 
--- ---- the numbers after a step
+-- the numbers after a step
 
 -- a step closes one prediction, and opens and makes as many as the rule has daughters
 pub record Counts (t t′ : RowState) : Type 0 where

@@ -73,7 +73,7 @@ module _ (g : Grammar) where
           go (leads s′) (halts n) e = absurd e
           go (leads s′) (moves t′) e = l s′ t′ e
 
-    -- ---- the trace checker
+    -- the trace checker
 
     module _ (sentence : List ℕ) where
       pub steps-refusal : (k : ℕ) (s : State (Unit {0})) (t : RowState) (rs : List ℕ) → AgreeBare g s t → stepsRefusalRow g sentence k t rs ≡ stepsRefusal g sentence k s rs
@@ -97,7 +97,7 @@ module _ (g : Grammar) where
           ap (λ (o : Option Refusal). lengthRefusal trace orElse refuseIf (eqb (length trace) 0) (Refusal.Analysis 17 0) orElse o)
           (steps-refusal 0 (begin noNode g tt sentence) (beginRow g sentence) trace (begin-bare sentence))
 
-    -- ---- the search
+    -- the search
 
     pub live-from : (left : ℕ) (s : State (Unit {0})) (t : RowState) → AgreeBare g s t → liveFromRow g left t ≡ liveFrom g left s
     live-from zero s t h = refl
@@ -161,7 +161,7 @@ module _ (g : Grammar) where
       pub entry-same : (n m : ℕ) → entryRow g sentence n m ≡ entry g sentence n m
       entry-same n m = ap (λ (l : List (List ℕ)). getD l m []) (listing-same n)
 
-    -- ---- the conversions
+    -- the conversions
 
     module _ {A X : Type 0} (child : A → ℕ → A) (names : ℕ → A) (s : State A) (t : RowState) (h : AgreeNamed g names s t) (r : ℕ) where
       pub outcome-named : (a : A) → names (frontOwner (t .row)) ≡ a → (F : Outcome A → X) (G : RowOutcome → X) → ((n : ℕ) → G (halts n) ≡ F (fails n))

@@ -19,7 +19,7 @@ use Rattle.model.proofs.FromFile.{dimensions-four, categories-few}
 use Rattle.model.proofs.RowsBounds.{Small, Reached, row-small}
 use Rattle.model.proofs.Lists.{map-append, each-append}
 
--- ---- one slot further
+-- one slot further
 
 module _ {A B : Type 0} (f : A → List B) where
   pub each-take : (l : List A) (i : ℕ) (d : A) → i < length l → each f (take (suc i) l) ≡ each f (take i l) ++ f (getD l i d)
@@ -38,7 +38,7 @@ module _ {A B : Type 0} (f : A → List B) where
       let e : length (each f (take (suc i) l)) ≡ length (each f (take i l)) + length (f (getD l i d)) = ap length (each-take l i d h) ∙ length-append (each f (take i l)) (f (getD l i d)) in
       omega (arith, e, each-room l (suc i))
 
--- ---- a step by its tests: the head's category is the rule's
+-- a step by its tests: the head's category is the rule's
 
 module _ (g : Grammar) (t : RowState) (r : ℕ) (rule : Rule) (s : Slot) (row : List Slot) (known : ruleAt g r ≡ some rule) (head : t .row ≡ s ∷ row) (category : rule .category ≡ s .category) where
   applies : stepRow g t r ≡ (if isLexical rule then scanRow (rule .word) row (t .made) (t .pending - 1) (t .words) else moves (predictRow rule (s .owner) (s ∷ row) (t .made) (t .pending) (t .words)))
@@ -57,7 +57,7 @@ module _ (g : Grammar) (t : RowState) (r : ℕ) (rule : Rule) (s : Slot) (row : 
   pub too-long : isLexical rule ≡ false → (next : RowState → List (List ℕ)) (left : ℕ) → leb (t .pending - 1 + length (rule .daughters)) left ≡ false → extendRow g next left t r ≡ []
   too-long l next left h = ap (extendByRow next left r) (step-predicts l) ∙ rw h refl
 
--- ---- slots as numbers
+-- slots as numbers
 
 -- few enough categories and components
 abbrev pub Fits : Slot → Type 0
@@ -94,7 +94,7 @@ packed-row rule made front (s ∷ row) h =
     map-append packed (expandSlot rule made front s) (expandRow rule made front row)
     ∙ ap₂ (λ (a b : List ℕ). a ++ b) (packed-slot rule made front s (h .0)) (packed-row rule made front row (h .1))
 
--- ---- the slots of a grammar of at most 64 categories of at most 4 components fit
+-- the slots of a grammar of at most 64 categories of at most 4 components fit
 
 in-range : (l : List ℕ) (i : ℕ) → 1 ≤ getD l i 0 → i < length l
 in-range [] i h = absurd (omega arith)

@@ -1,4 +1,4 @@
--- The variableIndices of a queue, each with its index, in the order of the indices; and what a step does to them.
+-- The slots of a queue, each with its index, in the order of the indices; and what a step does to them.
 -- Assumes nothing.
 use mathlib.Core.Path.{_≡_, refl, sym, ap, ap₂, subst, _∙_}
 use mathlib.Core.Logic.{_⊎_, inl, inr}
@@ -60,14 +60,14 @@ every-unmap : {A B : Type 0} (P : B → Type 0) (f : A → B) (l : List A) → E
 every-unmap P f [] h = tt
 every-unmap P f (x ∷ l) h = (h .0, every-unmap P f l (h .1))
 
--- a row has the variableIndices of a queue in the order of their indices
+-- a row has the slots of a queue in the order of their indices
 pub record InOrder (q : List (Prediction ℕ)) (row : List Slot) : Type 0 where
   pub line : List IndexedSlot
   pub perm : Perm line (indexedSlots q)
   pub rises : Rises line
   pub spells : row ≡ map slotIn line
 
--- ---- each slot of the front gives way
+-- each slot of the front gives way
 
 abbrev pub varPut : Rule → ℕ → Variable × Index → IndexedSlot
 varPut rule made s = (s .1, varSlot rule made (s .0))
@@ -150,7 +150,7 @@ module _ (rule : Rule) (made front : ℕ) where
       rises-append (change x) (each change l) (change-rises (eqb (x .1 .owner) front) x) (changed-rises l (h .1))
       (every-to (Longer (x .0)) (λ y. Every (Left (y .0)) (each change l)) (λ y f. changed-left (x .0) (y .0) f l (h .0)) (change x) (change-longer (eqb (x .1 .owner) front) x))
 
-  -- the front's variableIndices give the variables, and the others stay
+  -- the front's slots give the variables, and the others stay
   own-slots : (c k : ℕ) (is : List Index) (cs : List (List Variable)) → ((j : ℕ) → getD (rule .components) (k + j) [] ≡ getD cs j []) → each change (indexedFrom front c k is) ≡ map (varPut rule made) (variableIndices is cs)
   own-slots c k [] cs h = refl
   own-slots c k (i ∷ is) cs h =
@@ -172,7 +172,7 @@ module _ (rule : Rule) (made front : ℕ) where
   stays [] h = refl
   stays (x ∷ l) h = rw (ne-eqb (x .1 .owner) front (h .0)) (ap (λ (m : List IndexedSlot). x ∷ m) (stays l (h .1)))
 
--- ---- the variableIndices of the daughters are those of the variables
+-- the slots of the daughters are those of the variables
 
 abbrev pub nodesOf : List (Prediction ℕ) → List ℕ
 nodesOf q = map (λ p. p .node) q
@@ -211,7 +211,7 @@ module _ (g : Grammar) (rule : Rule) (made : ℕ) where
       (chain (perm-map (atVar ss) (chain (same v) (rr .complete l)))
       (same (sym (daughters-puts (p .node) ss 0 (rule .daughters) (λ k. let z : 0 + k ≡ k = omega arith in ap (λ (n : ℕ). getD (rule .daughters) n 0) z)))))
 
--- ---- a step, before trimming
+-- a step, before trimming
 
 others : (f : ℕ) (q : List (Prediction ℕ)) → Every (λ n. n ≡ f → ⊥) (nodesOf q) → Every (λ x. x .1 .owner ≡ f → ⊥) (indexedSlots q)
 others f [] h = tt
@@ -242,7 +242,7 @@ predict-order g rule made p q row rr l n h o =
       spells = ap (expandRow rule made (p .node)) (o .spells) ∙ sym (changed-slots rule made (p .node) (o .line));
     }
 
--- ---- trimming
+-- trimming
 
 abbrev cutPut : IndexedSlot → IndexedSlot
 cutPut x = (tail (x .0), x .1)
@@ -282,7 +282,7 @@ trim-order q row o = go (sameFirst (indicesOf q)) refl
           spells = o .spells ∙ sym (cut-slots (o .line));
         }
 
--- ---- the first of the row belongs to the front
+-- the first of the row belongs to the front
 
 pub record First (p : Prediction ℕ) (q : List (Prediction ℕ)) (row : List Slot) : Type 0 where
   pub slot : Slot

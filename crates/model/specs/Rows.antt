@@ -77,7 +77,7 @@ stepRow g t r = applyRow (ruleAt g r) (t .row) (t .made) (t .pending) (t .words)
 abbrev pub beginRow : Grammar → List ℕ → RowState
 beginRow g sentence = record { row = record { owner = 0; category = g .start; component = 0 } ∷ []; made = 1; pending = 1; words = sentence }
 
--- ---- the trace checker
+-- The recognizer by rows: the trace checker
 
 module _ (g : Grammar) (sentence : List ℕ) where
   abbrev pub stepsRefusalRow : ℕ → RowState → List ℕ → Option Refusal
@@ -99,7 +99,7 @@ abbrev pub runRow : Grammar → RowState → List ℕ → Option RowState
 runRow g t [] = some t
 runRow g t (r ∷ rs) = elim (stepRow g t r) [ halts n ↦ none | moves t′ ↦ runRow g t′ rs ]
 
--- ---- counting and listing
+-- The recognizer by rows: counting and listing
 
 abbrev pub finishedRow : RowState → Bool
 finishedRow t = elim (t .row) [ [] ↦ elim (t .words) [ [] ↦ true | w ∷ ws ↦ false ] | s ∷ row ↦ false ]
@@ -152,7 +152,7 @@ module _ (g : Grammar) (sentence : List ℕ) where
   abbrev pub entryRow : ℕ → ℕ → List ℕ
   entryRow n m = getD (listingRow n) m []
 
--- ---- the conversions: `names` is what the prediction of each number stands for
+-- the conversions: `names` is what the prediction of each number stands for
 
 module _ {A : Type 0} where
   -- numbers from `made` on get new names
@@ -184,7 +184,7 @@ module _ (g : Grammar) where
   abbrev pub treeOfRow : List ℕ → List ℕ → List ℕ
   treeOfRow sentence trace = map (λ x. x .1) (sortNodes (placedRow (λ n. []) (beginRow g sentence) trace))
 
--- ---- a slot as one number, of at most 64 categories and 4 components
+-- a slot as one number, of at most 64 categories and 4 components
 
 abbrev pub packed : Slot → ℕ
 packed s = (s .owner * 64 + s .category) * 4 + s .component
