@@ -35,3 +35,8 @@ pub mod RowsNamed
 pub mod RowsCalls
 pub mod RowsBounds
 pub mod RowsCode
+pub mod FileTests
+pub mod WriterLists
+pub mod WriterFile
+pub mod WriterFields
+pub mod WriterTests
