@@ -35,8 +35,10 @@ pub mod RowsNamed
 pub mod RowsCalls
 pub mod RowsBounds
 pub mod RowsCode
+pub mod ByteLists
 pub mod FileTests
-pub mod WriterLists
 pub mod WriterFile
 pub mod WriterFields
 pub mod WriterTests
+pub mod WriterAgain
+pub mod WriterBack

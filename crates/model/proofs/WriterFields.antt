@@ -1,19 +1,18 @@
 -- The fields of the file that the writer makes are the numbers that it was given, and each block's check is right.
 -- Assumes nothing.
-use mathlib.Core.Path.{_≡_, refl, sym, ap, ap₂, subst, _∙_}
-use mathlib.Core.Bool.{Bool, true, false, _&&_, not}
+use mathlib.Core.Path.{_≡_, refl, ap, _∙_}
+use mathlib.Core.Bool.{Bool, true, _&&_}
 use mathlib.Core.List.{List, [], _∷_, _++_}
 use Prim.Native.Nat.{ℕ, zero, suc, _+_, _-_, _*_, _/_, _%_, _<_, _≤_}
 use native.Mathlib.Omega.{arith}
-use native.Mathlib.Decide.{decLt}
-use borrow.Author.Tests.{lt-ltb, le-ltb, eq-eqb}
 use lib.Dec.{T, ltb, eqb, ltb→lt, lt→ltb, eqb·suc-zero}
-use lib.ListN.{length, getD, take, drop, replicate, length-append, List·getD-eq-default}
-use Rattle.model.specs.Base.{if_then_else_, each, numbersFrom}
-use Rattle.model.specs.GrammarFile.{fields, weighted, byteOf, twoBytes, fourBytes, checkOf, categoriesOf, startOf, wordsOf, rulesOf, dimensionsOf, blocksFor, recordsIn, recordPlace, recordOf, wrongCheck, wrongBlock, wrongCount}
-use Rattle.model.specs.Writer.{Heading, allBytes, fitsFields, little2, little4, padded, checked}
+use lib.ListN.{length, getD, replicate, List·getD-eq-default}
+use Rattle.model.specs.Base.{if_then_else_}
+use Rattle.model.specs.GrammarFile.{fields, byteOf, twoBytes, fourBytes, checkOf, categoriesOf, startOf, wordsOf, rulesOf, blocksFor, recordsIn, recordPlace, recordOf}
+use Rattle.model.specs.Writer.{Heading, allBytes, fitsFields, little2, padded}
 use Rattle.model.proofs.Tests.{and-l, and-r, and-both}
-use Rattle.model.proofs.WriterLists.{fields-length, fields-at, fields-same, after-front, padded-length, padded-at, bytes-at, Bytes, bytes-append, bytes-fields, bytes-little2, bytes-padded, sum-fits, two-back, four-back}
+use Rattle.model.proofs.FileTests.{records-few}
+use Rattle.model.proofs.ByteLists.{fields-at, fields-same, after-front, padded-length, padded-at, bytes-at, Bytes, bytes-append, bytes-fields, bytes-little2, bytes-padded, sum-fits, two-back, four-back}
 use Rattle.model.proofs.WriterFile.{contentOf, Written, check-of}
 
 -- the heading's numbers are as wide as their fields
@@ -53,17 +52,6 @@ module _ (h : Heading) (fits : T (fitsFields h)) where
 
   pub fit-dimensions : Bytes (h .dimensions)
   fit-dimensions = bytes-at (h .dimensions) (and-r (f₁ && f₂ && f₃ && f₄) f₅ fits)
-
--- how many records a rule block holds
-pub records-few : (rules k : ℕ) → recordsIn rules (suc k) ≤ 21
-records-few rules k = go (decLt (21 * suc k) rules)
-  where
-    go : Dec (21 * suc k < rules) → recordsIn rules (suc k) ≤ 21
-    go (yes l) = rw (lt-ltb (21 * suc k) rules l) (omega arith)
-    go (no l) = rw (le-ltb (21 * suc k) rules (omega arith)) (omega arith)
-
-pub records-last : (rules k : ℕ) → rules ≤ 21 * k → recordsIn rules k ≡ rules - 21 * (k - 1)
-records-last rules k h = rw (le-ltb (21 * k) rules h)
 
 module _ (h : Heading) (records file : List ℕ) (w : Written h records file) where
   at : (i : ℕ) → i < 508 → byteOf file 0 i ≡ getD (contentOf h records 0) i 0

@@ -1,16 +1,16 @@
 -- The bytes of the file that the writer makes, block by block: its length, what each block holds, and its checks. No other file has these bytes.
 -- Assumes nothing.
-use mathlib.Core.Path.{_≡_, refl, sym, ap, ap₂, subst, _∙_}
+use mathlib.Core.Path.{_≡_, refl, sym, ap, subst, _∙_}
 use mathlib.Core.List.{List, [], _∷_, _++_}
 use Prim.Native.Nat.{ℕ, zero, suc, _+_, _-_, _*_, _/_, _%_, _<_, _≤_}
 use native.Mathlib.Omega.{arith}
 use native.Mathlib.Decide.{decLt}
-use lib.ListN.{length, getD, take, drop, replicate, length-append, List·getD-append}
-use lib.Seq.{take-at, ext-getD}
+use lib.ListN.{length, getD, replicate, length-append, List·getD-append}
+use lib.Seq.{ext-getD}
 use Rattle.model.specs.Base.{each, numbersFrom}
 use Rattle.model.specs.GrammarFile.{fields, weighted, byteOf, checkOf, blocksFor, recordsIn}
 use Rattle.model.specs.Writer.{Heading, little2, little4, padded, checked, headingBlock, ruleBlock, fileOf}
-use Rattle.model.proofs.WriterLists.{fields-length, fields-at, after-front, padded-length, padded-at, joined-length, joined-at}
+use Rattle.model.proofs.ByteLists.{fields-length, fields-at, after-front, padded-length, padded-at, joined-length, joined-at}
 
 -- a block: 508 bytes, and the check of these bytes
 module _ (bytes : List ℕ) (long : length bytes ≡ 508) where

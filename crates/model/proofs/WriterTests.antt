@@ -1,48 +1,25 @@
 -- The reader's tests of the file that the writer makes: length, checks, block numbers, record counts and the rest of the last block pass, the
 -- heading is tested as its block alone, and the rules are refused as the given records are.
 -- Assumes nothing.
-use mathlib.Core.Path.{_≡_, refl, sym, ap, ap₂, subst, _∙_}
-use mathlib.Core.Bool.{Bool, true, false, _&&_, _||_, not}
-use mathlib.Core.Option.{Option, none, some}
-use mathlib.Core.List.{List, [], _∷_, _++_}
-use Prim.Native.Nat.{ℕ, zero, suc, _+_, _-_, _*_, _/_, _%_, _<_, _≤_}
+use mathlib.Core.Path.{_≡_, refl, sym, ap, ap₂, _∙_}
+use mathlib.Core.Bool.{Bool, false, _&&_, not}
+use mathlib.Core.Option.{Option}
+use mathlib.Core.List.{List}
+use Prim.Native.Nat.{ℕ, _+_, _-_, _*_, _/_, _%_, _<_, _≤_}
 use native.Mathlib.Omega.{arith}
-use borrow.Author.Tests.{eq-eqb, le-leb, le-ltb}
-use lib.Dec.{T, ltb, leb, eqb}
+use borrow.Author.Tests.{eq-eqb, le-leb}
+use lib.Dec.{T, ltb, eqb}
 use lib.ListN.{length, getD}
 use Rattle.model.specs.declared.Refusal.{Refusal}
-use Rattle.model.specs.Base.{if_then_else_, _orElse_, firstFrom, every, anyBelow}
+use Rattle.model.specs.Base.{if_then_else_, _orElse_, firstFrom, every}
 use Rattle.model.specs.Verdict.{refuseIf}
-use Rattle.model.specs.GrammarFile.{within, allZero, fields, blocks, byteOf, twoBytes, fourBytes, checkOf, categoriesOf, startOf, wordsOf, rulesOf, dimensionsOf, dimensionIn, blocksFor, recordsIn, recordOf, wrongCategory, wrongWord, wrongVariables, unusedSet, sameRecord, repeated, recordRefusal, ruleRefusal, wrongLength, wrongCheck, wrongBlock, wrongHeading, wrongBlocks, wrongCount, wrongRest, grammarRefusal}
+use Rattle.model.specs.GrammarFile.{within, allZero, fields, blocks, byteOf, twoBytes, fourBytes, checkOf, categoriesOf, startOf, wordsOf, rulesOf, dimensionsOf, dimensionIn, blocksFor, recordsIn, recordOf, wrongCategory, wrongWord, wrongVariables, unusedSet, sameRecord, recordRefusal, ruleRefusal, wrongLength, wrongCheck, wrongBlock, wrongHeading, wrongBlocks, wrongCount, wrongRest, grammarRefusal}
 use Rattle.model.specs.Writer.{Heading, allBytes, fitsFields, headingBlock, fileOf}
-use Rattle.model.proofs.FileTests.{RightHeading, right-heading}
-use Rattle.model.proofs.WriterLists.{fields-length, fields-at, fields-same, Bytes, bytes-at, zeros-by}
-use Rattle.model.proofs.WriterFile.{contentOf, Written, file-written, heading-front, heading-length}
-use Rattle.model.proofs.WriterFields.{fit-categories, fit-words, fit-rules, written-categories, written-words, written-rules, written-dimensions, written-number, written-kind, records-last, written-count, written-record-of, written-rest, written-check}
-
--- tests below a number, and first refusals, of functions that agree there
-pub any-same : (f g : ℕ → Bool) (n : ℕ) → ((k : ℕ) → k < n → f k ≡ g k) → anyBelow f n ≡ anyBelow g n
-any-same f g zero same = refl
-any-same f g (suc n) same = ap₂ _||_ (any-same f g n (λ k h. same k (omega arith))) (same n (omega arith))
-
-pub first-same : (f g : ℕ → Option Refusal) (from n : ℕ) → ((k : ℕ) → from ≤ k → k < from + n → f k ≡ g k) → firstFrom f from n ≡ firstFrom g from n
-first-same f g from zero same = refl
-first-same f g from (suc n) same = ap₂ _orElse_ (same from (omega arith) (omega arith)) (first-same f g (suc from) n (λ k lo hi. same k (omega arith) (omega arith)))
-
-no-first : (test : ℕ → Bool) (r : ℕ → Refusal) (from n : ℕ) → ((k : ℕ) → from ≤ k → k < from + n → test k ≡ false) → firstFrom (λ k. refuseIf (test k) (r k)) from n ≡ none
-no-first test r from zero h = refl
-no-first test r from (suc n) h = rw (h from (omega arith) (omega arith)) (no-first test r (suc from) n (λ k lo hi. h k (omega arith) (omega arith)))
-
-skip : {a : Option Refusal} (b : Option Refusal) → a ≡ none → a orElse b ≡ b
-skip b e = ap (λ (x : Option Refusal). x orElse b) e
-
-passed : (b : Bool) → T b → not b ≡ false
-passed true t = refl
-passed false t = absurd t
-
-or-none : (a : Option Refusal) → a orElse none ≡ a
-or-none none = refl
-or-none (some r) = refl
+use Rattle.model.proofs.Tests.{any-same, first-same, no-first, skip, on-not, or-none}
+use Rattle.model.proofs.FileTests.{records-last, RightHeading, right-heading}
+use Rattle.model.proofs.ByteLists.{fields-length, fields-at, fields-same, bytes-at, zeros-by}
+use Rattle.model.proofs.WriterFile.{Written, file-written, heading-front, heading-length}
+use Rattle.model.proofs.WriterFields.{fit-categories, fit-words, fit-rules, written-categories, written-words, written-rules, written-dimensions, written-number, written-kind, written-count, written-record-of, written-rest, written-check}
 
 -- the reader's refusals from the heading's on
 abbrev pub fromHeading : List ℕ → Option Refusal
@@ -140,7 +117,7 @@ module _ (h : Heading) (records file : List ℕ) (w : Written h records file) (f
         go k n last one e =
             let held : n ≡ h .rules - 21 * (k - 1) = e ∙ written-count h records file w k (omega arith) one ∙ records-last (h .rules) k (omega arith) in
             let long = fields-length file (512 * k + (4 + 24 * n)) (508 - (4 + 24 * n)) (omega (arith, w .long)) in
-            passed (allZero (fields file (512 * k + (4 + 24 * n)) (508 - (4 + 24 * n))))
+            on-not (allZero (fields file (512 * k + (4 + 24 * n)) (508 - (4 + 24 * n))))
             (zeros-by (fields file (512 * k + (4 + 24 * n)) (508 - (4 + 24 * n))) (λ j hj.
             fields-at file (512 * k + (4 + 24 * n)) (508 - (4 + 24 * n)) j (omega (arith, long))
             ∙ ap (λ (p : ℕ). getD file p 0) (omega arith)

@@ -1,19 +1,18 @@
 -- Elements of the lists that the writer joins, pads and checks, and a number read back from its bytes.
 -- Assumes nothing.
 use mathlib.Core.Path.{_≡_, refl, sym, ap, subst, _∙_}
-use mathlib.Core.Bool.{Bool, true, false, _&&_}
 use mathlib.Core.List.{List, [], _∷_, _++_}
 use Prim.Native.Nat.{ℕ, zero, suc, _+_, _-_, _*_, _/_, _%_, _<_, _≤_}
-use native.Mathlib.Nat.{mul-le-mul-left, le-pred-of-lt}
+use native.Mathlib.Nat.{mul-le-mul-left}
 use native.Mathlib.Omega.{arith}
 use native.Mathlib.Decide.{decLt}
-use lib.Dec.{T, ltb, eqb, eqb→eq, eqb-refl, ltb→lt, lt→ltb}
-use lib.ListN.{length, getD, take, drop, replicate, length-append, length-take, length-drop, length-replicate, getD-replicate, List·getD-append, List·getD-eq-default}
+use lib.Dec.{T, ltb, eqb, eqb→eq, ltb→lt}
+use lib.ListN.{length, getD, replicate, length-append, length-take, length-drop, length-replicate, List·getD-append, List·getD-eq-default}
 use lib.Seq.{getD-take, getD-drop, getD-append-add, ext-getD}
-use Rattle.model.specs.Base.{each, every, numbersFrom}
+use Rattle.model.specs.Base.{each, numbersFrom}
 use Rattle.model.specs.GrammarFile.{fields, weighted, allZero}
-use Rattle.model.specs.Writer.{allBytes, little2, little4, padded, checked}
-use Rattle.model.proofs.Tests.{and-l, and-r, and-both, every-getD}
+use Rattle.model.specs.Writer.{allBytes, little2, little4, padded}
+use Rattle.model.proofs.Tests.{every-getD, every-by}
 
 -- a part of a list
 pub fields-length : (l : List ℕ) (i n : ℕ) → i + n ≤ length l → length (fields l i n) ≡ n
@@ -80,11 +79,7 @@ module _ (f : ℕ → List ℕ) (n : ℕ) where
       rw b (after-front (f from) (each f (numbersFrom (suc from) count)) n (n * suc j + i) (n * j + i) (long from (omega arith) (omega arith)) (omega arith)
       ∙ joined-at (suc from) count (λ k lo hi. long k (omega arith) (omega arith)) j i (omega arith) hi)
 
--- a test of every element, and a test of each
-pub every-by : (test : ℕ → Bool) (l : List ℕ) → ((k : ℕ) → k < length l → T (test (getD l k 0))) → T (every test l)
-every-by test [] h = tt
-every-by test (x ∷ l) h = and-both (test x) (every test l) (h 0 (omega arith)) (every-by test l (λ k b. h (suc k) (omega arith)))
-
+-- zeros
 pub zeros-by : (l : List ℕ) → ((k : ℕ) → k < length l → getD l k 0 ≡ 0) → T (allZero l)
 zeros-by l h = every-by (eqb 0) l (λ k b. subst (λ (x : ℕ). T (eqb 0 x)) (sym (h k b)) tt)
 
