@@ -42,3 +42,4 @@ pub mod WriterFields
 pub mod WriterTests
 pub mod WriterAgain
 pub mod WriterBack
+pub mod WriterHeading

@@ -122,3 +122,8 @@ on-not false t = absurd t
 pub or-none : (a : Option Refusal) → a orElse none ≡ a
 or-none none = refl
 or-none (some r) = refl
+
+-- what comes after a test counts only where the test is not met
+pub after : (b : Bool) (r : Refusal) {x y : Option Refusal} → (b ≡ false → x ≡ y) → refuseIf b r orElse x ≡ refuseIf b r orElse y
+after true r same = refl
+after false r same = same refl

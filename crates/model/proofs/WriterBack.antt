@@ -32,7 +32,7 @@ module _ (h : Heading) (records file : List ℕ) (w : Written h records file) wh
       let s = written-start h records file w in
       let n = written-words h records file w (fit-words h fits) in
       let r = written-rules h records file w (fit-rules h fits) in
-      let d : fields file 16 64 ≡ h .dimensions = written-dimensions h records file w 64 (omega arith) named ∙ take-all 64 (h .dimensions) (omega arith) in
+      let d : fields file 16 64 ≡ h .dimensions = written-dimensions h records file w named 64 (omega arith) ∙ take-all 64 (h .dimensions) (omega arith) in
       λ i. record { categories = c i; start = s i; words = n i; rules = r i; dimensions = d i }
 
   records-back : h .rules < 65536 → length records ≡ 24 * h .rules → recordsOf file ≡ records
@@ -81,7 +81,7 @@ module _ (h : Heading) (records : List ℕ) where
       skip (w₄ orElse w₅) (ap (λ (b : Bool). refuseIf b (Refusal.Grammar 4 0)) right)
       ∙ skip w₅ (ap (λ (b : Bool). refuseIf (not b) (Refusal.Grammar 5 0)) (eq-eqb (length records) (24 * h .rules) room))
 
-  -- where its own two rules do not meet them, it refuses as the reader
+  -- where its own two rules do not refuse, the writer refuses as the reader does
   pub refuses-as-reader : T (fitsFields h) → length (h .dimensions) ≡ 64 → T (allBytes records) → h .rules ≤ 256 → length records ≡ 24 * h .rules
       → writerRefusal h records ≡ grammarRefusal (fileOf h records)
   refuses-as-reader fits named bytes few room = from-heading named few ∙ go (wrongHeading (headingBlock h)) refl
@@ -94,9 +94,9 @@ module _ (h : Heading) (records : List ℕ) where
           ∙ stop (wrongHeading (fileOf h records)) (Refusal.Grammar 4 0) _ (written-heading h records (fileOf h records) (file-written h records) fits ∙ e))
 
   -- what the writer accepts is read back
-  pub read-back : T (fitsFields h) → T (allBytes records) → writerRefusal h records ≡ none
+  pub read-back : T (fitsFields h) → writerRefusal h records ≡ none
       → (headingOf (fileOf h records) ≡ h) × (recordsOf (fileOf h records) ≡ records) × (grammarRefusal (fileOf h records) ≡ none)
-  read-back fits bytes accepted =
+  read-back fits accepted =
       let r₂ = rest-of w₁ (w₂ orElse w₃ orElse w₄ orElse w₅) accepted in
       let r₄ = rest-of w₃ (w₄ orElse w₅) (rest-of w₂ (w₃ orElse w₄ orElse w₅) r₂) in
       let named = eqb→eq (length (h .dimensions)) 64 (not-off (eqb (length (h .dimensions)) 64) (no-refusal (not (eqb (length (h .dimensions)) 64)) (Refusal.Grammar 4 0) (first-of w₁ (w₂ orElse w₃ orElse w₄ orElse w₅) accepted))) in

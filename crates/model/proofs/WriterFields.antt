@@ -6,13 +6,13 @@ use mathlib.Core.List.{List, [], _∷_, _++_}
 use Prim.Native.Nat.{ℕ, zero, suc, _+_, _-_, _*_, _/_, _%_, _<_, _≤_}
 use native.Mathlib.Omega.{arith}
 use lib.Dec.{T, ltb, eqb, ltb→lt, lt→ltb, eqb·suc-zero}
-use lib.ListN.{length, getD, replicate, List·getD-eq-default}
+use lib.ListN.{length, getD, replicate, getD-replicate, List·getD-append, List·getD-eq-default}
 use Rattle.model.specs.Base.{if_then_else_}
 use Rattle.model.specs.GrammarFile.{fields, byteOf, twoBytes, fourBytes, checkOf, categoriesOf, startOf, wordsOf, rulesOf, blocksFor, recordsIn, recordPlace, recordOf}
 use Rattle.model.specs.Writer.{Heading, allBytes, fitsFields, little2, padded}
 use Rattle.model.proofs.Tests.{and-l, and-r, and-both}
 use Rattle.model.proofs.FileTests.{records-few}
-use Rattle.model.proofs.ByteLists.{fields-at, fields-same, after-front, padded-length, padded-at, bytes-at, Bytes, bytes-append, bytes-fields, bytes-little2, bytes-padded, sum-fits, two-back, four-back}
+use Rattle.model.proofs.ByteLists.{fields-at, fields-same, after-front, padded-length, padded-whole, bytes-at, Bytes, bytes-append, bytes-fields, bytes-little2, bytes-padded, sum-fits, two-back, four-back}
 use Rattle.model.proofs.WriterFile.{contentOf, Written, check-of}
 
 -- the heading's numbers are as wide as their fields
@@ -54,6 +54,9 @@ module _ (h : Heading) (fits : T (fitsFields h)) where
   fit-dimensions = bytes-at (h .dimensions) (and-r (f₁ && f₂ && f₃ && f₄) f₅ fits)
 
 module _ (h : Heading) (records file : List ℕ) (w : Written h records file) where
+  abbrev numbers : List ℕ
+  numbers = 0 ∷ 0 ∷ 1 ∷ h .categories ∷ h .start ∷ little2 (h .words) ++ little2 (h .rules)
+
   at : (i : ℕ) → i < 508 → byteOf file 0 i ≡ getD (contentOf h records 0) i 0
   at i hi = w .front 0 i (omega arith) hi
 
@@ -69,16 +72,24 @@ module _ (h : Heading) (records file : List ℕ) (w : Written h records file) wh
   pub written-rules : h .rules < 65536 → rulesOf file ≡ h .rules
   written-rules fit = omega (arith, at 7 (omega arith), at 8 (omega arith), two-back (h .rules) fit)
 
-  pub written-dimension : (j : ℕ) → j < 64 → getD file (16 + j) 0 ≡ getD (h .dimensions) j 0
-  written-dimension j hj =
-      ap (λ (p : ℕ). getD file p 0) (omega arith) ∙ at (16 + j) (omega arith)
-      ∙ after-front (0 ∷ 0 ∷ 1 ∷ h .categories ∷ h .start ∷ little2 (h .words) ++ little2 (h .rules) ++ replicate 7 0) (padded 64 (h .dimensions)) 16 (16 + j) j refl refl
-      ∙ padded-at 64 (h .dimensions) j hj
+  pub written-gap : (j : ℕ) → j < 7 → getD file (9 + j) 0 ≡ 0
+  written-gap j hj =
+      ap (λ (p : ℕ). getD file p 0) (omega arith) ∙ at (9 + j) (omega arith)
+      ∙ List·getD-append (numbers ++ replicate 7 0) (padded 64 (h .dimensions)) 0 (9 + j) (omega arith)
+      ∙ after-front numbers (replicate 7 0) 9 (9 + j) j refl refl ∙ getD-replicate 7 j 0 0 hj
 
-  pub written-dimensions : (n : ℕ) → n ≤ 64 → length (h .dimensions) ≡ 64 → fields file 16 n ≡ fields (h .dimensions) 0 n
-  written-dimensions n hn e =
-      fields-same file (h .dimensions) 16 0 n (omega (arith, w .long)) (omega arith)
-      (λ k hk. written-dimension k (omega arith) ∙ ap (λ (p : ℕ). getD (h .dimensions) p 0) (omega arith))
+  module _ (named : length (h .dimensions) ≡ 64) where
+    -- from byte 16 on there are the dimensions, and then zeros
+    pub written-dimension : (j : ℕ) → j < 492 → getD file (16 + j) 0 ≡ getD (h .dimensions) j 0
+    written-dimension j hj =
+        ap (λ (p : ℕ). getD file p 0) (omega arith) ∙ at (16 + j) (omega arith)
+        ∙ after-front (numbers ++ replicate 7 0) (padded 64 (h .dimensions)) 16 (16 + j) j refl refl
+        ∙ ap (λ (l : List ℕ). getD l j 0) (padded-whole 64 (h .dimensions) named)
+
+    pub written-dimensions : (n : ℕ) → n ≤ 64 → fields file 16 n ≡ fields (h .dimensions) 0 n
+    written-dimensions n hn =
+        fields-same file (h .dimensions) 16 0 n (omega (arith, w .long)) (omega arith)
+        (λ k hk. written-dimension k (omega arith) ∙ ap (λ (p : ℕ). getD (h .dimensions) p 0) (omega arith))
 
   -- block numbers, kinds and counts
   pub written-number : (k : ℕ) → k < blocksFor (h .rules) → k < 65536 → twoBytes file k 0 ≡ k

@@ -128,7 +128,7 @@ module _ (h : Heading) (records file : List ℕ) (w : Written h records file) (f
       dimensions-are : dimensionsOf file ≡ fields (h .dimensions) 0 (h .categories)
       dimensions-are =
           let c = written-categories h records file w in
-          ap (λ (n : ℕ). fields file 16 n) c ∙ written-dimensions h records file w (h .categories) (omega (arith, heading .categories, c)) named
+          ap (λ (n : ℕ). fields file 16 n) c ∙ written-dimensions h records file w named (h .categories) (omega (arith, heading .categories, c))
 
       rules-refused : firstFrom (ruleRefusal file) 0 (rulesOf file) ≡ given
       rules-refused =
