@@ -13,9 +13,9 @@ use lib.ListN.{length, getD}
 use Rattle.model.specs.declared.Refusal.{Refusal}
 use Rattle.model.specs.Base.{if_then_else_, _orElse_, firstFrom, every}
 use Rattle.model.specs.Verdict.{refuseIf}
-use Rattle.model.specs.GrammarFile.{within, allZero, fields, blocks, byteOf, twoBytes, fourBytes, checkOf, categoriesOf, startOf, wordsOf, rulesOf, dimensionsOf, dimensionIn, blocksFor, recordsIn, ruleRefusal, wrongLength, wrongCheck, wrongBlock, wrongHeading, wrongBlocks, wrongCount, wrongRest, grammarRefusal}
+use Rattle.model.specs.GrammarFile.{within, allZero, fields, blocks, byteOf, twoBytes, fourBytes, checkOf, categoriesOf, startOf, wordsOf, rulesOf, dimensionsOf, dimensionIn, blocksFor, recordsIn, recordPlace, recordOf, ruleRefusal, wrongLength, wrongCheck, wrongBlock, wrongHeading, wrongBlocks, wrongCount, wrongRest, grammarRefusal}
 use Rattle.model.proofs.Tests.{no-refusal, first-of, rest-of, not-off, and-l, and-r, within-low, none-at}
-use Rattle.model.proofs.ByteLists.{fields-at, zeros-at}
+use Rattle.model.proofs.ByteLists.{fields-length, fields-at, zeros-at}
 
 -- how many records a rule block holds
 pub records-few : (rules k : ℕ) → recordsIn rules (suc k) ≤ 21
@@ -188,3 +188,6 @@ module _ (file : List ℕ) (accepted : grammarRefusal file ≡ none) where
         rule = λ i h. none-at (ruleRefusal file) 0 (rulesOf file) (tests .6) i (omega arith) (omega arith);
         rest = right-rest;
       }
+
+pub record-long : (file : List ℕ) → Passed file → (i : ℕ) → i < rulesOf file → length (recordOf file i) ≡ 24
+record-long file p i h = fields-length file (recordPlace i) 24 (omega (arith, p .long))

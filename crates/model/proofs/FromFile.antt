@@ -1,25 +1,27 @@
 -- A file that the reader accepts holds a right grammar.
 -- Assumes nothing.
 use mathlib.Core.Path.{_≡_, refl, sym, ap, subst, _∙_}
-use mathlib.Core.Bool.{Bool, true, false, _&&_, _||_, not}
-use mathlib.Core.Option.{Option, none, some}
+use mathlib.Core.Bool.{true, false, _&&_, _||_, not}
+use mathlib.Core.Option.{none, some}
 use mathlib.Core.List.{List, [], _∷_, map, List·Memᴰ, List·Memᴰ·head, List·Memᴰ·tail}
-use Prim.Native.Nat.{ℕ, zero, suc, _+_, _-_, _*_, _/_, _%_, _<_, _≤_}
+use Prim.Native.Nat.{ℕ, zero, suc, _+_, _*_, _<_, _≤_}
 use native.Mathlib.Omega.{arith}
-use native.Mathlib.Decide.{ℕ-discrete, decLt}
+use native.Mathlib.Decide.{decLt}
 use borrow.Author.Tests.{leb-false, ltb-false, lt-ltb, le-ltb}
-use lib.Dec.{T, leb, ltb, eqb, leb→le, eqb→eq}
+use lib.Dec.{T, leb, ltb, eqb, eqb→eq}
 use lib.ListN.{length, getD, take, drop, getElem?, length-take, length-drop}
-use lib.Seq.{take-take, getD-take, getD-drop}
+use lib.Seq.{take-take}
 use Rattle.model.specs.declared.Refusal.{Refusal}
-use Rattle.model.specs.Base.{_orElse_, firstFrom, every, numbersFrom, anyBelow, allBelow, occurrences, total}
+use Rattle.model.specs.Base.{_orElse_, numbersFrom, anyBelow, allBelow, occurrences, total}
 use Rattle.model.specs.Verdict.{refuseIf}
 use Rattle.model.specs.Grammar.{Grammar, Rule, isLexical, dimension, emptyWord}
-use Rattle.model.specs.GrammarFile.{within, allZero, blocks, categoriesOf, startOf, wordsOf, rulesOf, dimensionsOf, blocksFor, recordOf, field, fields, dimensionIn, daughtersOf, wordOf, lengthsOf, variables, wrongCategory, wrongWord, eachOnce, wrongVariables, unusedSet, ruleRefusal, wrongLength, wrongCheck, wrongBlock, wrongHeading, wrongCount, wrongRest, grammarRefusal, sequences, ruleOf, grammarOf}
+use Rattle.model.specs.GrammarFile.{within, wordsOf, rulesOf, dimensionsOf, recordOf, field, fields, dimensionIn, daughtersOf, wordOf, lengthsOf, variables, wrongCategory, wrongWord, eachOnce, wrongVariables, unusedSet, grammarRefusal, sequences, ruleOf, grammarOf}
 use Rattle.model.specs.Base.{sameList}
 use Rattle.model.specs.WellFormed.{Perm, same, chain, RightRule, Right, named, daughterVariables}
 use Rattle.model.proofs.Variables.{all-variables, parts-named, parts-length, decode}
-use Rattle.model.proofs.Tests.{none-some, no-refusal, first-of, rest-of, first-none, not-off, and-l, and-r, or-l, or-r, any-none, all-true, every-getD, within-low}
+use Rattle.model.proofs.ByteLists.{fields-length, fields-at}
+use Rattle.model.proofs.FileTests.{Passed, passed, record-long}
+use Rattle.model.proofs.Tests.{no-refusal, first-of, rest-of, not-off, and-l, and-r, or-l, or-r, any-none, all-true, every-getD, within-low}
 
 -- the rule of a number
 rule-at : (f : ℕ → Rule) (from n r : ℕ) (rule : Rule) → getElem? (map f (numbersFrom from n)) r ≡ some rule → (r < n) × (f (from + r) ≡ rule)
@@ -53,10 +55,10 @@ module _ (file : List ℕ) where
     daughter-in j h = leb-false (length dimensions) (field e (2 + j)) (any-none (λ j. leb (length dimensions) (field e (2 + j))) n (or-r (leb (length dimensions) (field e 0) || ltb 3 n) (anyBelow (λ j. leb (length dimensions) (field e (2 + j))) n) cat-ok) j h)
 
     field-length : (i k : ℕ) → i + k ≤ 24 → length (fields e i k) ≡ k
-    field-length i k h = simp (length-take, length-drop) (omega arith)
+    field-length i k h = fields-length e i k (omega arith)
 
     field-at : (i k j : ℕ) → j < k → getD (fields e i k) j 0 ≡ field e (i + j)
-    field-at i k j h = rw (getD-take, getD-drop)
+    field-at i k j h = fields-at e i k j h
 
     daughters-length : length (daughtersOf e) ≡ n
     daughters-length = field-length 2 n (omega (arith, three))
@@ -137,90 +139,11 @@ module _ (file : List ℕ) where
             eqb→eq (getD dimensions (field e 0) 0) 1 (not-off (eqb (getD dimensions (field e 0) 0) 1) (or-l (not (eqb (getD dimensions (field e 0) 0) 1)) (leb (wordsOf file) (wordOf e) && not (eqb (wordOf e) emptyWord)) w))
 
 module _ (file : List ℕ) (accepted : grammarRefusal file ≡ none) where
-  -- the tests, one after the other
-  abbrev c₁ : Option Refusal
-  c₁ = refuseIf (wrongLength file) (Refusal.Grammar 1 0)
-
-  abbrev c₂ : Option Refusal
-  c₂ = firstFrom (λ k. refuseIf (wrongCheck file k) (Refusal.Grammar 2 k)) 0 (blocks file)
-
-  abbrev c₃ : Option Refusal
-  c₃ = firstFrom (λ k. refuseIf (wrongBlock file k) (Refusal.Grammar 3 k)) 0 (blocks file)
-
-  abbrev c₄ : Option Refusal
-  c₄ = refuseIf (wrongHeading file) (Refusal.Grammar 4 0)
-
-  abbrev c₅ : Option Refusal
-  c₅ = refuseIf (not (eqb (blocks file) (blocksFor (rulesOf file)))) (Refusal.Grammar 5 0)
-
-  abbrev c₆ : Option Refusal
-  c₆ = firstFrom (λ k. refuseIf (wrongCount file k) (Refusal.Grammar 5 k)) 1 (blocks file - 1)
-
-  abbrev c₇ : Option Refusal
-  c₇ = firstFrom (ruleRefusal file) 0 (rulesOf file)
-
-  abbrev c₈ : Option Refusal
-  c₈ = refuseIf (wrongRest file) (Refusal.Grammar 9 (rulesOf file))
-
-  from₂ : c₂ orElse c₃ orElse c₄ orElse c₅ orElse c₆ orElse c₇ orElse c₈ ≡ none
-  from₂ = rest-of c₁ (c₂ orElse c₃ orElse c₄ orElse c₅ orElse c₆ orElse c₇ orElse c₈) accepted
-
-  from₄ : c₄ orElse c₅ orElse c₆ orElse c₇ orElse c₈ ≡ none
-  from₄ = rest-of c₃ (c₄ orElse c₅ orElse c₆ orElse c₇ orElse c₈) (rest-of c₂ (c₃ orElse c₄ orElse c₅ orElse c₆ orElse c₇ orElse c₈) from₂)
-
-  from₅ : c₅ orElse c₆ orElse c₇ orElse c₈ ≡ none
-  from₅ = rest-of c₄ (c₅ orElse c₆ orElse c₇ orElse c₈) from₄
-
-  from₇ : c₇ orElse c₈ ≡ none
-  from₇ = rest-of c₆ (c₇ orElse c₈) (rest-of c₅ (c₆ orElse c₇ orElse c₈) from₅)
-
-  abbrev lengthTest : Bool
-  lengthTest = eqb (length file % 512) 0 && within 1 14 (blocks file)
-
-  whole-blocks : length file ≡ 512 * (length file / 512)
-  whole-blocks =
-      let t = not-off lengthTest (no-refusal (wrongLength file) (Refusal.Grammar 1 0) (first-of c₁ (c₂ orElse c₃ orElse c₄ orElse c₅ orElse c₆ orElse c₇ orElse c₈) accepted)) in
-      omega (arith, eqb→eq (length file % 512) 0 (and-l (eqb (length file % 512) 0) (within 1 14 (blocks file)) t))
-
-  enough-blocks : length file / 512 ≡ 1 + (rulesOf file + 20) / 21
-  enough-blocks = eqb→eq (blocks file) (blocksFor (rulesOf file)) (not-off (eqb (blocks file) (blocksFor (rulesOf file))) (no-refusal (not (eqb (blocks file) (blocksFor (rulesOf file)))) (Refusal.Grammar 5 0) (first-of c₅ (c₆ orElse c₇ orElse c₈) from₅)))
-
-  -- the heading's tests
-  abbrev h₁ : Bool
-  h₁ = within 1 64 (categoriesOf file)
-
-  abbrev h₂ : Bool
-  h₂ = within 1 4096 (wordsOf file)
-
-  abbrev h₃ : Bool
-  h₃ = within 1 256 (rulesOf file)
-
-  abbrev h₄ : Bool
-  h₄ = every (within 1 4) (dimensionsOf file)
-
-  abbrev h₅ : Bool
-  h₅ = ltb (startOf file) (categoriesOf file)
-
-  abbrev h₆ : Bool
-  h₆ = eqb (getD (dimensionsOf file) (startOf file) 0) 1
-
-  abbrev h₇ : Bool
-  h₇ = allZero (fields file 9 7)
-
-  abbrev h₈ : Bool
-  h₈ = allZero (fields file (16 + categoriesOf file) (508 - (16 + categoriesOf file)))
-
-  heading : T (h₁ && h₂ && h₃ && h₄ && h₅ && h₆ && h₇ && h₈)
-  heading = not-off (h₁ && h₂ && h₃ && h₄ && h₅ && h₆ && h₇ && h₈) (no-refusal (wrongHeading file) (Refusal.Grammar 4 0) (first-of c₄ (c₅ orElse c₆ orElse c₇ orElse c₈) from₄))
-
-  to₆ : T (h₁ && h₂ && h₃ && h₄ && h₅ && h₆)
-  to₆ = and-l (h₁ && h₂ && h₃ && h₄ && h₅ && h₆) h₇ (and-l (h₁ && h₂ && h₃ && h₄ && h₅ && h₆ && h₇) h₈ heading)
-
-  to₄ : T (h₁ && h₂ && h₃ && h₄)
-  to₄ = and-l (h₁ && h₂ && h₃ && h₄) h₅ (and-l (h₁ && h₂ && h₃ && h₄ && h₅) h₆ to₆)
+  tests : Passed file
+  tests = passed file accepted
 
   dims-four : (c : ℕ) → c < length (dimensionsOf file) → (1 ≤ getD (dimensionsOf file) c 0) × (getD (dimensionsOf file) c 0 ≤ 4)
-  dims-four c h = within-low 1 4 (getD (dimensionsOf file) c 0) (every-getD (within 1 4) (dimensionsOf file) (and-r (h₁ && h₂ && h₃) h₄ to₄) c h)
+  dims-four c h = within-low 1 4 (getD (dimensionsOf file) c 0) (every-getD (within 1 4) (dimensionsOf file) (tests .heading .dimensions) c h)
 
   -- what a number that holds a category and a component needs
   pub dimensions-four : (c : ℕ) → dimension (grammarOf file) c ≤ 4
@@ -236,39 +159,29 @@ module _ (file : List ℕ) (accepted : grammarRefusal file ≡ none) where
       go (no h) = outside (dimensionsOf file) c h
 
   pub categories-few : length (grammarOf file .dimensions) ≤ 64
-  categories-few = simp (length-take, length-drop) (omega (arith, within-low 1 64 (categoriesOf file) (and-l h₁ h₂ (and-l (h₁ && h₂) h₃ (and-l (h₁ && h₂ && h₃) h₄ to₄)))))
-
-  record-length : (r : ℕ) → r < rulesOf file → length (recordOf file r) ≡ 24
-  record-length r h = simp (length-take, length-drop) (omega (arith, whole-blocks, enough-blocks))
+  categories-few = simp (length-take, length-drop) (omega (arith, tests .heading .categories))
 
   right-rule : (r : ℕ) → r < rulesOf file → RightRule (grammarOf file) (ruleOf (dimensionsOf file) (recordOf file r))
   right-rule r h =
-      let k : 0 + r ≡ r = omega arith in
+      let a = tests .rule r h in
       let e = recordOf file r in
       let d = dimensionsOf file in
-      let a : ruleRefusal file r ≡ none = subst (λ (x : ℕ). ruleRefusal file x ≡ none) k (first-none (ruleRefusal file) 0 (rulesOf file) (first-of c₇ c₈ from₇) r h) in
-      tests r h a
-    where
-      tests : (r : ℕ) → r < rulesOf file → ruleRefusal file r ≡ none → RightRule (grammarOf file) (ruleOf (dimensionsOf file) (recordOf file r))
-      tests r h a =
-          let e = recordOf file r in
-          let d = dimensionsOf file in
-          let r₆ = refuseIf (wrongCategory d e) (Refusal.Grammar 6 r) in
-          let r₇ = refuseIf (wrongWord d e (wordsOf file)) (Refusal.Grammar 7 r) in
-          let r₈ = refuseIf (wrongVariables d e) (Refusal.Grammar 8 r) in
-          let r₉ = refuseIf (unusedSet d e) (Refusal.Grammar 9 r) orElse refuseIf (anyBelow (λ j. sameList (recordOf file j) e) r) (Refusal.Grammar 10 r) in
-          let b = rest-of r₆ (r₇ orElse r₈ orElse r₉) a in
-          let c = rest-of r₇ (r₈ orElse r₉) b in
-          rule-right file e (record-length r h) dims-four
-          (no-refusal (wrongCategory d e) (Refusal.Grammar 6 r) (first-of r₆ (r₇ orElse r₈ orElse r₉) a))
-          (no-refusal (wrongWord d e (wordsOf file)) (Refusal.Grammar 7 r) (first-of r₇ (r₈ orElse r₉) b))
-          (no-refusal (wrongVariables d e) (Refusal.Grammar 8 r) (first-of r₈ r₉ c))
+      let r₆ = refuseIf (wrongCategory d e) (Refusal.Grammar 6 r) in
+      let r₇ = refuseIf (wrongWord d e (wordsOf file)) (Refusal.Grammar 7 r) in
+      let r₈ = refuseIf (wrongVariables d e) (Refusal.Grammar 8 r) in
+      let r₉ = refuseIf (unusedSet d e) (Refusal.Grammar 9 r) orElse refuseIf (anyBelow (λ j. sameList (recordOf file j) e) r) (Refusal.Grammar 10 r) in
+      let b = rest-of r₆ (r₇ orElse r₈ orElse r₉) a in
+      let c = rest-of r₇ (r₈ orElse r₉) b in
+      rule-right file e (record-long file tests r h) dims-four
+      (no-refusal (wrongCategory d e) (Refusal.Grammar 6 r) (first-of r₆ (r₇ orElse r₈ orElse r₉) a))
+      (no-refusal (wrongWord d e (wordsOf file)) (Refusal.Grammar 7 r) (first-of r₇ (r₈ orElse r₉) b))
+      (no-refusal (wrongVariables d e) (Refusal.Grammar 8 r) (first-of r₈ r₉ c))
 
   -- what the reader accepts is a right grammar
   pub accepted-right : Right (grammarOf file)
   accepted-right =
       record {
-        start-alone = eqb→eq (getD (dimensionsOf file) (startOf file) 0) 1 (and-r (h₁ && h₂ && h₃ && h₄ && h₅) h₆ to₆);
+        start-alone = tests .heading .start-alone;
         rules = λ r rule e. go r rule (rule-at (λ i. ruleOf (dimensionsOf file) (recordOf file i)) 0 (rulesOf file) r rule e);
       }
     where

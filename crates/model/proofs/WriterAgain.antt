@@ -11,8 +11,8 @@ use lib.ListN.{length, getD, replicate, getD-replicate, List·getD-append, List�
 use Rattle.model.specs.GrammarFile.{fields, byteOf, checkOf, categoriesOf, startOf, wordsOf, rulesOf, blocksFor, recordsIn, recordPlace, recordOf}
 use Rattle.model.specs.Writer.{allBytes, fitsFields, little2, little4, padded, fileOf, headingOf, recordsOf}
 use Rattle.model.proofs.Tests.{and-both, every-by}
-use Rattle.model.proofs.ByteLists.{fields-length, fields-at, after-front, padded-length, padded-at, joined-length, joined-at, zeros-at, bytes-at, bytes-fields, two-again, four-again}
-use Rattle.model.proofs.FileTests.{Passed}
+use Rattle.model.proofs.ByteLists.{fields-at, after-front, padded-length, padded-at, joined-length, joined-at, zeros-at, bytes-at, bytes-fields, two-again, four-again}
+use Rattle.model.proofs.FileTests.{Passed, record-long}
 use Rattle.model.proofs.WriterFile.{contentOf, file-written, same-file}
 
 module _ (file : List ℕ) (bytes : T (allBytes file)) (p : Passed file) where
@@ -20,18 +20,15 @@ module _ (file : List ℕ) (bytes : T (allBytes file)) (p : Passed file) where
   byte k i = bytes-at file bytes (512 * k + i)
 
   -- the records that are read
-  record-long : (i : ℕ) → i < rulesOf file → length (recordOf file i) ≡ 24
-  record-long i h = fields-length file (recordPlace i) 24 (omega (arith, p .long))
-
   pub records-long : length (recordsOf file) ≡ 24 * rulesOf file
-  records-long = joined-length (recordOf file) 24 0 (rulesOf file) (λ k lo hi. record-long k (omega arith))
+  records-long = joined-length (recordOf file) 24 0 (rulesOf file) (λ k lo hi. record-long file p k (omega arith))
 
   record-byte : (k j : ℕ) → j < 504 → 504 * k + j < 24 * rulesOf file → getD (recordsOf file) (504 * k + j) 0 ≡ byteOf file (suc k) (4 + j)
   record-byte k j hj h =
       let i = (504 * k + j) / 24 in
       let from : 0 + i ≡ i = omega arith in
       ap (λ (q : ℕ). getD (recordsOf file) q 0) (omega arith)
-      ∙ joined-at (recordOf file) 24 0 (rulesOf file) (λ k lo hi. record-long k (omega arith)) i ((504 * k + j) % 24) (omega arith) (omega arith)
+      ∙ joined-at (recordOf file) 24 0 (rulesOf file) (λ k lo hi. record-long file p k (omega arith)) i ((504 * k + j) % 24) (omega arith) (omega arith)
       ∙ ap (λ (q : ℕ). getD (recordOf file q) ((504 * k + j) % 24) 0) from
       ∙ fields-at file (recordPlace i) 24 ((504 * k + j) % 24) (omega arith)
       ∙ ap (λ (q : ℕ). getD file q 0) (omega arith)
