@@ -1,4 +1,4 @@
--- What passed and failed tests say: of `&&`, `||` and `not`, of tests joined by `orElse`, of tests below a number, and of lists compared.
+-- What passed and failed tests say, and what passes or fails them: of `&&`, `||` and `not`, of tests joined by `orElse`, of tests below a number, and of lists compared.
 -- Assumes nothing.
 use mathlib.Core.Path.{_≡_, refl, sym, ap, ap₂, subst, _∙_}
 use mathlib.Core.Logic.{_⊎_, inl, inr}

@@ -1,4 +1,4 @@
--- The bytes of the file that the writer makes, block by block: its length, what each block holds, and its checks. No other file has these bytes.
+-- The bytes of the file that the writer makes, block by block: its length, what each block holds, and its checks. A file with such blocks is that file.
 -- Assumes nothing.
 use mathlib.Core.Path.{_≡_, refl, sym, ap, subst, _∙_}
 use mathlib.Core.List.{List, [], _∷_, _++_}
