@@ -3,12 +3,12 @@
 use mathlib.Core.Path.{_≡_, refl, sym, ap, subst, _∙_}
 use mathlib.Core.Bool.{Bool, true, false, not}
 use mathlib.Core.Option.{Option, none, some}
-use mathlib.Core.List.{List, [], _∷_, _++_, map, List·Memᴰ}
+use mathlib.Core.List.{List, [], _∷_}
 use Prim.Native.Nat.{ℕ, _<_, _≤_}
 use native.Mathlib.Omega.{arith}
 use borrow.Author.Tests.{lt-ltb, le-ltb, lt-leb, le-leb, ltb-false, ltb-true}
 use lib.Dec.{T, ltb, leb, eqb}
-use lib.ListN.{length, getD, drop}
+use lib.ListN.{length}
 use Rattle.model.specs.declared.Refusal.{Refusal}
 use Rattle.model.specs.declared.Verdict.{Verdict}
 use Rattle.model.specs.declared.CountVerdict.{CountVerdict}
@@ -17,13 +17,12 @@ use Rattle.model.specs.Verdict.{refuseIf, verdict, countVerdict}
 use Rattle.model.specs.Grammar.{Grammar}
 use Rattle.model.specs.WellFormed.{Right}
 use Rattle.model.specs.GrammarFile.{grammarRefusal, grammarOf}
-use Rattle.model.specs.Step.{begin}
 use Rattle.model.specs.Trace.{lengthRefusal, stepsRefusal, sentenceRefusal, traceRefusal}
 use Rattle.model.specs.Tree.{Tree, preorder, derives, nodesRefusal, treeOfList, spells, treeRefusal}
 use Rattle.model.specs.Conversions.{BelongsTo, traceOf, treeOf}
-use Rattle.model.specs.Counting.{start, live, effort, listing, count, entry, limitsRefusal, effortRefusal, entryRefusal}
-use Rattle.model.specs.Calls.{written, roomRefusal, checkTraceVerdict, checkTreeVerdict, countCall, entryVerdict, entryOutput}
-use Rattle.model.specs.Demands.{_⇔_, Ends, Recognized, Derivation, ToTree, ToTrace, Demand2, Analysis, traceOfTree, Belongs, Demand3}
+use Rattle.model.specs.Counting.{start, live, effort, listing, count, entry, limitsRefusal}
+use Rattle.model.specs.Calls.{written, checkTraceVerdict, checkTreeVerdict, countCall, entryVerdict, entryOutput}
+use Rattle.model.specs.Demands.{_⇔_, Recognized, Derivation, ToTree, ToTrace, Demand2, Analysis, traceOfTree, Belongs, Demand3}
 use Rattle.model.proofs.Tests.{none-some}
 use Rattle.model.proofs.Live.{live-lists}
 use Rattle.model.proofs.Listing.{listing-lists, order-different}

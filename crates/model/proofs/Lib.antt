@@ -41,3 +41,11 @@ pub mod WellFormed
 pub mod SurveyVisits
 pub mod SurveyRounds
 pub mod SurveyTrees
+pub mod ByteLists
+pub mod FileTests
+pub mod WriterFile
+pub mod WriterFields
+pub mod WriterTests
+pub mod WriterAgain
+pub mod WriterBack
+pub mod WriterHeading

@@ -1,13 +1,11 @@
 -- Membership in the lists that the definitions make, and lists in order.
 -- Assumes nothing.
-use mathlib.Core.Bool.{Bool, true, false, _&&_, _||_, not}
-use mathlib.Core.Option.{Option, none, some}
-use lib.Dec.{T, ltb, leb, eqb, eqb→eq, eqb-refl}
-use lib.ListN.{length, getD, getElem?, take, drop, length-append, length-map, length-take, length-drop}
-use mathlib.Core.Path.{_≡_, refl, ap, subst, sym, ap₂, _∙_}
+use mathlib.Core.Option.{some}
+use lib.ListN.{length, getElem?}
+use mathlib.Core.Path.{_≡_, refl, ap, subst, sym, _∙_}
 use mathlib.Core.Logic.{_⊎_, inl, inr}
-use mathlib.Core.List.{List, [], _∷_, _++_, map, List·Memᴰ, List·Memᴰ·head, List·Memᴰ·tail, List·Memᴰ·cases-cons, List·Memᴰ·append-cases, tail, append-assoc, append-nil}
-use Prim.Native.Nat.{ℕ, zero, suc, _+_, _<_, _≤_, _-_, _*_, _/_, _%_}
+use mathlib.Core.List.{List, [], _∷_, _++_, map, List·Memᴰ, List·Memᴰ·head, List·Memᴰ·tail, List·Memᴰ·cases-cons, List·Memᴰ·append-cases, append-assoc}
+use Prim.Native.Nat.{ℕ, zero, suc, _+_, _<_, _≤_}
 use native.Mathlib.Omega.{arith}
 use native.Mathlib.Decide.{ℕ-discrete}
 use Rattle.model.specs.Base.{each, numbersFrom}

@@ -11,8 +11,8 @@ use lib.ListN.{length, length-map, length-append}
 use borrow.Author.Tests.{eqb-true}
 use Rattle.model.specs.Base.{if_then_else_, numbersFrom}
 use Rattle.model.specs.Grammar.{Variable, Rule, Grammar, emptyWord, ruleAt, isLexical, dimension}
-use Rattle.model.specs.Step.{Index, Prediction, State, Outcome, fails, leads, shorten, trim, sort, sameFirst, readWord, scan, daughtersFrom, variableIndices, expand, predict, apply, step, begin}
-use Rattle.model.specs.Rows.{Slot, RowState, RowOutcome, halts, moves, expandRow, readWordRow, scanRow, predictRow, applyRow, stepRow, beginRow}
+use Rattle.model.specs.Step.{Index, Prediction, State, fails, leads, shorten, trim, sort, sameFirst, readWord, scan, daughtersFrom, variableIndices, expand, predict, apply, step, begin}
+use Rattle.model.specs.Rows.{Slot, RowState, halts, moves, expandRow, readWordRow, scanRow, predictRow, applyRow, stepRow, beginRow}
 use Rattle.model.specs.WellFormed.{Perm, same, more, swap, chain, RightRule, Right}
 use Rattle.model.specs.RowsAgree.{number, IndexedSlot, SameOutcome}
 use Rattle.model.proofs.Perm.{perm-sym, perm-map, perm-length}

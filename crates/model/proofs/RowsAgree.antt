@@ -4,11 +4,10 @@ use mathlib.Core.Path.{_≡_}
 use mathlib.Core.Option.{none}
 use mathlib.Core.List.{List, [], _∷_}
 use Prim.Native.Nat.{ℕ}
-use lib.Dec.{T}
 use Rattle.model.specs.Grammar.{Grammar}
 use Rattle.model.specs.WellFormed.{Right}
 use Rattle.model.specs.GrammarFile.{grammarRefusal, grammarOf}
-use Rattle.model.specs.Step.{State, before}
+use Rattle.model.specs.Step.{State}
 use Rattle.model.specs.Rows.{RowState}
 use Rattle.model.specs.RowsAgree.{IndexedSlot, Ascending, SamePlace, RowsAgree}
 use Rattle.model.proofs.Digits.{left-before}

@@ -2,7 +2,7 @@
 -- Assumes nothing.
 use mathlib.Core.Path.{_≡_, refl, sym, ap, ap₂, subst, _∙_}
 use mathlib.Core.Bool.{Bool, true, false}
-use mathlib.Core.Option.{Option, none, some}
+use mathlib.Core.Option.{Option, some}
 use mathlib.Core.List.{List, [], _∷_, _++_, map}
 use Prim.Native.Nat.{ℕ, zero, suc, _+_}
 use lib.Dec.{ltb, leb, eqb}
@@ -11,7 +11,6 @@ use Rattle.model.specs.declared.Refusal.{Refusal}
 use Rattle.model.specs.Base.{if_then_else_, _orElse_, each, keep, numbersFrom}
 use Rattle.model.specs.Verdict.{refuseIf}
 use Rattle.model.specs.Grammar.{Grammar}
-use Rattle.model.specs.GrammarFile.{grammarRefusal, grammarOf}
 use Rattle.model.specs.Step.{Prediction, State, Outcome, fails, leads, step, begin}
 use Rattle.model.specs.Trace.{noNode, lengthRefusal, stepsRefusal, traceRefusal}
 use Rattle.model.specs.Tree.{Tree, treeOfList}
@@ -19,7 +18,6 @@ use Rattle.model.specs.Counting.{finished, extendIf, extendBy, extend, l
 use Rattle.model.specs.Rows.{Slot, RowState, RowOutcome, halts, moves, stepRow, beginRow, stepsRefusalRow, traceRefusalRow, finishedRow, extendIfRow, extendByRow, extendRow, liveFromRow, foundFromRow, liveRow, effortRow, listingRow, countRow, entryRow, extended, traceFromRow, traceOfRow, placedRow, treeOfRow}
 use Rattle.model.specs.WellFormed.{Right}
 use Rattle.model.specs.Conversions.{label, subtree, traceFrom, traceOf, Address, below, sortNodes, placed, treeOf}
-use Rattle.model.proofs.FromFile.{accepted-right}
 use Rattle.model.proofs.Search.{each-same, keep-same, keep-map, keep-each, keep-first, ends, after}
 use Rattle.model.proofs.RowsNamed.{frontOwner, AgreeNamed, SameNamed, step-named, begin-named, pending-is, words-are, Fronts, front-named}
 

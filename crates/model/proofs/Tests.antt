@@ -1,15 +1,15 @@
--- What passed and failed tests say: of `&&`, `||` and `not`, of tests joined by `orElse`, of tests below a number, and of lists compared.
+-- What passed and failed tests say, and what passes or fails them: of `&&`, `||` and `not`, of tests joined by `orElse`, of tests below a number, and of lists compared.
 -- Assumes nothing.
-use mathlib.Core.Path.{_≡_, refl, sym, ap, ap₂, subst, _∙_}
+use mathlib.Core.Path.{_≡_, refl, ap, ap₂, subst}
 use mathlib.Core.Logic.{_⊎_, inl, inr}
 use mathlib.Core.Bool.{Bool, true, false, _&&_, _||_, not}
 use mathlib.Core.Option.{Option, none, some}
-use mathlib.Core.List.{List, [], _∷_, _++_, map, tail, append-assoc, append-nil, List·Memᴰ, List·Memᴰ·head, List·Memᴰ·tail, List·Memᴰ·cases-cons, List·Memᴰ·append-cases}
-use Prim.Native.Nat.{ℕ, zero, suc, _+_, _-_, _*_, _/_, _%_, _<_, _≤_}
+use mathlib.Core.List.{List, [], _∷_}
+use Prim.Native.Nat.{ℕ, zero, suc, _+_, _-_, _<_, _≤_}
 use native.Mathlib.Omega.{arith}
 use native.Mathlib.Decide.{ℕ-discrete}
-use lib.Dec.{T, ltb, leb, eqb, eqb→eq, eqb-refl, leb→le}
-use lib.ListN.{length, getD, take, drop, length-append, length-map, length-take, length-drop}
+use lib.Dec.{T, leb, leb→le}
+use lib.ListN.{length, getD}
 use Rattle.model.specs.declared.Refusal.{Refusal}
 use Rattle.model.specs.Verdict.{refuseIf}
 use Rattle.model.specs.Base.{if_then_else_, allBelow, firstFrom, every, anyBelow, _orElse_}
@@ -94,3 +94,45 @@ and-both false b t u = absurd t
 pub after-test : {A : Type 0} (P : A → Type 0) (b : Bool) {x y : A} → (T b → P x) → ((T b → ⊥) → P y) → P (if b then x else y)
 after-test P true pass fail = pass tt
 after-test P false pass fail = fail (λ t. t)
+
+pub every-by : (test : ℕ → Bool) (l : List ℕ) → ((k : ℕ) → k < length l → T (test (getD l k 0))) → T (every test l)
+every-by test [] h = tt
+every-by test (x ∷ l) h = and-both (test x) (every test l) (h 0 (omega arith)) (every-by test l (λ k b. h (suc k) (omega arith)))
+
+pub none-at : (f : ℕ → Option Refusal) (from n : ℕ) → firstFrom f from n ≡ none → (k : ℕ) → from ≤ k → k < from + n → f k ≡ none
+none-at f from n e k lo hi =
+    let a : from + (k - from) ≡ k = omega arith in
+    subst (λ (x : ℕ). f x ≡ none) a (first-none f from n e (k - from) (omega arith))
+
+-- tests below a number, and first refusals, of functions that agree there
+pub any-same : (f g : ℕ → Bool) (n : ℕ) → ((k : ℕ) → k < n → f k ≡ g k) → anyBelow f n ≡ anyBelow g n
+any-same f g zero same = refl
+any-same f g (suc n) same = ap₂ _||_ (any-same f g n (λ k h. same k (omega arith))) (same n (omega arith))
+
+pub first-same : (f g : ℕ → Option Refusal) (from n : ℕ) → ((k : ℕ) → from ≤ k → k < from + n → f k ≡ g k) → firstFrom f from n ≡ firstFrom g from n
+first-same f g from zero same = refl
+first-same f g from (suc n) same = ap₂ _orElse_ (same from (omega arith) (omega arith)) (first-same f g (suc from) n (λ k lo hi. same k (omega arith) (omega arith)))
+
+pub no-first : (test : ℕ → Bool) (r : ℕ → Refusal) (from n : ℕ) → ((k : ℕ) → from ≤ k → k < from + n → test k ≡ false) → firstFrom (λ k. refuseIf (test k) (r k)) from n ≡ none
+no-first test r from zero h = refl
+no-first test r from (suc n) h = rw (h from (omega arith) (omega arith)) (no-first test r (suc from) n (λ k lo hi. h k (omega arith) (omega arith)))
+
+-- a refusal that is not met is passed over, and one that is met is the answer
+pub skip : {a : Option Refusal} (b : Option Refusal) → a ≡ none → a orElse b ≡ b
+skip b e = ap (λ (x : Option Refusal). x orElse b) e
+
+pub stop : (b : Bool) (r : Refusal) (rest : Option Refusal) → b ≡ true → refuseIf b r orElse rest ≡ some r
+stop b r rest e = ap (λ (x : Bool). refuseIf x r orElse rest) e
+
+pub on-not : (b : Bool) → T b → not b ≡ false
+on-not true t = refl
+on-not false t = absurd t
+
+pub or-none : (a : Option Refusal) → a orElse none ≡ a
+or-none none = refl
+or-none (some r) = refl
+
+-- what comes after a test counts only where the test is not met
+pub after : (b : Bool) (r : Refusal) {x y : Option Refusal} → (b ≡ false → x ≡ y) → refuseIf b r orElse x ≡ refuseIf b r orElse y
+after true r same = refl
+after false r same = same refl

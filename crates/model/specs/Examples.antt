@@ -2,14 +2,14 @@
 -- Assumes nothing.
 use mathlib.Core.Path.{_≡_, refl}
 use Prim.Native.Nat.{ℕ}
-use mathlib.Core.Bool.{Bool, true, false}
+use mathlib.Core.Bool.{true}
 use mathlib.Core.List.{List, [], _∷_, _++_, map}
 use mathlib.Core.Option.{Option, none, some}
 use Rattle.model.specs.Verdict.{verdictAnswer, countAnswer, values, refusal, analysisAuthor, desk}
 use Rattle.model.specs.Grammar.{Grammar, variable, lexical, nonlexical}
 use Rattle.model.specs.GrammarFile.{grammarOf}
 use Rattle.model.specs.Writer.{fileOf, headingOf, recordsOf}
-use Rattle.model.specs.Step.{State, Prediction, before, least}
+use Rattle.model.specs.Step.{State, before, least}
 use Rattle.model.specs.Trace.{noNode, run}
 use Rattle.model.specs.Counting.{start}
 use Rattle.model.specs.Calls.{readVerdict, checkTraceVerdict, checkTreeVerdict, traceToTreeVerdict, traceToTreeOutput, treeToTraceOutput, countCall}
