@@ -4,19 +4,12 @@ mod answer;
 #[cfg(downgrater_library)]
 mod calls;
 
-#[cfg(downgrater_library)]
-pub use calls::Library;
-
 pub use answer::{counted, verdict};
 
-/// The library, where it was there when this crate was built.
-#[cfg(downgrater_library)]
-pub fn library() -> Option<Library> {
-    Some(Library)
-}
-
-/// The library was not there when this crate was built.
-#[cfg(not(downgrater_library))]
-pub fn library() -> Option<reference::Reference> {
+/// The proved library, or nothing where it was not there when this crate was built.
+pub fn library() -> Option<Box<dyn reference::Calls>> {
+    #[cfg(downgrater_library)]
+    return Some(Box::new(calls::Library));
+    #[cfg(not(downgrater_library))]
     None
 }

@@ -1,6 +1,5 @@
 //! Derivation trees, one by one and without the recognizer: all trees of a category with a number of nodes, with their yields.
 
-use std::collections::HashMap;
 use std::rc::Rc;
 
 use crate::grammar::{Body, Grammar};
@@ -16,7 +15,8 @@ struct Derived {
 /// The lists of all trees with at most this many nodes that derive the sentence, or nothing where looking for them takes more than
 /// `most` steps of putting trees together.
 pub fn trees_of(grammar: &Grammar, sentence: &[u16], node_limit: usize, most: usize) -> Option<Vec<Vec<u16>>> {
-    let mut trees = Trees { grammar, sentence, most, made: HashMap::new() };
+    let made = vec![vec![None; node_limit + 1]; grammar.dimensions.len()];
+    let mut trees = Trees { grammar, sentence, most, made };
     let mut found = Vec::new();
     for nodes in 1..=node_limit {
         for tree in trees.of(grammar.start, nodes)?.iter() {
@@ -32,14 +32,15 @@ struct Trees<'a> {
     grammar: &'a Grammar,
     sentence: &'a [u16],
     most: usize,
-    made: HashMap<(usize, usize), Rc<Vec<Derived>>>,
+    /// By category and number of nodes, as far as known.
+    made: Vec<Vec<Option<Rc<Vec<Derived>>>>>,
 }
 
 impl Trees<'_> {
     /// All trees of a category with exactly this many nodes, but for those with a string that is no part of the sentence: no tree that
     /// derives the sentence has them in it.
     fn of(&mut self, category: usize, nodes: usize) -> Option<Rc<Vec<Derived>>> {
-        if let Some(known) = self.made.get(&(category, nodes)) {
+        if let Some(known) = &self.made[category][nodes] {
             return Some(known.clone());
         }
         let mut all = Vec::new();
@@ -62,7 +63,7 @@ impl Trees<'_> {
             }
         }
         let all = Rc::new(all);
-        self.made.insert((category, nodes), all.clone());
+        self.made[category][nodes] = Some(all.clone());
         Some(all)
     }
 

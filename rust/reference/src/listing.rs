@@ -9,7 +9,7 @@ use crate::tree::tree_to_trace;
 
 /// Trees are looked for in at most this many steps. Past it the complete live prefixes are the listing; the tests show that both are
 /// the same wherever both are known.
-const MOST_STEPS: usize = 20_000;
+const MOST_STEPS: usize = 5_000;
 
 pub struct Listing {
     pub effort: u64,
