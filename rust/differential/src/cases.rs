@@ -160,7 +160,7 @@ fn wrong_analyses(pair: &mut Pair, rng: &mut Rng, made: &Made, analysis: &Analys
 fn counts(pair: &mut Pair, rng: &mut Rng, made: &Made, sentence: &[u16], nodes: usize) -> Done {
     let any = rng.from_to(1, 96);
     let node_limit = rng.pick(&[nodes, nodes, nodes + 1, nodes + 2, nodes - 1, any]).clamp(1, 96);
-    let most = if rng.chance(95) { 300 } else { 5_000 };
+    let most = if made.grammar.rules.len() < 30 && rng.chance(5) { 5_000 } else { 300 };
     let n = node_limit as u64;
     let Some(live) = live_prefixes(&made.grammar, sentence, node_limit, most) else {
         for limit in [1, most / 2, most] {

@@ -1,6 +1,6 @@
 //! Live prefixes, one by one ("Counting and listing"): the effort, and those that are whole traces.
 
-use crate::grammar::Grammar;
+use crate::grammar::{Body, Grammar};
 use crate::trace::{step, State};
 
 pub struct Live {
@@ -42,6 +42,10 @@ impl Search<'_> {
             live.complete.push(prefix.clone());
         }
         for rule in 0..self.grammar.rules.len() as u16 {
+            // a step to a queue that is too long need not be tried
+            if prefix.len() + state.queue.len() + self.daughters(rule) > self.node_limit {
+                continue;
+            }
             if let Ok(next) = step(self.grammar, self.sentence, state, rule, prefix.len()) {
                 prefix.push(rule);
                 let within = self.visit(prefix, &next, live);
@@ -52,5 +56,12 @@ impl Search<'_> {
             }
         }
         true
+    }
+
+    fn daughters(&self, rule: u16) -> usize {
+        match &self.grammar.rules[rule as usize].body {
+            Body::Lexical(_) => 0,
+            Body::Nonlexical { daughters, .. } => daughters.len(),
+        }
     }
 }
