@@ -18,7 +18,10 @@ pub fn random(rng: &mut Rng, grammar: &Grammar, most: usize) -> Option<Analysis>
     if least[grammar.start] > most {
         return None;
     }
-    let (tree, strings) = node(rng, grammar, &least, grammar.start, most);
+    // mostly the largest of some, since a random tree is small more often than not
+    let tries = rng.pick(&[1, 3, 6, 10]);
+    let trees = (0..tries).map(|_| node(rng, grammar, &least, grammar.start, most));
+    let (tree, strings) = trees.max_by_key(|(tree, _)| tree.len()).expect("one at least");
     let sentence = strings[0].clone();
     let trace = tree_to_trace(grammar, &sentence, &tree).expect("the tree derives its yield");
     Some(Analysis { sentence, tree, trace })

@@ -160,7 +160,7 @@ fn wrong_analyses(pair: &mut Pair, rng: &mut Rng, made: &Made, analysis: &Analys
 fn counts(pair: &mut Pair, rng: &mut Rng, made: &Made, sentence: &[u16], nodes: usize) -> Done {
     let any = rng.from_to(1, 96);
     let node_limit = rng.pick(&[nodes, nodes, nodes + 1, nodes + 2, nodes - 1, any]).clamp(1, 96);
-    let most = if made.grammar.rules.len() < 30 && rng.chance(5) { 5_000 } else { 300 };
+    let most = if made.grammar.rules.len() < 30 { rng.pick(&[300, 300, 300, 300, 1_000, 1_000, 1_000, 4_000]) } else { 300 };
     let n = node_limit as u64;
     let Some(live) = live_prefixes(&made.grammar, sentence, node_limit, most) else {
         for limit in [1, most / 2, most] {
@@ -174,10 +174,12 @@ fn counts(pair: &mut Pair, rng: &mut Rng, made: &Made, sentence: &[u16], nodes: 
         pair.tally.agreements += 1;
     }
     let (effort, count) = (live.effort, live.complete.len() as u64);
-    for limit in [effort - 1, effort, effort + 1, rng.pick(&[0, 1, effort / 2, 1_000_000_000, 1_000_000_001, (1 << 32) + effort, u64::MAX])]
-    {
+    let other = rng.pick(&[0, 1, effort / 2, 1_000_000_000, 1_000_000_001, (1 << 32) + effort, u64::MAX]);
+    for limit in [effort - 1, effort, effort + 1, other] {
         pair.count(&made.file, sentence, n, limit)?;
     }
+    let no_sentence = [sentence, &[65_535]].concat();
+    pair.count(&made.file, &no_sentence, n, rng.pick(&[0, 1_000_000_001, u64::MAX]))?;
     let far = rng.pick(&[0, 97, 256 + n, 65_536 + n, (1 << 32) + n, u64::MAX]);
     pair.count(&made.file, sentence, far, effort)?;
     for m in [0, count.saturating_sub(1), count, rng.next() % (count + 1)] {
@@ -203,7 +205,7 @@ fn mixed(pair: &mut Pair, rng: &mut Rng, made: &Made, analysis: Option<&Analysis
             _ => (analyses::any_list(rng, &made.grammar), analyses::any_list(rng, &made.grammar)),
         };
         let node_limit = rng.pick(&[0, 1, 5, tree.len() as u64, 96, 97, (1 << 32) + 5]);
-        let effort_limit = rng.pick(&[0, 1, 30, 30, 100, 1_000_000_001, (1 << 32) + 100]);
+        let effort_limit = rng.pick(&[0, 1, 30, 30, 100]);
         let m = rng.pick(&[0, 0, 1, 1 << 32]);
         pair.check_trace(&file, &sentence, &trace)?;
         pair.check_tree(&file, &sentence, &tree)?;

@@ -70,7 +70,8 @@ fn sized(rng: &mut Rng, categories: (usize, usize), rules: (usize, usize), words
     let mut dimensions: Vec<u8> = (0..categories).map(|_| rng.pick(row)).collect();
     dimensions[start] = 1;
     let mut maker = Maker { dimensions, words, known: HashSet::new(), records: vec![] };
-    maker.base_rules(rng, rules);
+    let with_trees = maker.base_rules(rng, rules);
+    maker.start_rules(rng, rules, start, &with_trees);
     for _ in 0..20 * rules {
         if maker.records.len() < rules {
             maker.any_rule(rng);
@@ -100,8 +101,8 @@ impl Maker {
         }
     }
 
-    /// For most categories a rule whose daughters have trees already, so that they have trees themselves.
-    fn base_rules(&mut self, rng: &mut Rng, most: usize) {
+    /// For most categories a rule whose daughters have trees already, so that they have trees themselves; gives these categories.
+    fn base_rules(&mut self, rng: &mut Rng, most: usize) -> Vec<usize> {
         let mut order: Vec<usize> = (0..self.dimensions.len()).collect();
         rng.shuffle(&mut order);
         order.sort_by_key(|&category| self.dimensions[category] != 1);
@@ -123,6 +124,23 @@ impl Maker {
                 self.keep(record);
             }
             with_trees.push(category);
+        }
+        with_trees
+    }
+
+    /// Some rules for the start, of daughters that have trees, those of high dimensions first.
+    fn start_rules(&mut self, rng: &mut Rng, most: usize, start: usize, with_trees: &[usize]) {
+        let highest = with_trees.iter().map(|&category| self.dimensions[category]).max().unwrap_or(0);
+        let high: Vec<usize> = with_trees.iter().copied().filter(|&category| self.dimensions[category] == highest).collect();
+        for _ in 0..rng.pick(&[0, 1, 2, 3]) {
+            if self.records.len() == most || with_trees.is_empty() {
+                return;
+            }
+            let from = if rng.chance(60) { &high } else { with_trees };
+            let count = rng.pick(&[1, 2, 3]);
+            let daughters: Vec<usize> = (0..count).map(|_| rng.pick(from)).collect();
+            let record = self.nonlexical(rng, start, &daughters);
+            self.keep(record);
         }
     }
 

@@ -46,3 +46,20 @@ fn found(copy: &dyn Calls, seed: u64) -> Option<String> {
         Ok(()) => None,
     }
 }
+
+#[cfg(test)]
+mod tests {
+    use super::*;
+    use reference::Reference;
+
+    /// The fixed inputs and some random cases meet every refusal, and the reference does not differ from itself.
+    #[test]
+    fn every_refusal_is_met() {
+        let mut pair = Pair::new(&Reference);
+        assert!(fixed(&mut pair).is_ok());
+        for number in 0..150 {
+            assert!(case(&mut pair, &mut Rng::new(1, number)).is_ok());
+        }
+        assert_eq!(pair.tally.missing(), Vec::<String>::new());
+    }
+}
