@@ -47,7 +47,7 @@ fn files(pair: &mut Pair, rng: &mut Rng, made: &Made) -> Done {
     pair.read_grammar(&made.file)?;
     pair.survey(&made.file, rng.from_to(96, 130))?;
     pair.survey(&made.file, output(rng))?;
-    for _ in 0..12 {
+    for _ in 0..20 {
         let file = damage::damaged(rng, made);
         pair.read_grammar(&file)?;
         if rng.chance(20) {
@@ -136,7 +136,7 @@ fn right_analysis(pair: &mut Pair, rng: &mut Rng, made: &Made, analysis: &Analys
 }
 
 fn wrong_analyses(pair: &mut Pair, rng: &mut Rng, made: &Made, analysis: &Analysis) -> Done {
-    for _ in 0..6 {
+    for _ in 0..10 {
         let sentence = match rng.below(3) {
             0 => analyses::changed_sentence(rng, &made.grammar, &analysis.sentence),
             _ => analysis.sentence.clone(),

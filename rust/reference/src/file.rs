@@ -2,7 +2,7 @@
 
 use crate::calls::{Heading, Refusal};
 use crate::grammar::Grammar;
-use crate::record::{read_records, Setting, RECORD};
+use crate::record::{read_records, records_in, Record, Setting, RECORD};
 
 pub const BLOCK: usize = 512;
 pub const RECORDS_IN_BLOCK: usize = 21;
@@ -36,7 +36,7 @@ pub fn read(file: &[u8]) -> Result<Grammar, Refusal> {
             return Err(Refusal::grammar(5, k));
         }
     }
-    let records: Vec<&[u8]> = blocks[1..].iter().flat_map(|block| block[4..508].chunks(RECORD)).take(rules).collect();
+    let records: Vec<Record> = blocks[1..].iter().flat_map(|block| records_in(&block[4..508])).take(rules).collect();
     let setting = setting_of(&heading);
     let read = read_records(&setting, &records)?;
     let last = blocks.len() - 1;

@@ -2,7 +2,7 @@
 
 use crate::calls::{Heading, Refusal};
 use crate::file::{check, records_held, setting_of, wrong_heading, BLOCK, RECORDS_IN_BLOCK};
-use crate::record::{read_records, RECORD};
+use crate::record::{read_records, records_in, RECORD};
 
 /// The file of this heading and these records, refused as the reader would refuse it.
 pub fn write(heading: &Heading, records: &[u8]) -> Result<Vec<u8>, Refusal> {
@@ -13,7 +13,7 @@ pub fn write(heading: &Heading, records: &[u8]) -> Result<Vec<u8>, Refusal> {
     if records.len() != RECORD * rules {
         return Err(Refusal::grammar(5, 0));
     }
-    read_records(&setting_of(heading), &records.chunks(RECORD).collect::<Vec<_>>())?;
+    read_records(&setting_of(heading), &records_in(records).collect::<Vec<_>>())?;
     let mut file = sealed(heading_block(heading));
     for (i, held) in records.chunks(RECORD * RECORDS_IN_BLOCK).enumerate() {
         let k = i + 1;
