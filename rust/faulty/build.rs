@@ -30,7 +30,7 @@ fn source(module: &str) -> String {
     fs::read_to_string(&path).unwrap_or_else(|error| panic!("{path}: {error}"))
 }
 
-/// The module with the fault and those that use it, one inside the other's module; all others are the reference's.
+/// The module with the fault and all modules that use it, together in one module; the others stay the reference's.
 fn copy(name: &str, texts: &[(&str, String)], fault: Option<&Fault>) -> String {
     let copied = match fault {
         Some(fault) => users(fault.1, texts),

@@ -82,9 +82,9 @@ fn run(tested: &dyn Calls, options: &Options) -> bool {
     if options.program.is_some() {
         println!("{} runs of the program", tally.programs);
     }
-    for missing in tally.missing() {
-        println!("{missing}");
-    }
     println!("{} inputs compared, {case} random cases, {:.1} s, no difference", tally.inputs(), start.elapsed().as_secs_f64());
+    for missing in tally.missing() {
+        println!("failed: {missing}");
+    }
     tally.missing().is_empty()
 }
