@@ -1,0 +1,218 @@
+//! One random case: a grammar with files, writer inputs, analyses and counts made from it.
+
+use reference::file::{heading_of, BLOCK};
+use reference::listing::traces_of_trees;
+use reference::live::live_prefixes;
+
+use crate::analyses::{self, Analysis};
+use crate::compare::{Difference, Pair};
+use crate::damage;
+use crate::grammars::{self, Made};
+use crate::rng::Rng;
+use crate::show::show_file;
+use crate::tally::Call;
+
+type Done = Result<(), Difference>;
+
+pub fn case(pair: &mut Pair, rng: &mut Rng) -> Done {
+    let made = grammars::random(rng);
+    files(pair, rng, &made)?;
+    writer(pair, rng, &made)?;
+    let most = rng.pick(&[4, 6, 8, 10, 12, 16, 30, 60, 96]);
+    let analysis = analyses::random(rng, &made.grammar, most);
+    if let Some(analysis) = &analysis {
+        right_analysis(pair, rng, &made, analysis)?;
+        wrong_analyses(pair, rng, &made, analysis)?;
+    }
+    let sentence = match &analysis {
+        Some(analysis) if rng.chance(80) => analysis.sentence.clone(),
+        _ => analyses::any_sentence(rng, &made.grammar),
+    };
+    let nodes = analysis.as_ref().map_or(3, |analysis| analysis.tree.len());
+    counts(pair, rng, &made, &sentence, nodes)?;
+    mixed(pair, rng, &made, analysis.as_ref())
+}
+
+/// The length of an output of numbers: mostly enough, often at the border.
+fn output(rng: &mut Rng) -> usize {
+    match rng.below(10) {
+        0 => rng.from_to(0, 200),
+        1 => rng.pick(&[0, 1, 94, 95]),
+        2..=5 => 96,
+        _ => rng.from_to(96, 200),
+    }
+}
+
+fn files(pair: &mut Pair, rng: &mut Rng, made: &Made) -> Done {
+    pair.read_grammar(&made.file)?;
+    pair.survey(&made.file, rng.from_to(96, 130))?;
+    pair.survey(&made.file, output(rng))?;
+    for _ in 0..20 {
+        let file = damage::damaged(rng, made);
+        pair.read_grammar(&file)?;
+        if rng.chance(20) {
+            pair.survey(&file, output(rng))?;
+        }
+    }
+    Ok(())
+}
+
+fn writer(pair: &mut Pair, rng: &mut Rng, made: &Made) -> Done {
+    let length = made.file.len();
+    round_trip_of_file(pair, made)?;
+    pair.write_grammar(&made.heading, &made.records, length)?;
+    pair.write_grammar(&made.heading, &made.records, length - 1)?;
+    for _ in 0..6 {
+        let (mut heading, mut records) = (made.heading.clone(), made.records.clone());
+        for _ in 0..rng.pick(&[1, 1, 2]) {
+            match rng.below(9) {
+                0 => heading.categories = rng.pick(&[0, 64, 65, 255, heading.categories + 1, heading.categories - 1]),
+                1 => heading.start = rng.pick(&[0, heading.categories, 255, heading.start + 1]),
+                2 => heading.words = rng.pick(&[0, 1, 4096, 4097, 65_535]),
+                3 => heading.rules = rng.pick(&[0, 1, 256, 257, 512, 65_535, heading.rules + 1, heading.rules - 1]),
+                4 => {
+                    let i = rng.below(heading.dimensions.len().max(1));
+                    if i < heading.dimensions.len() {
+                        heading.dimensions[i] = rng.pick(&[0, 1, 2, 4, 5, 255]);
+                    }
+                }
+                5 => heading.dimensions.resize(rng.pick(&[0, 1, 63, 64, 65, 128]), 0),
+                6 => records.resize(rng.pick(&[0, 1, 23, 24, records.len() + 1, records.len() + 24, records.len() / 2]), 0),
+                _ if records.len() >= 24 => {
+                    let r = 24 * rng.below(records.len() / 24);
+                    damage::record(rng, made, &mut records[r..r + 24]);
+                    let other = 24 * rng.below(records.len() / 24);
+                    if rng.chance(20) {
+                        records.copy_within(r..r + 24, other);
+                    }
+                }
+                _ => {}
+            }
+        }
+        if rng.chance(20) {
+            // as many record bytes as the heading says
+            records.resize(24 * heading.rules as usize, 0);
+        }
+        let out = rng.pick(&[0, 512, length - 1, length, length, length + 1, length + 600, 14 * 512]);
+        pair.write_grammar(&heading, &records, out)?;
+    }
+    Ok(())
+}
+
+/// The fields of the file, read off its bytes and written again, are the same bytes.
+fn round_trip_of_file(pair: &mut Pair, made: &Made) -> Done {
+    let heading = heading_of(&made.file[..BLOCK]);
+    let rule_blocks = made.file[BLOCK..].chunks(BLOCK);
+    let records: Vec<u8> = rule_blocks.flat_map(|block| &block[4..508]).copied().take(24 * heading.rules as usize).collect();
+    let mut out = vec![0; made.file.len()];
+    pair.tested.write_grammar(&heading, &records, &mut out);
+    if out != made.file {
+        return Err(Difference {
+            call: Call::WriteGrammar,
+            text: format!("a file written again is another one\n{}", show_file(&made.file)),
+        });
+    }
+    pair.tally.round_trips += 1;
+    Ok(())
+}
+
+fn right_analysis(pair: &mut Pair, rng: &mut Rng, made: &Made, analysis: &Analysis) -> Done {
+    let Analysis { sentence, tree, trace } = analysis;
+    pair.check_trace(&made.file, sentence, trace)?;
+    pair.check_tree(&made.file, sentence, tree)?;
+    pair.trace_to_tree(&made.file, sentence, trace, output(rng))?;
+    pair.tree_to_trace(&made.file, sentence, tree, output(rng))?;
+    let (mut there, mut back) = ([0; 96], [0; 96]);
+    pair.tested.trace_to_tree(&made.file, sentence, trace, &mut there);
+    pair.tested.tree_to_trace(&made.file, sentence, &there[..trace.len()], &mut back);
+    if back[..trace.len()] != trace[..] {
+        return Err(Difference { call: Call::TreeToTrace, text: format!("the trace {trace:?} comes back as another one") });
+    }
+    pair.tally.round_trips += 1;
+    // each list taken for the other
+    pair.check_trace(&made.file, sentence, tree)?;
+    pair.check_tree(&made.file, sentence, trace)?;
+    Ok(())
+}
+
+fn wrong_analyses(pair: &mut Pair, rng: &mut Rng, made: &Made, analysis: &Analysis) -> Done {
+    for _ in 0..10 {
+        let sentence = match rng.below(3) {
+            0 => analyses::changed_sentence(rng, &made.grammar, &analysis.sentence),
+            _ => analysis.sentence.clone(),
+        };
+        let trace = analyses::changed_list(rng, &made.grammar, &analysis.trace);
+        let tree = analyses::changed_list(rng, &made.grammar, &analysis.tree);
+        pair.check_trace(&made.file, &sentence, &trace)?;
+        pair.check_tree(&made.file, &sentence, &tree)?;
+        pair.trace_to_tree(&made.file, &sentence, &trace, output(rng))?;
+        pair.tree_to_trace(&made.file, &sentence, &tree, output(rng))?;
+    }
+    for _ in 0..3 {
+        let sentence = analyses::changed_sentence(rng, &made.grammar, &analysis.sentence);
+        pair.check_trace(&made.file, &sentence, &analysis.trace)?;
+        pair.check_tree(&made.file, &sentence, &analysis.tree)?;
+    }
+    Ok(())
+}
+
+/// Counts and entries around the effort and the count of one sentence.
+fn counts(pair: &mut Pair, rng: &mut Rng, made: &Made, sentence: &[u16], nodes: usize) -> Done {
+    let any = rng.from_to(1, 96);
+    let node_limit = rng.pick(&[nodes, nodes, nodes + 1, nodes + 2, nodes - 1, any]).clamp(1, 96);
+    let most = if made.grammar.rules.len() < 30 { rng.pick(&[300, 300, 300, 300, 1_000, 1_000, 1_000, 4_000]) } else { 300 };
+    let n = node_limit as u64;
+    let Some(live) = live_prefixes(&made.grammar, sentence, node_limit, most) else {
+        for limit in [1, most / 2, most] {
+            pair.count(&made.file, sentence, n, limit)?;
+        }
+        pair.entry(&made.file, sentence, (n, most), 0, output(rng))?;
+        return Ok(());
+    };
+    if let Some(traces) = traces_of_trees(&made.grammar, sentence, node_limit, 5_000) {
+        assert_eq!(traces, live.complete, "the reference's trees and live prefixes differ");
+        pair.tally.agreements += 1;
+    }
+    let (effort, count) = (live.effort, live.complete.len() as u64);
+    let other = rng.pick(&[0, 1, effort / 2, 1_000_000_000, 1_000_000_001, (1 << 32) + effort, u64::MAX]);
+    for limit in [effort - 1, effort, effort + 1, other] {
+        pair.count(&made.file, sentence, n, limit)?;
+    }
+    let no_sentence = [sentence, &[65_535]].concat();
+    pair.count(&made.file, &no_sentence, n, rng.pick(&[0, 1_000_000_001, u64::MAX]))?;
+    let far = rng.pick(&[0, 97, 256 + n, 65_536 + n, (1 << 32) + n, u64::MAX]);
+    pair.count(&made.file, sentence, far, effort)?;
+    for m in [0, count.saturating_sub(1), count, rng.next() % (count + 1)] {
+        pair.entry(&made.file, sentence, (n, effort), m, output(rng))?;
+    }
+    let far = rng.pick(&[count + 1, 65_536, 1 << 32, u64::MAX]);
+    pair.entry(&made.file, sentence, (n, effort), far, 96)?;
+    pair.entry(&made.file, sentence, (n, effort - 1), rng.pick(&[0, count]), 96)?;
+    Ok(())
+}
+
+/// Every argument right or wrong by itself, so that two tests meet and the first one answers.
+fn mixed(pair: &mut Pair, rng: &mut Rng, made: &Made, analysis: Option<&Analysis>) -> Done {
+    for _ in 0..4 {
+        let file = if rng.chance(70) { made.file.clone() } else { damage::damaged(rng, made) };
+        let sentence = match (rng.below(4), analysis) {
+            (0 | 1, Some(analysis)) => analysis.sentence.clone(),
+            (2, Some(analysis)) => analyses::changed_sentence(rng, &made.grammar, &analysis.sentence),
+            _ => analyses::any_sentence(rng, &made.grammar),
+        };
+        let (trace, tree) = match analysis {
+            Some(analysis) if rng.chance(60) => (analysis.trace.clone(), analysis.tree.clone()),
+            _ => (analyses::any_list(rng, &made.grammar), analyses::any_list(rng, &made.grammar)),
+        };
+        let node_limit = rng.pick(&[0, 1, 5, tree.len() as u64, 96, 97, (1 << 32) + 5]);
+        let effort_limit = rng.pick(&[0, 1, 30, 30, 100]);
+        let m = rng.pick(&[0, 0, 1, 1 << 32]);
+        pair.check_trace(&file, &sentence, &trace)?;
+        pair.check_tree(&file, &sentence, &tree)?;
+        pair.trace_to_tree(&file, &sentence, &trace, output(rng))?;
+        pair.tree_to_trace(&file, &sentence, &tree, output(rng))?;
+        pair.count(&file, &sentence, node_limit, effort_limit)?;
+        pair.entry(&file, &sentence, (node_limit, effort_limit), m, output(rng))?;
+    }
+    Ok(())
+}

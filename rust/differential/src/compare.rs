@@ -1,0 +1,153 @@
+//! One input to both sides: the answers and every number of every lent buffer are the same.
+
+use std::fmt;
+
+use reference::survey::survey_is_right;
+use reference::{Answer, Calls, Heading, Reference};
+
+use crate::show::{show_file, show_heading};
+use crate::tally::{Call, Tally};
+
+/// Both sides, and what they met so far.
+pub struct Pair<'a> {
+    pub tested: &'a dyn Calls,
+    pub tally: Tally,
+}
+
+/// An input on which the tested side differs from the reference.
+pub struct Difference {
+    pub call: Call,
+    pub text: String,
+}
+
+impl fmt::Display for Difference {
+    fn fmt(&self, f: &mut fmt::Formatter) -> fmt::Result {
+        write!(f, "{:?} differs from the reference\n{}", self.call, self.text)
+    }
+}
+
+pub type Outcome = Result<Answer, Difference>;
+
+/// Numbers on both sides of a lent buffer that no call may touch.
+const FENCE: usize = 8;
+
+/// A buffer of this length filled with a pattern, between two fences.
+fn lent<T: TryFrom<usize>>(length: usize, salt: usize) -> Vec<T> {
+    let pattern = |i: usize| T::try_from((i * 37 + salt * 11 + 5) % 251).ok().expect("below 251");
+    (0..length + 2 * FENCE).map(pattern).collect()
+}
+
+/// The first place where the buffers differ.
+fn first_difference<T: PartialEq + fmt::Debug>(tested: &[T], expected: &[T]) -> Option<String> {
+    let i = tested.iter().zip(expected).position(|(a, b)| a != b)?;
+    let place = i as isize - FENCE as isize;
+    Some(format!("buffer at {place}: {:?}, not {:?}", tested[i], expected[i]))
+}
+
+impl Pair<'_> {
+    pub fn new(tested: &dyn Calls) -> Pair<'_> {
+        Pair { tested, tally: Tally::new() }
+    }
+
+    /// Takes both answers and the difference of the buffers into the tally, or makes a report.
+    fn settle(&mut self, call: Call, answers: (Answer, Answer), buffer: Option<String>, input: impl FnOnce() -> String) -> Outcome {
+        let (tested, expected) = answers;
+        if tested != expected || buffer.is_some() {
+            let buffer = buffer.unwrap_or_default();
+            let text = format!("answer   {tested:?}\nexpected {expected:?}\n{buffer}\n{}", input());
+            return Err(Difference { call, text });
+        }
+        self.tally.add(call, expected);
+        Ok(expected)
+    }
+
+    pub fn read_grammar(&mut self, file: &[u8]) -> Outcome {
+        let answers = (self.tested.read_grammar(file), Reference.read_grammar(file));
+        self.settle(Call::ReadGrammar, answers, None, || show_file(file))
+    }
+
+    pub fn write_grammar(&mut self, heading: &Heading, records: &[u8], out: usize) -> Outcome {
+        let mut tested: Vec<u8> = lent(out, records.len());
+        let mut expected = tested.clone();
+        let to = FENCE + out;
+        let answers = (
+            self.tested.write_grammar(heading, records, &mut tested[FENCE..to]),
+            Reference.write_grammar(heading, records, &mut expected[FENCE..to]),
+        );
+        let input = || format!("output of {out}\n{}", show_heading(heading, records));
+        self.settle(Call::WriteGrammar, answers, first_difference(&tested, &expected), input)
+    }
+
+    pub fn check_trace(&mut self, file: &[u8], sentence: &[u16], trace: &[u16]) -> Outcome {
+        let answers = (self.tested.check_trace(file, sentence, trace), Reference.check_trace(file, sentence, trace));
+        let input = || format!("sentence {sentence:?}\ntrace {trace:?}\n{}", show_file(file));
+        self.settle(Call::CheckTrace, answers, None, input)
+    }
+
+    pub fn check_tree(&mut self, file: &[u8], sentence: &[u16], tree: &[u16]) -> Outcome {
+        let answers = (self.tested.check_tree(file, sentence, tree), Reference.check_tree(file, sentence, tree));
+        let input = || format!("sentence {sentence:?}\ntree {tree:?}\n{}", show_file(file));
+        self.settle(Call::CheckTree, answers, None, input)
+    }
+
+    pub fn trace_to_tree(&mut self, file: &[u8], sentence: &[u16], trace: &[u16], out: usize) -> Outcome {
+        let mut tested: Vec<u16> = lent(out, trace.len());
+        let mut expected = tested.clone();
+        let to = FENCE + out;
+        let answers = (
+            self.tested.trace_to_tree(file, sentence, trace, &mut tested[FENCE..to]),
+            Reference.trace_to_tree(file, sentence, trace, &mut expected[FENCE..to]),
+        );
+        let input = || format!("output of {out}\nsentence {sentence:?}\ntrace {trace:?}\n{}", show_file(file));
+        self.settle(Call::TraceToTree, answers, first_difference(&tested, &expected), input)
+    }
+
+    pub fn tree_to_trace(&mut self, file: &[u8], sentence: &[u16], tree: &[u16], out: usize) -> Outcome {
+        let mut tested: Vec<u16> = lent(out, tree.len());
+        let mut expected = tested.clone();
+        let to = FENCE + out;
+        let answers = (
+            self.tested.tree_to_trace(file, sentence, tree, &mut tested[FENCE..to]),
+            Reference.tree_to_trace(file, sentence, tree, &mut expected[FENCE..to]),
+        );
+        let input = || format!("output of {out}\nsentence {sentence:?}\ntree {tree:?}\n{}", show_file(file));
+        self.settle(Call::TreeToTrace, answers, first_difference(&tested, &expected), input)
+    }
+
+    pub fn count(&mut self, file: &[u8], sentence: &[u16], node_limit: u64, effort_limit: u64) -> Outcome {
+        let answers =
+            (self.tested.count(file, sentence, node_limit, effort_limit), Reference.count(file, sentence, node_limit, effort_limit));
+        let input = || format!("sentence {sentence:?}\nlimits {node_limit} {effort_limit}\n{}", show_file(file));
+        self.settle(Call::Count, answers, None, input)
+    }
+
+    pub fn entry(&mut self, file: &[u8], sentence: &[u16], limits: (u64, u64), m: u64, out: usize) -> Outcome {
+        let mut tested: Vec<u16> = lent(out, m as usize % 1000);
+        let mut expected = tested.clone();
+        let to = FENCE + out;
+        let answers = (
+            self.tested.entry(file, sentence, limits.0, limits.1, m, &mut tested[FENCE..to]),
+            Reference.entry(file, sentence, limits.0, limits.1, m, &mut expected[FENCE..to]),
+        );
+        let input = || format!("output of {out}\nsentence {sentence:?}\nlimits {limits:?} entry {m}\n{}", show_file(file));
+        self.settle(Call::Entry, answers, first_difference(&tested, &expected), input)
+    }
+
+    /// The figures are free within document 01's line; all else is compared.
+    pub fn survey(&mut self, file: &[u8], out: usize) -> Outcome {
+        let mut tested: Vec<u16> = lent(out, file.len());
+        let mut expected = tested.clone();
+        let to = FENCE + out;
+        let answers = (self.tested.survey(file, &mut tested[FENCE..to]), Reference.survey(file, &mut expected[FENCE..to]));
+        let mut wrong = None;
+        if let Answer::Accepted(categories) = answers.1 {
+            let written = FENCE..FENCE + categories as usize;
+            if !survey_is_right(file, &tested[written.clone()]) {
+                wrong = Some(format!("figures {:?}, least {:?}", &tested[written.clone()], &expected[written.clone()]));
+            }
+            expected[written.clone()].copy_from_slice(&tested[written]);
+        }
+        let buffer = wrong.or(first_difference(&tested, &expected));
+        self.settle(Call::Survey, answers, buffer, || format!("output of {out}\n{}", show_file(file)))
+    }
+}

@@ -1,0 +1,249 @@
+//! Inputs that are the same in every run: K3 to K10 of document 01, and everything that can be gone through one by one.
+
+use reference::file::BLOCK;
+use reference::live::live_prefixes;
+
+use crate::compare::{Difference, Pair};
+use crate::damage::seal;
+use crate::grammars::{Made, TEXTS};
+
+type Done = Result<(), Difference>;
+
+pub fn fixed(pair: &mut Pair) -> Done {
+    known(pair)?;
+    lengths_of_lists(pair)?;
+    lengths_of_outputs(pair)?;
+    limits(pair)?;
+    entries(pair)?;
+    numbers_of_rules(pair)?;
+    writer(pair)?;
+    lengths_of_files(pair)?;
+    bytes_of_files(pair)
+}
+
+fn copy() -> Made {
+    Made::of_text(TEXTS[0])
+}
+
+fn pair_grammar() -> Made {
+    Made::of_text(TEXTS[1])
+}
+
+/// A grammar of as many rules as words, all of one category.
+fn words(rules: usize) -> Made {
+    Made::of_text(&(0..rules).map(|word| format!("S <- {word}\n")).collect::<String>())
+}
+
+/// K3 to K10.
+fn known(pair: &mut Pair) -> Done {
+    let file = &copy().file;
+    let sentence = &[0, 1, 0, 1];
+    pair.check_trace(file, sentence, &[0, 1, 5, 4, 6, 5, 6])?;
+    pair.trace_to_tree(file, sentence, &[0, 1, 5, 4, 6, 5, 6], 96)?;
+    pair.tree_to_trace(file, sentence, &[0, 1, 5, 4, 6, 6, 5], 96)?;
+    pair.check_trace(file, sentence, &[0, 1, 5, 4, 6, 6, 5])?;
+    pair.count(file, sentence, 7, 13)?;
+    pair.count(file, sentence, 7, 12)?;
+    pair.count(file, sentence, 6, 1000)?;
+    for sentence in [&[0, 0][..], &[0, 1], &[0, 0, 0]] {
+        pair.check_trace(file, sentence, &[0, 3, 5, 5])?;
+    }
+    for trace in [&[0, 1, 5][..], &[0, 3, 5, 5, 5]] {
+        pair.check_trace(file, &[0, 0], trace)?;
+    }
+    for tree in [&[0, 3, 5][..], &[0, 3, 5, 6], &[0, 3, 5, 5, 5], &[0, 3, 5, 5]] {
+        pair.check_tree(file, &[0, 0], tree)?;
+    }
+    let file = &pair_grammar().file;
+    pair.count(file, &[0, 0, 0], 5, 1_000_000)?;
+    for m in 0..3 {
+        pair.entry(file, &[0, 0, 0], (5, 1_000_000), m, 96)?;
+    }
+    Ok(())
+}
+
+/// Sentences, traces and trees of every length from 0 to 130.
+fn lengths_of_lists(pair: &mut Pair) -> Done {
+    let file = &pair_grammar().file;
+    for n in 0..=130 {
+        let sentence = vec![0; n];
+        // the trace of n words put into pairs from the left
+        let mut trace = vec![0; n.saturating_sub(1)];
+        trace.extend(vec![1; n]);
+        for length in [trace.len(), n] {
+            trace.truncate(length);
+            pair.check_trace(file, &sentence, &trace)?;
+            pair.check_tree(file, &sentence, &trace)?;
+            pair.trace_to_tree(file, &sentence, &trace, 96)?;
+            pair.tree_to_trace(file, &sentence, &trace, 96)?;
+        }
+        pair.count(file, &sentence, 9, 500)?;
+        pair.entry(file, &sentence, (9, 500), 0, 96)?;
+        for last in [1, 65_535] {
+            let mut sentence = sentence.clone();
+            sentence.push(last);
+            pair.check_trace(file, &sentence, &[0])?;
+            pair.count(file, &sentence, 9, 500)?;
+        }
+    }
+    Ok(())
+}
+
+/// Outputs of every length from 0 to 200.
+fn lengths_of_outputs(pair: &mut Pair) -> Done {
+    let file = &copy().file;
+    let sentence = &[0, 1, 0, 1];
+    for out in 0..=200 {
+        pair.trace_to_tree(file, sentence, &[0, 1, 5, 4, 6, 5, 6], out)?;
+        pair.trace_to_tree(file, sentence, &[0, 1, 5, 4, 6, 6, 5], out)?;
+        pair.tree_to_trace(file, sentence, &[0, 1, 5, 4, 6, 6, 5], out)?;
+        pair.tree_to_trace(file, sentence, &[0, 1, 5, 4, 6, 5, 6], out)?;
+        pair.entry(file, sentence, (7, 13), 0, out)?;
+        pair.entry(file, sentence, (7, 12), 0, out)?;
+        pair.entry(file, sentence, (7, 13), 1, out)?;
+        pair.survey(file, out)?;
+    }
+    Ok(())
+}
+
+/// Every node limit from 0 to 100, and every effort limit up to past the effort.
+fn limits(pair: &mut Pair) -> Done {
+    for text in TEXTS {
+        let made = Made::of_text(text);
+        for sentence in [&[][..], &[0], &[0, 0], &[0, 1, 0, 1], &[0, 0, 0, 0, 0, 0]] {
+            for node_limit in 0..=100 {
+                pair.count(&made.file, sentence, node_limit, 60)?;
+                pair.entry(&made.file, sentence, (node_limit, 60), 0, 96)?;
+            }
+            for node_limit in [1, 5, 6, 7, 10] {
+                let effort = live_prefixes(&made.grammar, sentence, node_limit, 100).map_or(100, |live| live.effort);
+                for effort_limit in 0..=effort + 3 {
+                    pair.count(&made.file, sentence, node_limit as u64, effort_limit)?;
+                }
+            }
+        }
+    }
+    Ok(())
+}
+
+/// Every entry of some listings, and those past the last.
+fn entries(pair: &mut Pair) -> Done {
+    for text in TEXTS {
+        let made = Made::of_text(text);
+        for (sentence, node_limit) in [(&[0, 0, 0, 0, 0][..], 9), (&[0, 0, 0, 0], 10), (&[0, 1, 0, 1, 0, 1], 10), (&[0], 6)] {
+            let Some(live) = live_prefixes(&made.grammar, sentence, node_limit, 3_000) else { continue };
+            let count = live.complete.len() as u64;
+            for m in (0..40.min(count)).chain(count.saturating_sub(2)..count + 3) {
+                pair.entry(&made.file, sentence, (node_limit as u64, live.effort), m, 96)?;
+            }
+        }
+    }
+    Ok(())
+}
+
+/// Every number of rules, written and read, and with a record count or a number of blocks that is not right.
+fn numbers_of_rules(pair: &mut Pair) -> Done {
+    for rules in 1..=256 {
+        let made = words(rules);
+        pair.read_grammar(&made.file)?;
+        pair.write_grammar(&made.heading, &made.records, made.file.len() + 3)?;
+        for number in [rules - 1, rules + 1, rules + 21] {
+            let mut file = made.file.clone();
+            file[7..9].copy_from_slice(&(number as u16).to_le_bytes());
+            seal(&mut file);
+            pair.read_grammar(&file)?;
+        }
+        pair.check_tree(&made.file, &[rules as u16 - 1], &[rules as u16 - 1])?;
+        pair.check_trace(&made.file, &[rules as u16 - 1], &[rules as u16])?;
+    }
+    Ok(())
+}
+
+/// Record bytes of every length, outputs of every length, and headings in and out of range.
+fn writer(pair: &mut Pair) -> Done {
+    let made = copy();
+    let mut records = made.records.clone();
+    records.resize(300, 0);
+    for length in 0..=300 {
+        pair.write_grammar(&made.heading, &records[..length], 1024)?;
+    }
+    for out in (0..=40).chain(480..=540).chain(990..=1060) {
+        pair.write_grammar(&made.heading, &made.records, out)?;
+    }
+    for length in 0..=130 {
+        let mut heading = made.heading.clone();
+        heading.dimensions.resize(length, 0);
+        pair.write_grammar(&heading, &made.records, 1024)?;
+    }
+    for byte in 0..=255 {
+        let mut heading = made.heading.clone();
+        heading.categories = byte;
+        pair.write_grammar(&heading, &made.records, 1024)?;
+        heading = made.heading.clone();
+        heading.start = byte;
+        pair.write_grammar(&heading, &made.records, 1024)?;
+        for i in [0, 1, 3, 4, 63] {
+            heading = made.heading.clone();
+            heading.dimensions[i] = byte;
+            pair.write_grammar(&heading, &made.records, 1024)?;
+        }
+    }
+    for rules in (0..=300).chain([511, 512, 513, 65_535]) {
+        let mut heading = made.heading.clone();
+        heading.rules = rules;
+        pair.write_grammar(&heading, &made.records, 1024)?;
+        pair.write_grammar(&heading, &vec![0; 24 * rules as usize], 14 * BLOCK)?;
+        heading = made.heading.clone();
+        heading.words = rules;
+        pair.write_grammar(&heading, &made.records, 1024)?;
+    }
+    for words in [4095, 4096, 4097, 8192, 65_535] {
+        let mut heading = made.heading.clone();
+        heading.words = words;
+        pair.write_grammar(&heading, &made.records, 1024)?;
+    }
+    Ok(())
+}
+
+/// Files of every length up to 15 blocks.
+fn lengths_of_files(pair: &mut Pair) -> Done {
+    let mut file = words(256).file;
+    file.resize(15 * BLOCK + 10, 0);
+    for length in 0..file.len() {
+        pair.read_grammar(&file[..length])?;
+    }
+    Ok(())
+}
+
+/// Every byte of some files changed, with the check made right again and not, for the reader and now and then for every call.
+fn bytes_of_files(pair: &mut Pair) -> Done {
+    for made in [copy(), Made::of_text(TEXTS[6]), words(43)] {
+        for i in 0..made.file.len() {
+            let old = made.file[i];
+            for (turn, byte) in [0, 1, 2, 3, 4, 255, old ^ 16, old.wrapping_add(1)].into_iter().enumerate() {
+                let mut file = made.file.clone();
+                file[i] = byte;
+                if turn == i % 8 {
+                    pair.read_grammar(&file)?;
+                }
+                seal(&mut file);
+                pair.read_grammar(&file)?;
+                if turn == (i / 8) % 8 {
+                    every_call(pair, &file)?;
+                }
+            }
+        }
+    }
+    Ok(())
+}
+
+fn every_call(pair: &mut Pair, file: &[u8]) -> Done {
+    pair.check_trace(file, &[0, 0], &[0, 3, 5, 5])?;
+    pair.check_tree(file, &[0, 0], &[0, 3, 5, 5])?;
+    pair.trace_to_tree(file, &[0, 0], &[0, 3, 5, 5], 96)?;
+    pair.tree_to_trace(file, &[0, 0], &[0, 3, 5, 5], 96)?;
+    pair.count(file, &[0, 0], 4, 20)?;
+    pair.entry(file, &[0, 0], (4, 20), 0, 96)?;
+    pair.survey(file, 96)?;
+    Ok(())
+}

@@ -1,0 +1,192 @@
+//! Random grammars that the reader accepts: dimensions 1 to 4, empty words and components, 1 to 3 daughters, 1 to 256 rules.
+
+use std::collections::HashSet;
+
+use reference::file::read;
+use reference::grammar::{Grammar, EMPTY_WORD};
+use reference::notation::parts;
+use reference::samples::{COPY, CROSSING, PAIR};
+use reference::writer::write;
+use reference::Heading;
+
+use crate::rng::Rng;
+
+/// A grammar, as the writer takes it, as a file and as read.
+pub struct Made {
+    pub heading: Heading,
+    pub records: Vec<u8>,
+    pub file: Vec<u8>,
+    pub grammar: Grammar,
+}
+
+impl Made {
+    pub fn new(heading: Heading, records: Vec<u8>) -> Made {
+        let file = write(&heading, &records).expect("the writer takes it");
+        let grammar = read(&file).expect("the reader takes it");
+        Made { heading, records, file, grammar }
+    }
+
+    pub fn of_text(text: &str) -> Made {
+        let (heading, records) = parts(text);
+        Made::new(heading, records)
+    }
+}
+
+/// Small grammars with several analyses, empty words, empty components and long components.
+pub const TEXTS: [&str; 8] = [
+    COPY,
+    PAIR,
+    CROSSING,
+    "S(x) <- S(x)\nS(xy) <- S(x) S(y)\nS <- 0\nS <- 1",
+    "S(xy) <- S(x) S(y)\nS <- empty\nS <- 0",
+    "S(xy) <- P(x,y)\nP(y,x) <- P(x,y)\nP(xy,) <- P(x,y)\nP(,x) <- A(x)\nP(x,) <- A(x)\nA <- 0\nA <- empty",
+    "S(wxyz) <- Q(x,w,z,y)\nS(ywxz) <- Q(x,w,z,y)\nQ(a,b,c,d) <- P(a,c) P(b,d)\nQ(ab,,c,d) <- P(c,a) P(d,b)\n\
+     P(x,y) <- A(x) A(y)\nP(,xy) <- A(x) A(y)\nA <- 0\nA <- 1",
+    "S(abcdefghijkl) <- Q(e,a,k,b) Q(c,i,f,l) Q(j,g,d,h)\nQ(x,,y,) <- A(x) A(y)\nQ(,x,,y) <- A(x) A(y)\nA <- 0\nB <- 1\nA(x) <- B(x)",
+];
+
+pub fn random(rng: &mut Rng) -> Made {
+    match rng.below(20) {
+        0 => Made::of_text(rng.pick(&TEXTS)),
+        1..=8 => sized(rng, (1, 4), (1, 10), (1, 3)),
+        9..=12 => sized(rng, (2, 8), (6, 21), (1, 5)),
+        13..=15 => sized(rng, (3, 10), (8, 24), (1, 2)),
+        16..=17 => sized(rng, (4, 64), (19, 66), (1, 40)),
+        18 => sized(rng, (20, 64), (60, 256), (1, 4096)),
+        _ => {
+            let rules = rng.pick(&[20, 21, 22, 41, 42, 43, 63, 64, 84, 105, 231, 252, 253, 255, 256]);
+            sized(rng, (1, 64), (rules, rules), (1, 4096))
+        }
+    }
+}
+
+/// A random grammar with numbers of categories, rules and words between these bounds.
+fn sized(rng: &mut Rng, categories: (usize, usize), rules: (usize, usize), words: (usize, usize)) -> Made {
+    let categories = rng.from_to(categories.0, categories.1);
+    let rules = rng.from_to(rules.0, rules.1);
+    let words = rng.from_to(words.0, words.1);
+    let start = rng.below(categories);
+    let row: &[u8] = rng.pick(&[&[1, 1, 1, 2][..], &[1, 2], &[1, 2, 3, 4], &[1, 4, 4], &[1]]);
+    let mut dimensions: Vec<u8> = (0..categories).map(|_| rng.pick(row)).collect();
+    dimensions[start] = 1;
+    let mut maker = Maker { dimensions, words, known: HashSet::new(), records: vec![] };
+    let with_trees = maker.base_rules(rng, rules);
+    maker.start_rules(rng, rules, start, &with_trees);
+    for _ in 0..20 * rules {
+        if maker.records.len() < rules {
+            maker.any_rule(rng);
+        }
+    }
+    if maker.records.is_empty() {
+        maker.keep(lexical(start, 0));
+    }
+    rng.shuffle(&mut maker.records);
+    let rules = maker.records.len() as u16;
+    maker.dimensions.resize(64, 0);
+    let heading = Heading { categories: categories as u8, start: start as u8, words: words as u16, rules, dimensions: maker.dimensions };
+    Made::new(heading, maker.records.concat())
+}
+
+struct Maker {
+    dimensions: Vec<u8>,
+    words: usize,
+    known: HashSet<[u8; 24]>,
+    records: Vec<[u8; 24]>,
+}
+
+impl Maker {
+    fn keep(&mut self, record: [u8; 24]) {
+        if self.known.insert(record) {
+            self.records.push(record);
+        }
+    }
+
+    /// For most categories a rule whose daughters have trees already, so that they have trees themselves; gives these categories.
+    fn base_rules(&mut self, rng: &mut Rng, most: usize) -> Vec<usize> {
+        let mut order: Vec<usize> = (0..self.dimensions.len()).collect();
+        rng.shuffle(&mut order);
+        order.sort_by_key(|&category| self.dimensions[category] != 1);
+        let mut with_trees: Vec<usize> = Vec::new();
+        for category in order {
+            if self.records.len() == most || rng.chance(7) {
+                continue;
+            }
+            if with_trees.is_empty() || self.dimensions[category] == 1 && rng.chance(70) {
+                if self.dimensions[category] != 1 {
+                    continue;
+                }
+                let word = self.word(rng);
+                self.keep(lexical(category, word));
+            } else {
+                let count = rng.pick(&[1, 2, 2, 3]);
+                let daughters: Vec<usize> = (0..count).map(|_| rng.pick(&with_trees)).collect();
+                let record = self.nonlexical(rng, category, &daughters);
+                self.keep(record);
+            }
+            with_trees.push(category);
+        }
+        with_trees
+    }
+
+    /// Some rules for the start, of daughters that have trees, those of high dimensions first.
+    fn start_rules(&mut self, rng: &mut Rng, most: usize, start: usize, with_trees: &[usize]) {
+        let highest = with_trees.iter().map(|&category| self.dimensions[category]).max().unwrap_or(0);
+        let high: Vec<usize> = with_trees.iter().copied().filter(|&category| self.dimensions[category] == highest).collect();
+        for _ in 0..rng.pick(&[0, 1, 2, 3]) {
+            if self.records.len() == most || with_trees.is_empty() {
+                return;
+            }
+            let from = if rng.chance(60) { &high } else { with_trees };
+            let count = rng.pick(&[1, 2, 3]);
+            let daughters: Vec<usize> = (0..count).map(|_| rng.pick(from)).collect();
+            let record = self.nonlexical(rng, start, &daughters);
+            self.keep(record);
+        }
+    }
+
+    fn any_rule(&mut self, rng: &mut Rng) {
+        let category = rng.below(self.dimensions.len());
+        if self.dimensions[category] == 1 && rng.chance(50) {
+            let word = self.word(rng);
+            self.keep(lexical(category, word));
+        } else {
+            let count = rng.pick(&[1, 1, 2, 2, 2, 3, 3]);
+            let daughters: Vec<usize> = (0..count).map(|_| rng.below(self.dimensions.len())).collect();
+            let record = self.nonlexical(rng, category, &daughters);
+            self.keep(record);
+        }
+    }
+
+    fn word(&self, rng: &mut Rng) -> u16 {
+        if rng.chance(15) {
+            EMPTY_WORD
+        } else {
+            rng.below(self.words) as u16
+        }
+    }
+
+    /// The variables of the daughters in any order, cut into components anywhere.
+    fn nonlexical(&self, rng: &mut Rng, category: usize, daughters: &[usize]) -> [u8; 24] {
+        let mut record = [0; 24];
+        record[0] = category as u8;
+        record[1] = daughters.len() as u8;
+        let mut variables = Vec::new();
+        for (position, &daughter) in daughters.iter().enumerate() {
+            record[2 + position] = daughter as u8;
+            variables.extend((0..self.dimensions[daughter]).map(|component| 4 * position as u8 + component));
+        }
+        rng.shuffle(&mut variables);
+        record[11..11 + variables.len()].copy_from_slice(&variables);
+        for _ in &variables {
+            record[7 + rng.below(self.dimensions[category] as usize)] += 1;
+        }
+        record
+    }
+}
+
+fn lexical(category: usize, word: u16) -> [u8; 24] {
+    let mut record = [0; 24];
+    record[0] = category as u8;
+    record[5..7].copy_from_slice(&word.to_le_bytes());
+    record
+}

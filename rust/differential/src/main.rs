@@ -1,0 +1,90 @@
+//! Compares the proved library with the reference, call by call. `differential --help` says how.
+
+mod analyses;
+mod cases;
+mod compare;
+mod damage;
+mod fixed;
+mod grammars;
+mod options;
+mod printed;
+mod rng;
+mod self_test;
+mod show;
+mod tally;
+
+use std::process::ExitCode;
+use std::time::Instant;
+
+use reference::{Calls, Reference};
+
+use compare::Pair;
+use options::{Options, USAGE};
+use rng::Rng;
+
+fn main() -> ExitCode {
+    let Some(options) = options::options() else {
+        eprintln!("{USAGE}");
+        return ExitCode::FAILURE;
+    };
+    let right = if options.self_test {
+        self_test::self_test(options.seed)
+    } else if options.itself {
+        run(&Reference, &options)
+    } else if let Some(library) = library::library() {
+        run(library.as_ref(), &options)
+    } else {
+        eprintln!("differential: there was no libdowngrater.a when this was built (DOWNGRATER_LIB, or target/staticlib)");
+        false
+    };
+    if right {
+        ExitCode::SUCCESS
+    } else {
+        ExitCode::FAILURE
+    }
+}
+
+/// Compares on fixed and random inputs and prints what was met; false where there is a difference or something was never met.
+fn run(tested: &dyn Calls, options: &Options) -> bool {
+    let start = Instant::now();
+    let mut pair = Pair::new(tested);
+    let mut case = options.case.unwrap_or(0);
+    if options.case.is_none() {
+        if let Err(difference) = fixed::fixed(&mut pair) {
+            println!("fixed inputs: {difference}");
+            return false;
+        }
+        if let Some(program) = &options.program {
+            if let Err(report) = printed::compare(program, options.seed, &mut pair.tally) {
+                println!("{report}");
+                return false;
+            }
+        }
+    }
+    loop {
+        if let Err(difference) = cases::case(&mut pair, &mut Rng::new(options.seed, case)) {
+            println!("seed {} case {case}: {difference}", options.seed);
+            return false;
+        }
+        case += 1;
+        let done = match (options.case, options.cases) {
+            (Some(_), _) => return true,
+            (None, Some(cases)) => case >= cases,
+            (None, None) => start.elapsed() >= options.time,
+        };
+        if done {
+            break;
+        }
+    }
+    let tally = &pair.tally;
+    print!("{tally}");
+    println!("{} round trips, {} listings by trees and by live prefixes", tally.round_trips, tally.agreements);
+    if options.program.is_some() {
+        println!("{} runs of the program", tally.programs);
+    }
+    println!("{} inputs compared, {case} random cases, {:.1} s, no difference", tally.inputs(), start.elapsed().as_secs_f64());
+    for missing in tally.missing() {
+        println!("failed: {missing}");
+    }
+    tally.missing().is_empty()
+}

@@ -1,0 +1,119 @@
+//! How often each call met each refusal, and which ones it has to meet.
+
+use std::fmt;
+
+use reference::Answer;
+
+#[derive(Clone, Copy, Debug, PartialEq, Eq)]
+pub enum Call {
+    ReadGrammar,
+    WriteGrammar,
+    CheckTrace,
+    CheckTree,
+    TraceToTree,
+    TreeToTrace,
+    Count,
+    Entry,
+    Survey,
+}
+
+pub const CALLS: [Call; 9] = [
+    Call::ReadGrammar,
+    Call::WriteGrammar,
+    Call::CheckTrace,
+    Call::CheckTree,
+    Call::TraceToTree,
+    Call::TreeToTrace,
+    Call::Count,
+    Call::Entry,
+    Call::Survey,
+];
+
+impl Call {
+    /// The refusals that the call can meet.
+    pub fn refusals(self) -> Vec<u8> {
+        let file = 1..=10;
+        let trace = 11..=18;
+        let tree = [11, 12, 13, 19, 20, 21, 22];
+        match self {
+            Call::ReadGrammar => file.collect(),
+            Call::WriteGrammar => (4..=10).chain([23]).collect(),
+            Call::CheckTrace => file.chain(trace).collect(),
+            Call::CheckTree => file.chain(tree).collect(),
+            Call::TraceToTree => file.chain(trace).chain([23]).collect(),
+            Call::TreeToTrace => file.chain(tree).chain([23]).collect(),
+            Call::Count => file.chain([11, 24, 25]).collect(),
+            Call::Entry => file.chain([11, 23, 24, 25, 26]).collect(),
+            Call::Survey => file.chain([23]).collect(),
+        }
+    }
+}
+
+/// For each call how often it was accepted (at 0) and how often each refusal was met.
+pub struct Tally {
+    met: [[u64; 27]; 9],
+    /// Listings where trees and live prefixes were compared.
+    pub agreements: u64,
+    /// Round trips: a file's fields written again, a trace to its tree and back.
+    pub round_trips: u64,
+    /// Runs of the program.
+    pub programs: u64,
+}
+
+impl Tally {
+    pub fn new() -> Tally {
+        Tally { met: [[0; 27]; 9], agreements: 0, round_trips: 0, programs: 0 }
+    }
+
+    pub fn add(&mut self, call: Call, answer: Answer) {
+        let number = match answer {
+            Answer::Refused(refusal) => refusal.number as usize,
+            _ => 0,
+        };
+        self.met[call as usize][number] += 1;
+    }
+
+    /// The number of inputs compared.
+    pub fn inputs(&self) -> u64 {
+        self.met.iter().flatten().sum()
+    }
+
+    /// What a run has to meet and did not, in words.
+    pub fn missing(&self) -> Vec<String> {
+        let mut missing = Vec::new();
+        for call in CALLS {
+            let met = &self.met[call as usize];
+            if met[0] == 0 {
+                missing.push(format!("{call:?} was never accepted"));
+            }
+            for number in call.refusals() {
+                if met[number as usize] == 0 {
+                    missing.push(format!("{call:?} never met refusal {number}"));
+                }
+            }
+        }
+        missing
+    }
+}
+
+impl fmt::Display for Tally {
+    fn fmt(&self, f: &mut fmt::Formatter) -> fmt::Result {
+        write!(f, "{:>8}", "")?;
+        for call in CALLS {
+            write!(f, "{:>13}", format!("{call:?}"))?;
+        }
+        writeln!(f)?;
+        for number in 0..27 {
+            let name = if number == 0 { "accepted".to_string() } else { number.to_string() };
+            write!(f, "{name:>8}")?;
+            for call in CALLS {
+                let can = number == 0 || call.refusals().contains(&(number as u8));
+                let met = self.met[call as usize][number];
+                let shown = if can || met > 0 { met.to_string() } else { "-".to_string() };
+                write!(f, "{shown:>13}")?;
+            }
+            writeln!(f)?;
+        }
+        Ok(())
+    }
+}

@@ -1,0 +1,267 @@
+/// A fault in words, the module it is in, the text there and the text in its place.
+pub type Fault = (&'static str, &'static str, &'static str, &'static str);
+
+pub const FAULTS: &[Fault] = &[
+    // the grammar file
+    (
+        "2 and 3 tested block by block",
+        "file",
+        "            return Err(Refusal::grammar(2, k));\n        }",
+        "            return Err(Refusal::grammar(2, k));\n        }\n        if number(block, 0) as usize != k {\n            return Err(Refusal::grammar(3, k));\n        }",
+    ),
+    ("15 blocks are no wrong length", "file", "file.len() > 14 * BLOCK", "file.len() > 15 * BLOCK"),
+    ("place of a wrong record count off by one", "file", "Refusal::grammar(5, k)", "Refusal::grammar(5, k - 1)"),
+    ("4,096 words are too many", "file", "(1..=4096)", "(1..4096)"),
+    ("the start's dimension not tested", "file", "        || heading.dimensions[start] != 1\n", ""),
+    ("dimensions of no category not tested", "file", "        || heading.dimensions[categories..].iter().any(|&d| d != 0)\n", ""),
+    ("last unused heading byte not tested", "file", "&block[80..508]", "&block[80..507]"),
+    (
+        "rest of the last block tested before the rules",
+        "file",
+        "    let read = read_records(&setting, &records)?;\n    let last = blocks.len() - 1;",
+        "    let last = blocks.len() - 1;\n    if blocks[last][4 + RECORD * records_held(rules, last)..508].iter().any(|&b| b != 0) {\n        return Err(Refusal::grammar(9, rules));\n    }\n    let read = read_records(&setting, &records)?;",
+    ),
+    ("place of the rest of the last block", "file", "Refusal::grammar(9, rules)", "Refusal::grammar(9, rules - 1)"),
+    // records
+    (
+        "9 tested before 8",
+        "record",
+        "        if wrong_variables(setting, record) {",
+        "        if unused_not_zero(setting, record) {\n            return Err(Refusal::grammar(9, r));\n        }\n        if wrong_variables(setting, record) {",
+    ),
+    ("10 compares with the record before alone", "record", "records[..r].contains(record)", "r > 0 && records[r - 1] == *record"),
+    (
+        "10 of a rule tested after 6 to 9 of every rule",
+        "record",
+        "        if records[..r].contains(record) {\n            return Err(Refusal::grammar(10, r));\n        }\n    }\n",
+        "    }\n    if let Some(r) = (0..records.len()).find(|&r| records[..r].contains(&records[r])) {\n        return Err(Refusal::grammar(10, r));\n    }\n",
+    ),
+    (
+        "6 of every rule tested before 7 of any",
+        "record",
+        "    for (r, record) in records.iter().enumerate() {",
+        "    if let Some(r) = records.iter().position(|record| wrong_category(setting, record)) {\n        return Err(Refusal::grammar(6, r));\n    }\n    for (r, record) in records.iter().enumerate() {",
+    ),
+    ("the empty word is no word", "record", "word != EMPTY_WORD && ", ""),
+    ("unused daughter bytes not tested", "record", "2..=4 => i - 2 < daughters", "2..=4 => true"),
+    ("a nonlexical rule's word not tested", "record", "5 | 6 => is_lexical(record)", "5 | 6 => true"),
+    (
+        "all four lengths add up",
+        "record",
+        "let lengths: usize = lengths_of(setting, record).iter().sum();",
+        "let lengths: usize = record[7..11].iter().map(|&length| length as usize).sum();",
+    ),
+    ("last byte of a record not tested", "record", "        _ => false,", "        _ => true,"),
+    // one step: a digit for a lone variable, digits dropped otherwise or an index behind its proper prefix change no order, and no call
+    // shows them; K3 in the reference's tests does
+    (
+        "digits compared as text",
+        "queue",
+        "    a.cmp(b)",
+        "    let text = |index: &Index| index.iter().map(|digit| digit.to_string()).collect::<String>();\n    text(a).cmp(&text(b))",
+    ),
+    (
+        "predictions ordered by first component",
+        "queue",
+        "compare(least(a), least(b))",
+        "compare(&a.indices[0], &b.indices[0])",
+    ),
+    (
+        "daughters go before all others",
+        "queue",
+        "        next.extend(daughters(grammar, &queue[0], rule));\n        next.sort_by(|a, b| compare(least(a), least(b)));",
+        "        next = [daughters(grammar, &queue[0], rule), next].concat();",
+    ),
+    (
+        "variables taken for those of the first component",
+        "queue",
+        "front.indices[k].clone()",
+        "front.indices[0].clone()",
+    ),
+    // traces
+    ("place of 17 off by one", "trace", "Refusal::analysis(17, k + 1)", "Refusal::analysis(17, k)"),
+    ("17 one prediction too late", "trace", "next.queue.len() > n - k - 1", "next.queue.len() > n - k"),
+    ("the empty trace accepted for the empty sentence", "trace", "if n == 0 {", "if n == 0 && !sentence.is_empty() {"),
+    (
+        "13 of every step tested first",
+        "trace",
+        "    let mut nodes = BTreeMap::new();",
+        "    if let Some(k) = trace.iter().position(|&rule| rule as usize >= grammar.rules.len()) {\n        return Err(Refusal::analysis(13, k));\n    }\n    let mut nodes = BTreeMap::new();",
+    ),
+    (
+        "14 tested before 13",
+        "trace",
+        "    let Some(applied) =",
+        "    if state.queue.is_empty() {\n        return Err(Refusal::analysis(14, k));\n    }\n    let Some(applied) =",
+    ),
+    (
+        "a word past the sentence's end is next",
+        "trace",
+        "sentence.get(read) != Some(&word)",
+        "sentence.get(read).is_some_and(|next| *next != word)",
+    ),
+    (
+        "steps after step 0 not tested",
+        "trace",
+        "        let next = step(grammar, sentence, &state, rule, k)?;",
+        "        let next = match step(grammar, sentence, &state, rule, k) {\n            Err(_) if k > 0 => return Ok(nodes),\n            outcome => outcome?,\n        };",
+    ),
+    ("every trace refused", "trace", "if n == 0 {", "if n <= MOST {"),
+    ("place of 18", "trace", "Refusal::analysis(18, state.read)", "Refusal::analysis(18, sentence.len())"),
+    (
+        "the first word that is none tested before the sentence's length",
+        "trace",
+        "    if sentence.len() > MOST {",
+        "    if let Some(place) = sentence.iter().position(|&word| word as usize >= grammar.words) {\n        return Err(Refusal::analysis(11, place));\n    }\n    if sentence.len() > MOST {",
+    ),
+    (
+        "65,535 is a word of every sentence",
+        "trace",
+        "position(|&word| word as usize >= grammar.words)",
+        "position(|&word| word as usize >= grammar.words && word != 65_535)",
+    ),
+    (
+        "12 tested before 11",
+        "trace",
+        "    test_sentence(grammar, sentence)?;\n    test_length(trace)?;",
+        "    test_length(trace)?;\n    test_sentence(grammar, sentence)?;",
+    ),
+    ("a list of 96 is too long", "trace", "list.len() > MOST", "list.len() >= MOST"),
+    ("the tree is a copy of the trace", "trace", "Ok(nodes.into_values().collect())", "Ok(trace.to_vec())"),
+    // trees
+    ("place of 21", "tree", "Refusal::analysis(21, after)", "Refusal::analysis(21, list.len() - 1)"),
+    (
+        "22 tested before 21",
+        "tree",
+        "    if after != list.len() {",
+        "    if yield_of(grammar, &tree) != [sentence] {\n        return Err(Refusal::analysis(22, 0));\n    }\n    if after != list.len() {",
+    ),
+    (
+        "only the yield's length compared",
+        "tree",
+        "if yield_of(grammar, &tree) != [sentence] {",
+        "if yield_of(grammar, &tree)[0].len() != sentence.len() {",
+    ),
+    (
+        "a daughter of any category",
+        "tree",
+        "if rule.category != wanted {",
+        "if rule.category != wanted && (at == 0 || grammar.dimensions[rule.category] != grammar.dimensions[wanted]) {",
+    ),
+    // count and listing
+    ("effort equal to the limit refused", "live", "live.effort > self.effort_limit", "live.effort >= self.effort_limit"),
+    ("the empty list not counted", "reference", "effort: listing.effort as u32", "effort: listing.effort as u32 - 1"),
+    (
+        "a prefix without predictions and with words left not counted",
+        "live",
+        "        live.effort += 1;",
+        "        if state.queue.is_empty() && state.read < self.sentence.len() {\n            return true;\n        }\n        live.effort += 1;",
+    ),
+    (
+        "a prefix with as many predictions as nodes left not counted",
+        "live",
+        "        if prefix.len() + state.queue.len() > self.node_limit {\n            return true;",
+        "        if prefix.len() + state.queue.len() == self.node_limit {\n            return true;",
+    ),
+    ("a made-up effort", "reference", "effort: listing.effort as u32", "effort: 7 * listing.traces.len() as u32 + 6"),
+    (
+        "25 before any step",
+        "listing",
+        "    let Some(live) =",
+        "    if effort_limit < node_limit {\n        return Err(Refusal::desk(25));\n    }\n    let Some(live) =",
+    ),
+    ("the count is always 1", "reference", "count: listing.traces.len() as u32", "count: 1"),
+    ("the listing repeats entry 0", "listing", "traces[m as usize].clone()", "traces[0].clone()"),
+    ("the listing is in the order of tree sizes", "listing", "    traces.sort();\n", ""),
+    (
+        "24 tested after 11",
+        "listing",
+        "    if !(1..=MOST as u64)",
+        "    test_sentence(grammar, sentence)?;\n    if !(1..=MOST as u64)",
+    ),
+    ("an effort limit of 1,000,000,001 allowed", "listing", "(1..=1_000_000_000)", "(1..=1_000_000_001)"),
+    (
+        "the node limit cut to 32 bits",
+        "listing",
+        "    if !(1..=MOST as u64)",
+        "    let node_limit = node_limit as u32 as u64;\n    if !(1..=MOST as u64)",
+    ),
+    (
+        "the entry number cut to 32 bits",
+        "listing",
+        "    if m >= traces.len() as u64 {",
+        "    let m = m as u32 as u64;\n    if m >= traces.len() as u64 {",
+    ),
+    (
+        "26 tested before 25",
+        "listing",
+        "    let traces = listing(",
+        "    if m >= effort_limit && effort_limit > 0 {\n        return Err(Refusal::desk(26));\n    }\n    let traces = listing(",
+    ),
+    // survey
+    ("a survey figure too low by one", "survey", "= height;", "= height.max(2) - 1;"),
+    (
+        "a survey figure where one daughter has a tree",
+        "survey",
+        "daughters.iter().all(|&d| lower[d] != 0)",
+        "(daughters.is_empty() || daughters.iter().any(|&d| lower[d] != 0))",
+    ),
+    // outputs
+    (
+        "a refused conversion writes its output",
+        "reference",
+        "        let tree = trace_to_tree(&grammar, sentence, trace)?;",
+        "        out[0] = trace.first().copied().unwrap_or(0);\n        let tree = trace_to_tree(&grammar, sentence, trace)?;",
+    ),
+    (
+        "an entry past the last cleared",
+        "reference",
+        "    list.len()\n",
+        "    if let Some(next) = out.get_mut(list.len()) {\n        *next = 0;\n    }\n    list.len()\n",
+    ),
+    (
+        "23 tested after the analysis",
+        "reference",
+        "        test_output(out)?;\n        let trace = tree_to_trace(&grammar, sentence, tree)?;",
+        "        let trace = tree_to_trace(&grammar, sentence, tree)?;\n        test_output(out)?;",
+    ),
+    (
+        "23 tested before the grammar",
+        "reference",
+        "        let grammar = read(file)?;\n        test_output(out)?;\n        let trace = entry(",
+        "        test_output(out)?;\n        let grammar = read(file)?;\n        let trace = entry(",
+    ),
+    (
+        "the survey asks for as many numbers as it writes",
+        "reference",
+        "        test_output(out)?;\n        Ok(put(&least_heights(&grammar), out))",
+        "        if out.len() < grammar.dimensions.len() {\n            return Err(Refusal::desk(23));\n        }\n        Ok(put(&least_heights(&grammar), out))",
+    ),
+    ("an output of 96 is too short", "reference", "out.len() < MOST", "out.len() <= MOST"),
+    // writer
+    (
+        "the writer's 23 tested before its records",
+        "reference",
+        "        let file = write(heading, records)?;",
+        "        if !crate::file::wrong_heading(heading) && out.len() < 512 * (1 + (heading.rules as usize).div_ceil(21)) {\n            return Err(Refusal::desk(23));\n        }\n        let file = write(heading, records)?;",
+    ),
+    (
+        "the writer clears what is past the file",
+        "reference",
+        "        Ok(file.len())",
+        "        out[file.len()..].fill(0);\n        Ok(file.len())",
+    ),
+    (
+        "the writer's 5 tested before 4",
+        "writer",
+        "    if wrong_heading(heading) {",
+        "    if records.len() != RECORD * heading.rules as usize {\n        return Err(Refusal::grammar(5, 0));\n    }\n    if wrong_heading(heading) {",
+    ),
+    ("the writer gives every block 21 records", "writer", "records_held(rules, k) as u8", "21"),
+    (
+        "the writer's 23 is the grammar's",
+        "reference",
+        "        if out.len() < file.len() {\n            return Err(Refusal::desk(23));",
+        "        if out.len() < file.len() {\n            return Err(Refusal::grammar(23, 0));",
+    ),
+];

@@ -1,0 +1,22 @@
+//! Links libdowngrater.a from the folder DOWNGRATER_LIB, by default from target/staticlib at the top of the repository. Where there is no
+//! library the crate builds without it.
+
+use std::env;
+use std::path::{Path, PathBuf};
+
+fn main() {
+    println!("cargo::rustc-check-cfg=cfg(downgrater_library)");
+    println!("cargo::rerun-if-env-changed=DOWNGRATER_LIB");
+    let here = env::var("CARGO_MANIFEST_DIR").expect("cargo sets it");
+    let folder = match env::var("DOWNGRATER_LIB") {
+        Ok(folder) => PathBuf::from(folder),
+        Err(_) => Path::new(&here).join("../../target/staticlib"),
+    };
+    let file = folder.join("libdowngrater.a");
+    println!("cargo::rerun-if-changed={}", file.display());
+    if file.exists() {
+        println!("cargo::rustc-cfg=downgrater_library");
+        println!("cargo::rustc-link-search=native={}", folder.display());
+        println!("cargo::rustc-link-lib=static=downgrater");
+    }
+}

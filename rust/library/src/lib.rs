@@ -1,0 +1,15 @@
+//! libdowngrater through its C interface: the functions declared, each wrapped in a safe one, and its answers taken apart.
+
+mod answer;
+#[cfg(downgrater_library)]
+mod calls;
+
+pub use answer::{counted, verdict};
+
+/// The proved library, or nothing where it was not there when this crate was built.
+pub fn library() -> Option<Box<dyn reference::Calls>> {
+    #[cfg(downgrater_library)]
+    return Some(Box::new(calls::Library));
+    #[cfg(not(downgrater_library))]
+    None
+}

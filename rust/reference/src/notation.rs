@@ -1,0 +1,92 @@
+//! Grammars in writing, a rule a line, for tests and examples:
+//!
+//! ```text
+//! S(xy) <- P(x,y)
+//! P(a,c) <- A(a) A(c)
+//! A <- 0
+//! B <- empty
+//! ```
+//!
+//! Categories and rules are numbered as they appear, the first category is the start, a variable is one letter, a word is its number.
+
+use crate::calls::Heading;
+use crate::grammar::EMPTY_WORD;
+use crate::writer::write;
+
+/// The grammar file of a text. A test that gives a wrong text stops.
+pub fn grammar_file(text: &str) -> Vec<u8> {
+    let (heading, records) = parts(text);
+    write(&heading, &records).expect("the text is a grammar")
+}
+
+/// The writer's input for a text.
+pub fn parts(text: &str) -> (Heading, Vec<u8>) {
+    let mut categories = Categories { names: vec![], dimensions: vec![] };
+    let mut words = 1;
+    let mut records = Vec::new();
+    for line in text.lines().filter(|line| !line.trim().is_empty()) {
+        let (left, right) = line.split_once("<-").expect("a rule has an arrow");
+        let (category, components) = categories.atom(left.trim());
+        let mut record = [0; 24];
+        record[0] = category;
+        let right = right.trim();
+        if right == "empty" || right.parse::<u16>().is_ok() {
+            let word = right.parse().unwrap_or(EMPTY_WORD);
+            if word != EMPTY_WORD {
+                words = words.max(word + 1);
+            }
+            record[5..7].copy_from_slice(&word.to_le_bytes());
+        } else {
+            let daughters: Vec<(u8, Vec<String>)> = right.split_whitespace().map(|atom| categories.atom(atom)).collect();
+            put_daughters(&mut record, &components, &daughters);
+        }
+        records.extend(record);
+    }
+    let mut dimensions = categories.dimensions.clone();
+    dimensions.resize(64, 0);
+    let rules = (records.len() / 24) as u16;
+    (Heading { categories: categories.names.len() as u8, start: 0, words, rules, dimensions }, records)
+}
+
+struct Categories {
+    names: Vec<String>,
+    dimensions: Vec<u8>,
+}
+
+impl Categories {
+    /// The category of an atom such as P(x,y), and the letters of its components.
+    fn atom(&mut self, text: &str) -> (u8, Vec<String>) {
+        let (name, inside) = match text.split_once('(') {
+            Some((name, rest)) => (name, rest.strip_suffix(')').expect("an atom ends with a parenthesis")),
+            None => (text, "x"),
+        };
+        let components: Vec<String> = inside.split(',').map(|letters| letters.to_string()).collect();
+        let known = self.names.iter().position(|known| known == name);
+        let category = known.unwrap_or_else(|| {
+            self.names.push(name.to_string());
+            self.dimensions.push(components.len() as u8);
+            self.names.len() - 1
+        });
+        assert_eq!(self.dimensions[category] as usize, components.len(), "a category has one dimension");
+        (category as u8, components)
+    }
+}
+
+fn put_daughters(record: &mut [u8], components: &[String], daughters: &[(u8, Vec<String>)]) {
+    record[1] = daughters.len() as u8;
+    for (position, (category, _)) in daughters.iter().enumerate() {
+        record[2 + position] = *category;
+    }
+    let mut at = 11;
+    for (k, letters) in components.iter().enumerate() {
+        record[7 + k] = letters.chars().count() as u8;
+        for letter in letters.chars() {
+            let variables =
+                daughters.iter().enumerate().flat_map(|(d, (_, names))| names.iter().enumerate().map(move |(c, name)| (d, c, name)));
+            let (daughter, component, _) =
+                variables.into_iter().find(|(_, _, name)| **name == letter.to_string()).expect("a variable is a daughter's");
+            record[at] = (4 * daughter + component) as u8;
+            at += 1;
+        }
+    }
+}

@@ -1,0 +1,111 @@
+//! The public calls: the grammar first, then the desk's tests, then the analysis.
+
+use crate::calls::{Answer, Calls, Heading, Refusal};
+use crate::file::read;
+use crate::listing::{entry, listing};
+use crate::survey::least_heights;
+use crate::trace::{check_trace, trace_to_tree, MOST};
+use crate::tree::{check_tree, tree_to_trace};
+use crate::writer::write;
+
+pub struct Reference;
+
+fn answer(outcome: Result<usize, Refusal>) -> Answer {
+    match outcome {
+        Ok(value) => Answer::Accepted(value as u32),
+        Err(refusal) => Answer::Refused(refusal),
+    }
+}
+
+/// 23: output of fewer than 96 numbers.
+fn test_output(out: &[u16]) -> Result<(), Refusal> {
+    if out.len() < MOST {
+        return Err(Refusal::desk(23));
+    }
+    Ok(())
+}
+
+/// Writes the list to the front of the output, which keeps its other numbers, and gives its length.
+fn put(list: &[u16], out: &mut [u16]) -> usize {
+    out[..list.len()].copy_from_slice(list);
+    list.len()
+}
+
+impl Reference {
+    fn written_tree(&self, file: &[u8], sentence: &[u16], trace: &[u16], out: &mut [u16]) -> Result<usize, Refusal> {
+        let grammar = read(file)?;
+        test_output(out)?;
+        let tree = trace_to_tree(&grammar, sentence, trace)?;
+        Ok(put(&tree, out))
+    }
+
+    fn written_trace(&self, file: &[u8], sentence: &[u16], tree: &[u16], out: &mut [u16]) -> Result<usize, Refusal> {
+        let grammar = read(file)?;
+        test_output(out)?;
+        let trace = tree_to_trace(&grammar, sentence, tree)?;
+        Ok(put(&trace, out))
+    }
+
+    fn written_entry(&self, file: &[u8], sentence: &[u16], limits: (u64, u64), m: u64, out: &mut [u16]) -> Result<usize, Refusal> {
+        let grammar = read(file)?;
+        test_output(out)?;
+        let trace = entry(&grammar, sentence, limits.0, limits.1, m)?;
+        Ok(put(&trace, out))
+    }
+
+    fn written_survey(&self, file: &[u8], out: &mut [u16]) -> Result<usize, Refusal> {
+        let grammar = read(file)?;
+        test_output(out)?;
+        Ok(put(&least_heights(&grammar), out))
+    }
+
+    fn written_file(&self, heading: &Heading, records: &[u8], out: &mut [u8]) -> Result<usize, Refusal> {
+        let file = write(heading, records)?;
+        if out.len() < file.len() {
+            return Err(Refusal::desk(23));
+        }
+        out[..file.len()].copy_from_slice(&file);
+        Ok(file.len())
+    }
+}
+
+impl Calls for Reference {
+    fn read_grammar(&self, file: &[u8]) -> Answer {
+        answer(read(file).map(|grammar| grammar.rules.len()))
+    }
+
+    fn write_grammar(&self, heading: &Heading, records: &[u8], out: &mut [u8]) -> Answer {
+        answer(self.written_file(heading, records, out))
+    }
+
+    fn check_trace(&self, file: &[u8], sentence: &[u16], trace: &[u16]) -> Answer {
+        answer(read(file).and_then(|grammar| check_trace(&grammar, sentence, trace)).map(|_| trace.len()))
+    }
+
+    fn check_tree(&self, file: &[u8], sentence: &[u16], tree: &[u16]) -> Answer {
+        answer(read(file).and_then(|grammar| check_tree(&grammar, sentence, tree)).map(|_| tree.len()))
+    }
+
+    fn trace_to_tree(&self, file: &[u8], sentence: &[u16], trace: &[u16], out: &mut [u16]) -> Answer {
+        answer(self.written_tree(file, sentence, trace, out))
+    }
+
+    fn tree_to_trace(&self, file: &[u8], sentence: &[u16], tree: &[u16], out: &mut [u16]) -> Answer {
+        answer(self.written_trace(file, sentence, tree, out))
+    }
+
+    fn count(&self, file: &[u8], sentence: &[u16], node_limit: u64, effort_limit: u64) -> Answer {
+        match read(file).and_then(|grammar| listing(&grammar, sentence, node_limit, effort_limit)) {
+            Ok(listing) => Answer::Counted { count: listing.traces.len() as u32, effort: listing.effort as u32 },
+            Err(refusal) => Answer::Refused(refusal),
+        }
+    }
+
+    fn entry(&self, file: &[u8], sentence: &[u16], node_limit: u64, effort_limit: u64, m: u64, out: &mut [u16]) -> Answer {
+        answer(self.written_entry(file, sentence, (node_limit, effort_limit), m, out))
+    }
+
+    fn survey(&self, file: &[u8], out: &mut [u16]) -> Answer {
+        answer(self.written_survey(file, out))
+    }
+}
