@@ -82,7 +82,7 @@ module _ (file : List ℕ) (accepted : grammarRefusal file ≡ none) where
   from₅ : c₅ orElse c₆ orElse c₇ orElse c₈ ≡ none
   from₅ = rest-of c₄ (c₅ orElse c₆ orElse c₇ orElse c₈) from₄
 
-  from₇ : c₇ orElse c₈ ≡ none
+  pub from₇ : c₇ orElse c₈ ≡ none
   from₇ = rest-of c₆ (c₇ orElse c₈) (rest-of c₅ (c₆ orElse c₇ orElse c₈) from₅)
 
   abbrev lengthTest : Bool
@@ -171,7 +171,7 @@ module _ (file : List ℕ) (accepted : grammarRefusal file ≡ none) where
   categories-few = omega (arith, dimensions-length, categories-in)
 
   -- every record passes its tests
-  record-length : (r : ℕ) → r < rulesOf file → length (recordOf file r) ≡ 24
+  pub record-length : (r : ℕ) → r < rulesOf file → length (recordOf file r) ≡ 24
   record-length r h = simp (length-take, length-drop) (omega (arith, whole-blocks, enough-blocks))
 
   pub record-tested : (r : ℕ) → r < rulesOf file → Tested (grammarOf file) (recordOf file r)
