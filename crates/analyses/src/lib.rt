@@ -1,0 +1,1 @@
+// The count of analyses, entry m, and the listing (document 01, "Counting and listing").
