@@ -45,13 +45,13 @@ module _ (g : Grammar) (e : List ℕ) (tested : Tested g e) where
   abbrev daughterOut : ℕ → Bool
   daughterOut j = leb (length dimensions) (field e (2 + j))
 
-  category-in : field e 0 < length dimensions
+  pub category-in : field e 0 < length dimensions
   category-in = leb-false (length dimensions) (field e 0) (or-l categoryOut (ltb 3 n) (or-l (categoryOut || ltb 3 n) (anyBelow daughterOut n) (tested .category)))
 
   three : n ≤ 3
   three = ltb-false 3 n (or-r categoryOut (ltb 3 n) (or-l (categoryOut || ltb 3 n) (anyBelow daughterOut n) (tested .category)))
 
-  daughter-in : (j : ℕ) → j < n → field e (2 + j) < length dimensions
+  pub daughter-in : (j : ℕ) → j < n → field e (2 + j) < length dimensions
   daughter-in j h = leb-false (length dimensions) (field e (2 + j)) (any-none daughterOut n (or-r (categoryOut || ltb 3 n) (anyBelow daughterOut n) (tested .category)) j h)
 
   -- parts of the record
@@ -61,7 +61,7 @@ module _ (g : Grammar) (e : List ℕ) (tested : Tested g e) where
   field-at : (i k j : ℕ) → j < k → getD (fields e i k) j 0 ≡ field e (i + j)
   field-at i k j h = rw (getD-take, getD-drop)
 
-  daughters-length : length (daughtersOf e) ≡ n
+  pub daughters-length : length (daughtersOf e) ≡ n
   daughters-length = field-length 2 n (omega (arith, three))
 
   daughter-mem : (d : ℕ) → List·Memᴰ d (daughtersOf e) → d < length dimensions
