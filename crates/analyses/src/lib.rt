@@ -1,1 +1,2 @@
 // The count of analyses, entry m, and the listing (document 01, "Counting and listing").
+mod chain;
