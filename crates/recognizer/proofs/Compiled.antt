@@ -70,10 +70,11 @@ module _ (file : List ℕ) (bytes : Bytes file) (accepted : grammarRefusal file 
     cells-fit : CellsFit t at
     cells-fit =
         record {
+          long = long;
           room = omega (arith, rules-in file accepted);
           few = let z : at + 0 ≡ at = omega arith in omega (arith, ap (λ (i : ℕ). getD t i 0) z, cell-at 0 (omega arith), three (grammarOf file) e (record-tested file accepted r here));
           rising = λ k h. omega (arith, begins-at k (omega arith), begins-at (k + 1) (omega arith), before-next k);
-          last = λ k h. omega (arith, begins-at k h, before-most k h);
+          places = λ k h. omega (arith, begins-at k h, before-most k h);
           small = λ i h. omega (arith, slot-at i h, slot-small e (record-bytes file bytes r) i);
         }
 

@@ -3,3 +3,4 @@ pub mod Packing
 pub mod Cells
 pub mod Record
 pub mod Compiled
+pub mod Expand

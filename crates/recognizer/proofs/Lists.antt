@@ -3,14 +3,15 @@
 use mathlib.Core.Path.{_≡_, refl, sym, ap, ap₂, subst, _∙_}
 use mathlib.Core.Logic.{_⊎_, ⊎-elim}
 use mathlib.Core.Bool.{Bool}
-use mathlib.Core.List.{List, [], _∷_, _++_, map}
+use mathlib.Core.List.{List, [], _∷_, _++_, map, append-assoc}
 use Prim.Native.Nat.{ℕ, zero, suc, _+_, _<_, _≤_}
 use native.Mathlib.Nat.{eq-or-lt-of-le}
 use native.Mathlib.Omega.{arith}
 use lib.Dec.{T}
 use lib.ListN.{length, getD, take, drop, set}
-use lib.Seq.{slice, slice-empty, slice-cons, drop-cons, getD-set-same, getD-set-other}
+use lib.Seq.{slice, slice-empty, slice-cons, drop-cons, getD-set-same, getD-set-other, take-suc, take-suc-set}
 use Rattle.model.specs.Base.{sumBelow, total, every}
+use Rattle.model.proofs.Lists.{map-append}
 use Rattle.model.proofs.Tests.{and-l, and-r, and-both}
 
 -- one place further
@@ -71,3 +72,18 @@ every-left test (x ∷ a) b h = and-both (test x) (every test a) (and-l (test x)
 pub every-right : (test : ℕ → Bool) (a b : List ℕ) → T (every test (a ++ b)) → T (every test b)
 every-right test [] b h = h
 every-right test (x ∷ a) b h = every-right test a b (and-r (test x) (every test (a ++ b)) h)
+
+-- a part, one element further
+pub slice-more : (f t : ℕ) (l : List ℕ) → f ≤ t → t < length l → slice f (suc t) l ≡ slice f t l ++ (getD l t 0 ∷ [])
+slice-more zero t l h k = take-suc l t 0 k
+slice-more (suc f) zero l h k = absurd (omega arith)
+slice-more (suc f) (suc t) [] h k = absurd (omega arith)
+slice-more (suc f) (suc t) (x ∷ l) h k = slice-more f t l (omega arith) (omega arith)
+
+-- f of each element of a part of t, written behind l: one store further
+pub written-more : (f : ℕ → ℕ) (l out t : List ℕ) (a i m : ℕ) → take m out ≡ l ++ map f (slice a i t) → m < length out → a ≤ i → i < length t
+    → take (suc m) (set out m (f (getD t i 0))) ≡ l ++ map f (slice a (suc i) t)
+written-more f l out t a i m h n b c =
+    let x = f (getD t i 0) in
+    take-suc-set out m x n ∙ ap (λ (o : List ℕ). o ++ (x ∷ [])) h ∙ append-assoc l (map f (slice a i t)) (x ∷ [])
+    ∙ sym (ap (λ (s : List ℕ). l ++ s) (ap (map f) (slice-more a i t b c) ∙ map-append f (slice a i t) (getD t i 0 ∷ [])))

@@ -1,7 +1,9 @@
 -- The queue as code holds it: a row of slots, each slot one number. Only this file and src/row.rt know how a slot is packed.
 -- Assumes nothing.
+use mathlib.Core.Path.{_≡_}
 use mathlib.Core.List.{List, map}
-use Prim.Native.Nat.{ℕ, _/_, _%_}
+use Prim.Native.Nat.{ℕ, _/_, _%_, _≤_}
+use lib.ListN.{length}
 use lib.Seq.{slice}
 use Rattle.model.specs.Rows.{Slot, RowState}
 
@@ -16,3 +18,9 @@ rowOf q from to = map unpacked (slice from to q)
 -- where a recognizer stands that holds its row there
 abbrev pub stateOf : List ℕ → ℕ → ℕ → ℕ → ℕ → List ℕ → RowState
 stateOf q from to made pending words = record { row = rowOf q from to; made = made; pending = pending; words = words }
+
+-- q has room for a row, and the row stands within it
+pub record Held (q : List ℕ) (from to : ℕ) : Type 0 where
+  pub long : length q ≡ 384
+  pub ordered : from ≤ to
+  pub within : to ≤ 384

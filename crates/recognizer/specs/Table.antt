@@ -42,10 +42,11 @@ slots t at k = slice (begins t at k) (begins t at (k + 1)) t
 
 -- what code needs to know of the cells that begin at `at`: components stand one after the other, and slots leave room for the number of a prediction
 pub record CellsFit (t : List ℕ) (at : ℕ) : Type 0 where
-  pub room : at + 32 ≤ length t
+  pub long : length t ≡ 8192
+  pub room : at + 32 ≤ 8192
   pub few : getD t at 0 ≤ 3
   pub rising : (k : ℕ) → k < 4 → begins t at k ≤ begins t at (k + 1)
-  pub last : (k : ℕ) → k ≤ 4 → begins t at k ≤ at + 20
+  pub places : (k : ℕ) → k ≤ 4 → (at + 8 ≤ begins t at k) × (begins t at k ≤ at + 20)
   pub small : (i : ℕ) → i < 12 → getD t (at + 8 + i) 0 < 32768
 
 -- the cells from `at` on hold the rule

@@ -1,4 +1,3 @@
 // The top-down recognizer on a packed row, and the trace checker (document 01, "One step", "Trace and tree", refusals 11 to 18).
-mod rules;
-
-pub use rules::compile;
+pub mod row;
+pub mod rules;

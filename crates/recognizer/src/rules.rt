@@ -1,9 +1,10 @@
 // The rules of a grammar as a table, made once for a call: 32 cells a rule.
 ghost use mathlib.Core.Option.{none};
 ghost use mathlib.Core.Path.{_≡_};
-ghost use Prim.Native.Nat.{_*_, _≤_};
+ghost use Prim.Native.Nat.{_+_, _*_, _<_, _≤_};
+ghost use lib.ListN.{getD};
 ghost use Rattle.model.specs.GrammarFile.{rulesOf, recordOf, grammarRefusal, grammarOf};
-ghost use Rattle.recognizer.specs.Table.{startCell, slotCell, cellOf, Compiled};
+ghost use Rattle.recognizer.specs.Table.{startCell, slotCell, cellOf, begins, Compiled};
 use grammar::category_of;
 use grammar::component_length;
 use grammar::daughter;
@@ -13,6 +14,14 @@ use grammar::variable_component;
 use grammar::variable_daughter;
 use grammar::word_of;
 use model::RuleNumber;
+use model::Word;
+
+// The same number, of which it is known that it has 16 bits.
+fn wide(x: u16) -> usize
+    ensures { λ n. ⌜ (n ≡ x) × (n < 65536) ⌝ }
+{
+    x as usize
+}
 
 // Where component k begins, or for 4 where the last ends, counted from the rule's first cell.
 fn start_cell(file: &[u8], r: RuleNumber, k: usize) -> u16
@@ -69,4 +78,41 @@ pub fn compile(file: &[u8]) -> [u16; 8192]
         n += 1;
     }
     t
+}
+
+// Where the cells of a rule begin.
+pub fn place_of(r: RuleNumber) -> usize
+    ensures { λ at. ⌜ at ≡ 32 * r .0 ⌝ }
+{
+    32 * r.0 as usize
+}
+
+// The fields of the rule whose cells begin at `at`: how many daughters it has, its word and its category.
+pub fn daughters(t: &[u16; 8192], at: usize) -> u16
+    requires { ⌜ at + 32 ≤ 8192 ⌝ }
+    ensures { λ n. ⌜ n ≡ getD (now (t .entry)) at 0 ⌝ }
+{
+    t[at]
+}
+
+pub fn word(t: &[u16; 8192], at: usize) -> Word
+    requires { ⌜ at + 32 ≤ 8192 ⌝ }
+    ensures { λ w. ⌜ w .0 ≡ getD (now (t .entry)) (at + 1) 0 ⌝ }
+{
+    Word(t[at + 1])
+}
+
+pub fn category(t: &[u16; 8192], at: usize) -> u16
+    requires { ⌜ at + 32 ≤ 8192 ⌝ }
+    ensures { λ a. ⌜ a ≡ getD (now (t .entry)) (at + 7) 0 ⌝ }
+{
+    t[at + 7]
+}
+
+// The cell at which its component k begins; for 4, where the last ends.
+pub fn begins(t: &[u16; 8192], at: usize, k: usize) -> usize
+    requires { ⌜ (at + 32 ≤ 8192) × (k ≤ 4) ⌝ }
+    ensures { λ i. ⌜ i ≡ begins (now (t .entry)) at k ⌝ }
+{
+    at + wide(t[at + 2 + k])
 }
