@@ -1,2 +1,4 @@
 pub mod Rules
 pub mod Linked
+pub mod Walks
+pub mod Kept
