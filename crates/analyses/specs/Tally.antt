@@ -5,7 +5,7 @@ use mathlib.Core.Path.{_≡_}
 use mathlib.Core.Bool.{Bool, true, false, _&&_}
 use mathlib.Core.List.{List, [], _∷_}
 use Prim.Native.Nat.{ℕ, suc, _+_, _-_, _<_}
-use lib.Dec.{leb, ltb}
+use lib.Dec.{leb, ltb, eqb}
 use lib.ListN.{length, getD, set, drop}
 use Rattle.model.specs.Base.{if_then_else_}
 use Rattle.model.specs.Grammar.{Grammar}
@@ -40,3 +40,18 @@ pub record Searched (before : List ℕ) (list : List (List ℕ)) (effort place :
   pub spent : within ≡ true → getD after 1 0 + effort ≡ getD before 1 0
   pub asked : within ≡ true → getD after 2 0 ≡ getD before 2 0
   pub entry : within ≡ true → drop 3 after ≡ keptEntry list (getD before 0 0) (getD before 2 0) place (drop 3 before)
+
+-- one unit of the budget is spent
+abbrev pub spentOne : List ℕ → List ℕ
+spentOne s = set s 1 (getD s 1 0 - 1)
+
+-- a complete trace that ends at a place is counted, and its end kept if it is the entry asked for
+abbrev pub endKept : List ℕ → ℕ → List ℕ
+endKept s place = if eqb (getD s 0 0) (getD s 2 0) then set s 99 place else s
+
+abbrev pub completed : List ℕ → ℕ → List ℕ
+completed s place = set (endKept s place) 0 (getD s 0 0 + 1)
+
+-- rule r is kept at a place, if the entry asked for is one of those found since the count was `first`
+abbrev pub noted : List ℕ → ℕ → ℕ → ℕ → List ℕ
+noted s first place r = if leb first (getD s 2 0) && ltb (getD s 2 0) (getD s 0 0) then set s (3 + place) r else s
