@@ -45,7 +45,7 @@ module _ (g : Grammar) (e : List ℕ) (tested : Tested g e) where
   abbrev daughterOut : ℕ → Bool
   daughterOut j = leb (length dimensions) (field e (2 + j))
 
-  category-in : field e 0 < length dimensions
+  pub category-in : field e 0 < length dimensions
   category-in = leb-false (length dimensions) (field e 0) (or-l categoryOut (ltb 3 n) (or-l (categoryOut || ltb 3 n) (anyBelow daughterOut n) (tested .category)))
 
   pub three : n ≤ 3
