@@ -14,7 +14,7 @@ use Rattle.model.specs.GrammarFile.{fields, field, daughtersOf, dimensionsOf, r
 use Rattle.model.specs.Rows.{Slot, varSlot, block, packed}
 use Rattle.model.proofs.Lists.{number-below}
 use Rattle.model.proofs.WellFormed.{rules-length}
-use Rattle.model.proofs.RuleFromRecord.{three, daughter-in, field-length, field-at, daughters-length}
+use Rattle.model.proofs.RuleFromRecord.{three, category-in, daughter-in, field-length, field-at, daughters-length}
 use Rattle.model.proofs.FromFile.{ruleRead, rule-read, rules-in, record-tested, categories-few}
 use Rattle.recognizer.specs.Row.{unpacked}
 use Rattle.recognizer.specs.Table.{startCell, slotCell, cellOf, begins, slots, CellsFit, RuleCells, Compiled}
@@ -73,6 +73,7 @@ module _ (file : List ℕ) (bytes : Bytes file) (accepted : grammarRefusal file 
           long = long;
           room = omega (arith, rules-in file accepted);
           few = let z : at + 0 ≡ at = omega arith in omega (arith, ap (λ (i : ℕ). getD t i 0) z, cell-at 0 (omega arith), three (grammarOf file) e (record-tested file accepted r here));
+          category-small = omega (arith, cell-at 7 (omega arith), category-in (grammarOf file) e (record-tested file accepted r here), categories-few file accepted);
           rising = λ k h. omega (arith, begins-at k (omega arith), begins-at (k + 1) (omega arith), before-next k);
           places = λ k h. omega (arith, begins-at k h, before-most k h);
           small = λ i h. omega (arith, slot-at i h, slot-small e (record-bytes file bytes r) i);

@@ -4,3 +4,4 @@ pub mod Cells
 pub mod Record
 pub mod Compiled
 pub mod Expand
+pub mod Steps

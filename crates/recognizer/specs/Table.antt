@@ -45,6 +45,7 @@ pub record CellsFit (t : List ℕ) (at : ℕ) : Type 0 where
   pub long : length t ≡ 8192
   pub room : at + 32 ≤ 8192
   pub few : getD t at 0 ≤ 3
+  pub category-small : getD t (at + 7) 0 < 64
   pub rising : (k : ℕ) → k < 4 → begins t at k ≤ begins t at (k + 1)
   pub places : (k : ℕ) → k ≤ 4 → (at + 8 ≤ begins t at k) × (begins t at k ≤ at + 20)
   pub small : (i : ℕ) → i < 12 → getD t (at + 8 + i) 0 < 32768

@@ -13,6 +13,7 @@ use grammar::rules;
 use grammar::variable_component;
 use grammar::variable_daughter;
 use grammar::word_of;
+use model::Category;
 use model::RuleNumber;
 use model::Word;
 
@@ -102,11 +103,11 @@ pub fn word(t: &[u16; 8192], at: usize) -> Word
     Word(t[at + 1])
 }
 
-pub fn category(t: &[u16; 8192], at: usize) -> u16
-    requires { ⌜ at + 32 ≤ 8192 ⌝ }
-    ensures { λ a. ⌜ a ≡ getD (now (t .entry)) (at + 7) 0 ⌝ }
+pub fn category(t: &[u16; 8192], at: usize) -> Category
+    requires { ⌜ (at + 32 ≤ 8192) × (getD (now t) (at + 7) 0 < 64) ⌝ }
+    ensures { λ a. ⌜ a .0 ≡ getD (now (t .entry)) (at + 7) 0 ⌝ }
 {
-    t[at + 7]
+    Category(t[at + 7] as u8)
 }
 
 // The cell at which its component k begins; for 4, where the last ends.
