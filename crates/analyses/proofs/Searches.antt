@@ -6,7 +6,7 @@ use mathlib.Core.List.{List, [], _∷_, _++_, map}
 use Prim.Native.Nat.{ℕ, zero, suc, _+_, _-_, _<_, _≤_}
 use native.Mathlib.Omega.{arith}
 use native.Mathlib.Decide.{ℕ-discrete, decLt}
-use borrow.Author.Tests.{eqb-true, eqb-false}
+use borrow.Author.Tests.{eqb-true, eqb-false, eq-eqb, ne-eqb, le-leb, lt-leb, lt-ltb, le-ltb}
 use lib.Dec.{leb, ltb, eqb}
 use lib.ListN.{length, getD, set, drop, length-append, length-map, length-set}
 use lib.Seq.{getD-set-same, getD-set-other, drop-set-lt, drop-set-add}
@@ -157,3 +157,22 @@ module _ (s : List ℕ) (place : ℕ) (long : length s ≡ 100) where
         asked = λ e. getD-set-other (end b) 0 2 more 0 (λ z. omega arith) ∙ end-low b 2 (omega arith);
         entry = λ e. drop-set-lt 3 (end b) 0 more (omega arith) ∙ end-cells b ∙ only b refl;
       }
+
+-- the sheet after each outcome of the tests
+pub completed-at : (s s₁ : List ℕ) (place : ℕ) → getD s 0 0 ≡ getD s 2 0 → s₁ ≡ set s 99 place → set s₁ 0 (getD s 0 0 + 1) ≡ completed s place
+completed-at s s₁ place e f =
+    ap (λ (l : List ℕ). set l 0 (getD s 0 0 + 1)) (f ∙ sym (ap (λ (b : Bool). if b then set s 99 place else s) (eq-eqb (getD s 0 0) (getD s 2 0) e)))
+
+pub completed-other : (s s₁ : List ℕ) (place : ℕ) → (getD s 0 0 ≡ getD s 2 0 → ⊥) → s₁ ≡ s → set s₁ 0 (getD s 0 0 + 1) ≡ completed s place
+completed-other s s₁ place e f =
+    ap (λ (l : List ℕ). set l 0 (getD s 0 0 + 1)) (f ∙ sym (ap (λ (b : Bool). if b then set s 99 place else s) (ne-eqb (getD s 0 0) (getD s 2 0) e)))
+
+module _ (s : List ℕ) (first place r : ℕ) where
+  pub noted-in : first ≤ getD s 2 0 → getD s 2 0 < getD s 0 0 → set s (3 + place) r ≡ noted s first place r
+  noted-in h k = sym (rw (le-leb first (getD s 2 0) h, lt-ltb (getD s 2 0) (getD s 0 0) k))
+
+  pub noted-after : first ≤ getD s 2 0 → getD s 0 0 ≤ getD s 2 0 → s ≡ noted s first place r
+  noted-after h k = sym (rw (le-leb first (getD s 2 0) h, le-ltb (getD s 2 0) (getD s 0 0) k))
+
+  pub noted-before : getD s 2 0 < first → s ≡ noted s first place r
+  noted-before h = sym (rw (lt-leb first (getD s 2 0) h))

@@ -6,13 +6,14 @@ use mathlib.Core.Option.{Option, none, some}
 use mathlib.Core.List.{List, [], _∷_, _++_, map, append-nil}
 use Prim.Native.Nat.{ℕ, zero, suc, _+_, _-_, _<_, _≤_}
 use native.Mathlib.Omega.{arith}
-use borrow.Author.Tests.{le-leb}
+use borrow.Author.Tests.{le-leb, lt-leb}
 use lib.Dec.{leb}
 use lib.ListN.{length, length-append, length-map}
 use Rattle.model.specs.Base.{if_then_else_, each, numbersFrom}
 use Rattle.model.specs.Grammar.{Rule, Grammar, ruleAt}
 use Rattle.model.specs.Rows.{Slot, RowState, RowOutcome, halts, moves, applyRow, stepRow, finishedRow, extendIfRow, extendByRow, extendRow, walkRow, anyRow, endRow, liveFromRow, foundFromRow}
 use Rattle.analyses.specs.Tally.{effortBelow, countBelow}
+use Rattle.analyses.specs.Search.{tailsBy, tails, under}
 use Rattle.analyses.proofs.Rules.{below}
 
 module _ (g : Grammar) (leaf : RowState → List (List ℕ)) where
@@ -35,22 +36,32 @@ module _ (g : Grammar) (leaf : RowState → List (List ℕ)) where
       (empty-each (extendRow g (λ t′. walkRow g leaf left t′) left t) (numbersFrom 0 (length (g .rules))) (empty-extend t e (λ t′. walkRow g leaf left t′) left))
       ∙ append-nil (leaf t)
 
-  -- what is found below rule r
-  abbrev pub under : ℕ → RowState → ℕ → List (List ℕ)
-  under left t r = extendRow g (λ t′. walkRow g leaf left t′) left t r
+  pub walk-length : (left : ℕ) (t : RowState) → length (walkRow g leaf (suc left) t) ≡ length (leaf t) + below (under g leaf left t) (length (g .rules))
+  walk-length left t = length-append (leaf t) (each (under g leaf left t) (numbersFrom 0 (length (g .rules))))
 
-  pub walk-length : (left : ℕ) (t : RowState) → length (walkRow g leaf (suc left) t) ≡ length (leaf t) + below (under left t) (length (g .rules))
-  walk-length left t = length-append (leaf t) (each (under left t) (numbersFrom 0 (length (g .rules))))
+  -- the rule stands before what follows it
+  pub under-tails : (left : ℕ) (t : RowState) (r : ℕ) → under g leaf left t r ≡ map (λ p. r ∷ p) (tails g leaf left t r)
+  under-tails left t r = go (stepRow g t r)
+    where
+      fit : (b : Bool) (u : RowState) → extendIfRow b (λ v. walkRow g leaf left v) r u ≡ map (λ p. r ∷ p) (if b then walkRow g leaf left u else [])
+      fit true u = refl
+      fit false u = refl
 
-  -- a rule whose step leads to a state with a queue that fits
-  pub under-moves : (left : ℕ) (t t′ : RowState) (r : ℕ) → stepRow g t r ≡ moves t′ → t′ .pending ≤ left → under left t r ≡ map (λ p. r ∷ p) (walkRow g leaf left t′)
-  under-moves left t t′ r e h =
-      ap (extendByRow (λ u. walkRow g leaf left u) left r) e
-      ∙ ap (λ (b : Bool). extendIfRow b (λ u. walkRow g leaf left u) r t′) (le-leb (t′ .pending) left h)
+      go : (o : RowOutcome) → extendByRow (λ v. walkRow g leaf left v) left r o ≡ map (λ p. r ∷ p) (tailsBy (λ v. walkRow g leaf left v) left o)
+      go (halts n) = refl
+      go (moves u) = fit (leb (u .pending) left) u
 
-  -- and one whose step does not go
-  pub under-halts : (left : ℕ) (t : RowState) (r n : ℕ) → stepRow g t r ≡ halts n → under left t r ≡ []
-  under-halts left t r n e = ap (extendByRow (λ u. walkRow g leaf left u) left r) e
+  -- what follows a rule whose step leads to a state with a queue that fits, that is too long, and that does not go
+  pub tails-moves : (left : ℕ) (t t′ : RowState) (r : ℕ) → stepRow g t r ≡ moves t′ → t′ .pending ≤ left → tails g leaf left t r ≡ walkRow g leaf left t′
+  tails-moves left t t′ r e h =
+      ap (tailsBy (λ u. walkRow g leaf left u) left) e ∙ ap (λ (b : Bool). if b then walkRow g leaf left t′ else []) (le-leb (t′ .pending) left h)
+
+  pub tails-long : (left : ℕ) (t t′ : RowState) (r : ℕ) → stepRow g t r ≡ moves t′ → left < t′ .pending → tails g leaf left t r ≡ []
+  tails-long left t t′ r e h =
+      ap (tailsBy (λ u. walkRow g leaf left u) left) e ∙ ap (λ (b : Bool). if b then walkRow g leaf left t′ else []) (lt-leb (t′ .pending) left h)
+
+  pub tails-halts : (left : ℕ) (t : RowState) (r n : ℕ) → stepRow g t r ≡ halts n → tails g leaf left t r ≡ []
+  tails-halts left t r n e = ap (tailsBy (λ u. walkRow g leaf left u) left) e
 
 module _ (g : Grammar) where
   -- complete prefixes are live

@@ -1,2 +1,3 @@
 // The count of analyses, entry m, and the listing (document 01, "Counting and listing").
 mod chain;
+mod search;
