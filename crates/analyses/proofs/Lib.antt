@@ -3,3 +3,6 @@ pub mod Linked
 pub mod Walks
 pub mod Kept
 pub mod Searches
+pub mod Scans
+pub mod Turns
+pub mod Loop

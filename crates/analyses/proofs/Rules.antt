@@ -3,7 +3,7 @@
 use mathlib.Core.Path.{_≡_, refl, sym, ap, subst, _∙_}
 use mathlib.Core.Bool.{Bool, true, false}
 use mathlib.Core.Option.{Option, none, some}
-use mathlib.Core.List.{List, [], _∷_, _++_}
+use mathlib.Core.List.{List, [], _∷_, _++_, append-nil}
 use Prim.Native.Nat.{ℕ, zero, suc, _+_, _-_, _<_, _≤_}
 use native.Mathlib.Omega.{arith}
 use native.Mathlib.Decide.{ℕ-discrete}
@@ -22,39 +22,33 @@ numbers-last from (suc n) =
     let e : suc from + n ≡ from + suc n = omega arith in
     ap (λ (l : List ℕ). from ∷ l) (numbers-last (suc from) n ∙ ap (λ (k : ℕ). numbersFrom (suc from) n ++ (k ∷ [])) e)
 
--- the sum of the lengths of f 0, .., f (n - 1)
+-- f 0, .., f (n - 1), joined
 module _ (f : ℕ → List (List ℕ)) where
-  abbrev pub below : ℕ → ℕ
-  below n = length (each f (numbersFrom 0 n))
+  abbrev pub upTo : ℕ → List (List ℕ)
+  upTo n = each f (numbersFrom 0 n)
 
-  pub below-next : (r : ℕ) → below (suc r) ≡ below r + length (f r)
-  below-next r =
+  pub upTo-next : (r : ℕ) → upTo (suc r) ≡ upTo r ++ f r
+  upTo-next r =
       let z : 0 + r ≡ r = omega arith in
-      ap (λ (l : List ℕ). length (each f l)) (numbers-last 0 r ∙ ap (λ (k : ℕ). numbersFrom 0 r ++ (k ∷ [])) z)
-      ∙ ap length (each-append f (numbersFrom 0 r) (r ∷ []))
-      ∙ length-append (each f (numbersFrom 0 r)) (each f (r ∷ []))
-      ∙ ap (λ (k : ℕ). below r + k) (length-append (f r) [] ∙ plus-none (length (f r)))
-    where
-      plus-none : (k : ℕ) → k + 0 ≡ k
-      plus-none k = omega arith
+      ap (each f) (numbers-last 0 r ∙ ap (λ (k : ℕ). numbersFrom 0 r ++ (k ∷ [])) z)
+      ∙ each-append f (numbersFrom 0 r) (r ∷ [])
+      ∙ ap (λ (l : List (List ℕ)). upTo r ++ l) (append-nil (f r))
 
-  pub below-skip : (r n : ℕ) → r ≤ n → ((i : ℕ) → r ≤ i → i < n → f i ≡ []) → below n ≡ below r
-  below-skip r zero h e = let z : r ≡ 0 = omega arith in ap below (sym z)
-  below-skip r (suc n) h e = go (ℕ-discrete r (suc n)) (λ l. below-skip r n l (λ i a b. e i a (omega arith)))
+  pub upTo-skip : (r n : ℕ) → r ≤ n → ((i : ℕ) → r ≤ i → i < n → f i ≡ []) → upTo n ≡ upTo r
+  upTo-skip r zero h e = let z : r ≡ 0 = omega arith in ap upTo (sym z)
+  upTo-skip r (suc n) h e = go (ℕ-discrete r (suc n)) (λ l. upTo-skip r n l (λ i a b. e i a (omega arith)))
     where
-      go : Dec (r ≡ suc n) → (r ≤ n → below n ≡ below r) → below (suc n) ≡ below r
-      go (yes z) ih = ap below (sym z)
-      go (no z) ih =
-          let l : length (f n) ≡ 0 = ap length (e n (omega arith) (omega arith)) in
-          omega (arith, below-next n, ih (omega arith))
+      go : Dec (r ≡ suc n) → (r ≤ n → upTo n ≡ upTo r) → upTo (suc n) ≡ upTo r
+      go (yes z) ih = ap upTo (sym z)
+      go (no z) ih = upTo-next n ∙ ap (λ (l : List (List ℕ)). upTo n ++ l) (e n (omega arith) (omega arith)) ∙ append-nil (upTo n) ∙ ih (omega arith)
 
-  pub below-more : (r n : ℕ) → r ≤ n → below r ≤ below n
-  below-more r zero h = let z : r ≡ 0 = omega arith in subst (λ (k : ℕ). below k ≤ below 0) (sym z) (omega arith)
-  below-more r (suc n) h = go (ℕ-discrete r (suc n)) (λ l. below-more r n l)
+  pub upTo-more : (r n : ℕ) → r ≤ n → length (upTo r) ≤ length (upTo n)
+  upTo-more r zero h = let z : r ≡ 0 = omega arith in subst (λ (k : ℕ). length (upTo k) ≤ length (upTo 0)) (sym z) (omega arith)
+  upTo-more r (suc n) h = go (ℕ-discrete r (suc n)) (λ l. upTo-more r n l)
     where
-      go : Dec (r ≡ suc n) → (r ≤ n → below r ≤ below n) → below r ≤ below (suc n)
-      go (yes z) ih = subst (λ (k : ℕ). below k ≤ below (suc n)) (sym z) (omega arith)
-      go (no z) ih = omega (arith, below-next n, ih (omega arith))
+      go : Dec (r ≡ suc n) → (r ≤ n → length (upTo r) ≤ length (upTo n)) → length (upTo r) ≤ length (upTo (suc n))
+      go (yes z) ih = subst (λ (k : ℕ). length (upTo k) ≤ length (upTo (suc n))) (sym z) (omega arith)
+      go (no z) ih = omega (arith, ap length (upTo-next n), length-append (upTo n) (f n), ih (omega arith))
 
 -- a rule of another category than the front's does not apply
 module _ (g : Grammar) (t : RowState) (s : Slot) (row : List Slot) (head : t .row ≡ s ∷ row) where
@@ -92,3 +86,11 @@ first-found g a r (suc n) h k = go (isOf g a r) refl k (λ u v. first-found g a 
         → (r ≤ (if b then r else firstRule g a (suc r) n)) × ((if b then r else firstRule g a (suc r) n) < r + suc n) × (isOf g a (if b then r else firstRule g a (suc r) n) ≡ true)
     go true e k ih = (omega arith, omega arith, e)
     go false e k ih = let x = ih (omega arith) k in (omega (arith, x .0), omega (arith, x .1), x .2)
+
+pub first-later : (g : Grammar) (a r n : ℕ) → r + n ≤ 256 → r ≤ firstRule g a r n
+first-later g a r zero h = omega arith
+first-later g a r (suc n) h = go (isOf g a r) (first-later g a (suc r) n (omega arith))
+  where
+    go : (b : Bool) → suc r ≤ firstRule g a (suc r) n → r ≤ (if b then r else firstRule g a (suc r) n)
+    go true ih = omega arith
+    go false ih = omega arith

@@ -14,7 +14,7 @@ use Rattle.model.specs.Grammar.{Rule, Grammar, ruleAt}
 use Rattle.model.specs.Rows.{Slot, RowState, RowOutcome, halts, moves, applyRow, stepRow, finishedRow, extendIfRow, extendByRow, extendRow, walkRow, anyRow, endRow, liveFromRow, foundFromRow}
 use Rattle.analyses.specs.Tally.{effortBelow, countBelow}
 use Rattle.analyses.specs.Search.{tailsBy, tails, under}
-use Rattle.analyses.proofs.Rules.{below}
+use Rattle.analyses.proofs.Rules.{upTo}
 
 module _ (g : Grammar) (leaf : RowState → List (List ℕ)) where
   -- no rule applies to a row without slots
@@ -36,7 +36,7 @@ module _ (g : Grammar) (leaf : RowState → List (List ℕ)) where
       (empty-each (extendRow g (λ t′. walkRow g leaf left t′) left t) (numbersFrom 0 (length (g .rules))) (empty-extend t e (λ t′. walkRow g leaf left t′) left))
       ∙ append-nil (leaf t)
 
-  pub walk-length : (left : ℕ) (t : RowState) → length (walkRow g leaf (suc left) t) ≡ length (leaf t) + below (under g leaf left t) (length (g .rules))
+  pub walk-length : (left : ℕ) (t : RowState) → length (walkRow g leaf (suc left) t) ≡ length (leaf t) + length (upTo (under g leaf left t) (length (g .rules)))
   walk-length left t = length-append (leaf t) (each (under g leaf left t) (numbersFrom 0 (length (g .rules))))
 
   -- the rule stands before what follows it
