@@ -5,4 +5,5 @@ pub mod Kept
 pub mod Searches
 pub mod Scans
 pub mod Turns
+pub mod AtState
 pub mod Loop

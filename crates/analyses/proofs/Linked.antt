@@ -104,9 +104,11 @@ module _ (file : List ℕ) (accepted : grammarRefusal file ≡ none) where
       let f : a ≡ field (recordOf file k) 0 = e ∙ ap (λ (i : ℕ). field (recordOf file i) 0) m in
       let small : field (recordOf file k) 0 < 64
       = omega (arith, category-in (grammarOf file) (recordOf file k) (record-tested file accepted k (omega arith)), categories-few file accepted) in
-      let x = link (grammarOf file) (rulesOf file) k chain (ruleRead file k) h (rule-read file k (omega arith)) (omega arith) (rules-in file accepted .1) small in
-      (omega arith, subst (λ (i : ℕ). Linked (grammarOf file) (rulesOf file) i (set (set chain (64 + i) (getD chain a 0)) a i)) (sym m)
-      (subst (λ (b : ℕ). Linked (grammarOf file) (rulesOf file) k (set (set chain (64 + k) (getD chain b 0)) b k)) (sym f) x))
+      let x = link (grammarOf file) (rulesOf file) k chain (ruleRead file k) h (rule-read file k (omega arith)) (omega arith) (rules-in file accepted .1) small in (
+        omega arith,
+        subst (λ (i : ℕ). Linked (grammarOf file) (rulesOf file) i (set (set chain (64 + i) (getD chain a 0)) a i)) (sym m)
+            (subst (λ (b : ℕ). Linked (grammarOf file) (rulesOf file) k (set (set chain (64 + k) (getD chain b 0)) b k)) (sym f) x),
+      )
 
   rule-below : (r : ℕ) (rule : Rule) → ruleAt (grammarOf file) r ≡ some rule → r < rulesOf file
   rule-below r rule e = omega (arith, rules-length file, found (grammarOf file .rules) r rule e)

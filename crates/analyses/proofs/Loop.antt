@@ -1,4 +1,4 @@
--- The search's loop over the rules of the front's category, and its ends.
+-- The search's loop over the rules of the front's category, rule after rule.
 -- Assumes nothing.
 use mathlib.Core.Path.{_≡_, refl, sym, ap, ap₂, subst, _∙_}
 use mathlib.Core.Bool.{Bool, true, false}
@@ -21,9 +21,9 @@ use Rattle.model.proofs.WellFormed.{rules-length}
 use Rattle.recognizer.specs.Row.{unpacked, rowOf}
 use Rattle.analyses.specs.Chain.{isBy, isOf, firstRule}
 use Rattle.analyses.specs.Tally.{effortBelow, countBelow, Searched, spentOne, completed}
-use Rattle.analyses.specs.Search.{standing, Ready, SearchedAt, under, SearchedUnder, Fronted}
-use Rattle.analyses.proofs.Rules.{upTo, upTo-next, upTo-skip, upTo-more, other-rule, first-passes, first-found, first-later}
-use Rattle.analyses.proofs.Searches.{searched-as, searched-joined, searched-spent, searched-complete}
+use Rattle.analyses.specs.Search.{standing, Ready, under, upTo, SearchedUnder, SearchedRules, Fronted, done, CameTo}
+use Rattle.analyses.proofs.Rules.{upTo-next, upTo-skip, upTo-more, other-rule, first-passes, first-found, first-later}
+use Rattle.analyses.proofs.Searches.{found-none, searched-as, searched-joined}
 use Rattle.analyses.proofs.Walks.{walk-empty, walk-length, each-few, count-few}
 use Rattle.analyses.proofs.Turns.{row-some}
 
@@ -31,7 +31,7 @@ not-both : {A : Type 0} → true ≡ false → A
 not-both e = let z : _≡_ {A = ℕ} 0 1 = cc in absurd (omega arith)
 
 module _ (file table chain sentence : List ℕ) (read : ℕ) (q : List ℕ) (from to pending made fuel : ℕ) (sheet : List ℕ)
-    (ready : Ready file table chain sentence read q from to pending made fuel sheet) where
+    (ready : Ready file table chain sentence read q from to pending made fuel sheet) (predicted : 1 ≤ pending) where
   abbrev g : Grammar
   g = grammarOf file
 
@@ -44,221 +44,128 @@ module _ (file table chain sentence : List ℕ) (read : ℕ) (q : List ℕ) (fro
   rules-few : R ≤ 256
   rules-few = omega (arith, rules-length file, rules-in file (ready .accepted) .1)
 
-  -- every state has a live prefix: the empty one
-  effort-some : (n : ℕ) → 1 ≤ effortBelow g n S
-  effort-some zero = omega arith
-  effort-some (suc n) = omega (arith, walk-length g (anyRow g) n S)
+  abbrev a : ℕ
+  a = unpacked (getD q from 0) .category
 
-  pub no-budget : getD sheet 1 0 ≡ 0 → SearchedAt g fuel S sheet false sheet
-  no-budget e =
+  abbrev found : ℕ → List (List ℕ)
+  found r = under g (endRow g) (fuel - 1) S r
+
+  abbrev live : ℕ → List (List ℕ)
+  live r = under g (anyRow g) (fuel - 1) S r
+
+  head : rowOf q from to ≡ unpacked (getD q from 0) ∷ rowOf q (suc from) to
+  head =
+      ap (map unpacked) (slice-cons from to q 0 (row-some file table chain sentence read q from to pending made fuel sheet ready predicted) (omega (arith, ready .held .long, ready .held .within)))
+
+  done-here : (r : ℕ) → r < R → done R r ≡ r
+  done-here r h = ap (λ (b : Bool). if b then r else R) (lt-ltb r R h)
+
+  done-all : (r : ℕ) → R ≤ r → done R r ≡ R
+  done-all r h = ap (λ (b : Bool). if b then r else R) (le-ltb r R h)
+
+  done-least : (r k : ℕ) → k ≤ r → k ≤ R → (k ≤ done R r) × (done R r ≤ R) × (done R r ≤ r)
+  done-least r k h l = go (decLt r R)
+    where
+      go : Dec (r < R) → (k ≤ done R r) × (done R r ≤ R) × (done R r ≤ r)
+      go (yes m) = omega (arith, done-here r m)
+      go (no m) = omega (arith, done-all r (omega arith))
+
+  abbrev At : List ℕ → ℕ → Type 0
+  At now r = CameTo g fuel S a sheet now r
+
+  others : (leaf : RowState → List (List ℕ)) (i : ℕ) → isOf g a i ≡ false → under g leaf (fuel - 1) S i ≡ []
+  others leaf i e = other-rule g S (unpacked (getD q from 0)) (rowOf q (suc from) to) head i e (λ u. walkRow g leaf (fuel - 1) u) (fuel - 1)
+
+  -- from rule k on to the first of the front's category
+  skipped : (leaf : RowState → List (List ℕ)) (k : ℕ) → k ≤ R
+      → upTo (λ i. under g leaf (fuel - 1) S i) (done R (firstRule g a k (R - k))) ≡ upTo (λ i. under g leaf (fuel - 1) S i) k
+  skipped leaf k h =
+      let later = first-later g a k (R - k) (omega (arith, rules-few)) in
+      let b = done-least (firstRule g a k (R - k)) k later h in
+      upTo-skip (λ i. under g leaf (fuel - 1) S i) k (done R (firstRule g a k (R - k))) (b .0)
+      (λ i l m. others leaf i (first-passes g a k (R - k) i l (omega (arith, b .1)) (omega (arith, b .2))))
+
+  here-found : (k : ℕ) → k ≤ R → firstRule g a k (R - k) < 256 → (firstRule g a k (R - k) < R) × (isOf g a (firstRule g a k (R - k)) ≡ true)
+  here-found k h l = let f = first-found g a k (R - k) (omega (arith, rules-few)) l in (omega (arith, f .1), f .2)
+
+  came : (now : List ℕ) (k : ℕ) → k ≤ R → Searched sheet (upTo found k) (length (upTo live k)) (96 - fuel) true now → At now (firstRule g a k (R - k))
+  came now k h w =
       record {
-        long = refl;
-        over = λ f. omega (arith, effort-some fuel);
-        counted = λ f. not-both (sym f);
-        spent = λ f. not-both (sym f);
-        asked = λ f. not-both (sym f);
-        entry = λ f. not-both (sym f);
+        so-far = searched-as sheet now (upTo found k) (upTo found (done R (firstRule g a k (R - k)))) (length (upTo live k)) (length (upTo live (done R (firstRule g a k (R - k))))) (96 - fuel) true
+            (sym (skipped (endRow g) k h)) (ap (λ (l : List (List ℕ)). length l) (sym (skipped (anyRow g) k h))) w;
+        rule-here = here-found k h;
       }
 
-  -- a state without predictions
-  module _ (budget : getD sheet 1 0 ≡ 0 → ⊥) where
-    some-budget : 1 ≤ getD sheet 1 0
-    some-budget = go (getD sheet 1 0) budget
+  pub came-first : (r : ℕ) → r ≡ getD chain a 0 → At sheet r
+  came-first r e =
+      let n : R - 0 ≡ R = omega arith in
+      let f : firstRule g a 0 (R - 0) ≡ r = ap (firstRule g a 0) n ∙ sym (ready .chained .first a small) ∙ sym e in
+      subst (At sheet) f (came sheet 0 (omega arith) (found-none sheet (96 - fuel)))
+    where
+      small : a < 64
+      small = omega arith
+
+  module _ (now : List ℕ) (r : ℕ) (at : At now r) (below : r < 256) where
+    pub fronted : Fronted file q from pending r
+    fronted = record { predicted = predicted; rule-is = omega (arith, at .rule-here below .0, rules-length file); of-front = at .rule-here below .1 }
+
+    -- count and budget together do not grow
+    pub ready-now : Ready file table chain sentence read q from to pending made fuel now
+    ready-now =
+        record {
+          accepted = ready .accepted;
+          compiled = ready .compiled;
+          chained = ready .chained;
+          held = ready .held;
+          known = ready .known;
+          reached = ready .reached;
+          fits = ready .fits;
+          short = ready .short;
+          numbered = ready .numbered;
+          long = at .so-far .long ∙ ready .long;
+          bounded = omega (arith, at .so-far .counted refl, at .so-far .spent refl, ready .bounded, each-few g (fuel - 1) (count-few g (fuel - 1)) S (numbersFrom 0 (done R r)));
+        }
+
+    here : done R r ≡ r
+    here = done-here r (at .rule-here below .0)
+
+    together : (b : Bool) (after : List ℕ) → SearchedUnder g fuel S r now b after
+        → Searched sheet (upTo found (suc r)) (length (upTo live (suc r))) (96 - fuel) b after
+    together b after w =
+        searched-as sheet after (upTo found (done R r) ++ found r) (upTo found (suc r)) (length (upTo live (done R r)) + length (live r)) (length (upTo live (suc r))) (96 - fuel) b
+        (ap (λ (k : ℕ). upTo found k ++ found r) here ∙ sym (upTo-next found r))
+        (ap (λ (k : ℕ). length (upTo live k) + length (live r)) here ∙ sums)
+        (searched-joined sheet now after (upTo found (done R r)) (found r) (length (upTo live (done R r))) (length (live r)) (96 - fuel) b (at .so-far) w)
       where
-        go : (n : ℕ) → (n ≡ 0 → ⊥) → 1 ≤ n
-        go zero n = absurd (n refl)
-        go (suc n) h = omega arith
+        sums : length (upTo live r) + length (live r) ≡ length (upTo live (suc r))
+        sums = omega (arith, ap length (upTo-next live r), length-append (upTo live r) (live r))
 
-    spent : Searched sheet [] 1 (96 - fuel) true (spentOne sheet)
-    spent = searched-spent sheet (96 - fuel) (omega (arith, ready .long)) some-budget
+    pub came-next : (after : List ℕ) (r′ : ℕ) → SearchedUnder g fuel S r now true after → r′ ≡ getD chain (64 + r) 0 → At after r′
+    came-next after r′ w e =
+        let known = rule-read file r (omega (arith, at .rule-here below .0, rules-length file)) in
+        let c : ruleRead file r .category ≡ a = eqb-true (ruleRead file r .category) a (sym (ap (λ (o : Option Rule). isBy o a) known) ∙ at .rule-here below .1) in
+        let f : firstRule g a (suc r) (R - suc r) ≡ r′ = ap (λ (x : ℕ). firstRule g x (suc r) (R - suc r)) (sym c) ∙ sym (ready .chained .next r (ruleRead file r) known) ∙ sym e in
+        subst (At after) f (came after (suc r) (omega (arith, at .rule-here below .0)) (together true after w))
 
-    module _ (nothing-left : pending ≡ 0) where
-      row-length : length (rowOf q from to) ≡ to - from
-      row-length = length-map (slice from to q) unpacked ∙ length-slice from to q (omega (arith, ready .held .within, ready .held .long))
+    pub later : (r′ : ℕ) → r′ ≡ getD chain (64 + r) 0 → 256 - r′ < 256 - r
+    later r′ e =
+        let known = rule-read file r (omega (arith, at .rule-here below .0, rules-length file)) in
+        omega (arith, ready .chained .next r (ruleRead file r) known, first-later g (ruleRead file r .category) (suc r) (R - suc r) (omega (arith, at .rule-here below .0, rules-few)))
 
-      row-none : rowOf q from to ≡ []
-      row-none = go (rowOf q from to) (omega (arith, file-row file (ready .accepted) S (ready .reached) .0))
-        where
-          go : (l : List Slot) → length l ≤ 0 → l ≡ []
-          go [] h = refl
-          go (x ∷ l) h = let z : ⊥ = omega arith in absurd z
+    pub over-budget : (after : List ℕ) → SearchedUnder g fuel S r now false after → SearchedRules g fuel S sheet false after
+    over-budget after w =
+        let k = together false after w in
+        record {
+          long = k .long;
+          over = λ f. omega (arith, k .over f, upTo-more live (suc r) R (omega (arith, at .rule-here below .0)));
+          counted = λ f. not-both (sym f);
+          spent = λ f. not-both (sym f);
+          asked = λ f. not-both (sym f);
+          entry = λ f. not-both (sym f);
+        }
 
-      effort-one : 1 ≡ effortBelow g fuel S
-      effort-one = ap length (sym (walk-empty g (anyRow g) fuel S row-none))
-
-      found-is : (ws : List ℕ) → drop read sentence ≡ ws → (elim ws [ [] ↦ [] ∷ [] | w ∷ us ↦ [] ]) ≡ foundFromRow g fuel S
-      found-is ws e = sym (walk-empty g (endRow g) fuel S row-none ∙ ends ws e)
-        where
-          ends : (ws : List ℕ) → drop read sentence ≡ ws → endRow g S ≡ (elim ws [ [] ↦ [] ∷ [] | w ∷ us ↦ [] ])
-          ends ws e = ap₂ (λ (row : List Slot) (us : List ℕ). endRow g (record { row = row; made = made; pending = pending; words = us })) row-none e ∙ go ws
-            where
-              go : (ws : List ℕ) → endRow g (record { row = []; made = made; pending = pending; words = ws }) ≡ (elim ws [ [] ↦ [] ∷ [] | w ∷ us ↦ [] ])
-              go [] = refl
-              go (w ∷ us) = refl
-
-      pub all-read : length sentence ≡ read → SearchedAt g fuel S sheet true (completed (spentOne sheet) (96 - fuel))
-      all-read e =
-          let d : drop read sentence ≡ [] = drop-of-length-le sentence {i = read} (omega arith) in
-          searched-as sheet (completed (spentOne sheet) (96 - fuel)) ([] ∷ []) (foundFromRow g fuel S) 1 (effortBelow g fuel S) (96 - fuel) true (found-is [] d) effort-one
-          (searched-joined sheet (spentOne sheet) (completed (spentOne sheet) (96 - fuel)) [] ([] ∷ []) 1 0 (96 - fuel) true spent
-          (searched-complete (spentOne sheet) (96 - fuel) (spent .long ∙ ready .long)))
-
-      pub words-left : (length sentence ≡ read → ⊥) → SearchedAt g fuel S sheet true (spentOne sheet)
-      words-left n =
-          let h : read < length sentence = go (ready .known) n in
-          searched-as sheet (spentOne sheet) [] (foundFromRow g fuel S) 1 (effortBelow g fuel S) (96 - fuel) true
-          (found-is (getD sentence read 0 ∷ drop (suc read) sentence) (drop-cons sentence read 0 h)) effort-one spent
-        where
-          go : read ≤ length sentence → (length sentence ≡ read → ⊥) → read < length sentence
-          go h n = by (decLt read (length sentence))
-            where
-              by : Dec (read < length sentence) → read < length sentence
-              by (yes k) = k
-              by (no k) = absurd (n (omega arith))
-
-    -- a state with predictions
-    module _ (predicted : 1 ≤ pending) where
-      abbrev a : ℕ
-      a = unpacked (getD q from 0) .category
-
-      abbrev found : ℕ → List (List ℕ)
-      found r = under g (endRow g) (fuel - 1) S r
-
-      abbrev live : ℕ → List (List ℕ)
-      live r = under g (anyRow g) (fuel - 1) S r
-
-      head : rowOf q from to ≡ unpacked (getD q from 0) ∷ rowOf q (suc from) to
-      head =
-          ap (map unpacked) (slice-cons from to q 0 (row-some file table chain sentence read q from to pending made fuel sheet ready predicted) (omega (arith, ready .held .long, ready .held .within)))
-
-      -- rules below r are done, and so are all where r is none
-      abbrev done : ℕ → ℕ
-      done r = if ltb r R then r else R
-
-      done-here : (r : ℕ) → r < R → done r ≡ r
-      done-here r h = ap (λ (b : Bool). if b then r else R) (lt-ltb r R h)
-
-      done-all : (r : ℕ) → R ≤ r → done r ≡ R
-      done-all r h = ap (λ (b : Bool). if b then r else R) (le-ltb r R h)
-
-      done-least : (r k : ℕ) → k ≤ r → k ≤ R → (k ≤ done r) × (done r ≤ R) × (done r ≤ r)
-      done-least r k h l = go (decLt r R)
-        where
-          go : Dec (r < R) → (k ≤ done r) × (done r ≤ R) × (done r ≤ r)
-          go (yes m) = omega (arith, done-here r m)
-          go (no m) = omega (arith, done-all r (omega arith))
-
-      -- what the search has done when it comes to rule r
-      pub record CameTo (now : List ℕ) (r : ℕ) : Type 0 where
-        pub so-far : Searched sheet (upTo found (done r)) (1 + length (upTo live (done r))) (96 - fuel) true now
-        pub rule-here : r < 256 → (r < R) × (isOf g a r ≡ true)
-
-      others : (leaf : RowState → List (List ℕ)) (i : ℕ) → isOf g a i ≡ false → under g leaf (fuel - 1) S i ≡ []
-      others leaf i e = other-rule g S (unpacked (getD q from 0)) (rowOf q (suc from) to) head i e (λ u. walkRow g leaf (fuel - 1) u) (fuel - 1)
-
-      -- from rule k on to the first of the front's category
-      skipped : (leaf : RowState → List (List ℕ)) (k : ℕ) → k ≤ R
-          → upTo (λ i. under g leaf (fuel - 1) S i) (done (firstRule g a k (R - k))) ≡ upTo (λ i. under g leaf (fuel - 1) S i) k
-      skipped leaf k h =
-          let later = first-later g a k (R - k) (omega (arith, rules-few)) in
-          let b = done-least (firstRule g a k (R - k)) k later h in
-          upTo-skip (λ i. under g leaf (fuel - 1) S i) k (done (firstRule g a k (R - k))) (b .0)
-          (λ i l m. others leaf i (first-passes g a k (R - k) i l (omega (arith, b .1)) (omega (arith, b .2))))
-
-      here-found : (k : ℕ) → k ≤ R → firstRule g a k (R - k) < 256 → (firstRule g a k (R - k) < R) × (isOf g a (firstRule g a k (R - k)) ≡ true)
-      here-found k h l = let f = first-found g a k (R - k) (omega (arith, rules-few)) l in (omega (arith, f .1), f .2)
-
-      came : (now : List ℕ) (k : ℕ) → k ≤ R → Searched sheet (upTo found k) (1 + length (upTo live k)) (96 - fuel) true now → CameTo now (firstRule g a k (R - k))
-      came now k h w =
-          record {
-            so-far = searched-as sheet now (upTo found k) (upTo found (done (firstRule g a k (R - k)))) (1 + length (upTo live k)) (1 + length (upTo live (done (firstRule g a k (R - k))))) (96 - fuel) true
-                (sym (skipped (endRow g) k h)) (ap (λ (l : List (List ℕ)). 1 + length l) (sym (skipped (anyRow g) k h))) w;
-            rule-here = here-found k h;
-          }
-
-      pub came-first : (r : ℕ) → r ≡ getD chain a 0 → CameTo (spentOne sheet) r
-      came-first r e =
-          let n : R - 0 ≡ R = omega arith in
-          let f : firstRule g a 0 (R - 0) ≡ r = ap (firstRule g a 0) n ∙ sym (ready .chained .first a small) ∙ sym e in
-          subst (CameTo (spentOne sheet)) f (came (spentOne sheet) 0 (omega arith) spent)
-        where
-          small : a < 64
-          small = omega arith
-
-      fuel-more : fuel ≡ suc (fuel - 1)
-      fuel-more = omega (arith, ready .fits)
-
-      whole-effort : 1 + length (upTo live R) ≡ effortBelow g fuel S
-      whole-effort = sym (ap (λ (n : ℕ). effortBelow g n S) fuel-more ∙ walk-length g (anyRow g) (fuel - 1) S)
-
-      whole-found : upTo found R ≡ foundFromRow g fuel S
-      whole-found =
-          sym (ap (λ (n : ℕ). foundFromRow g n S) fuel-more ∙ ap (λ (l : List (List ℕ)). l ++ upTo found R) not-ended)
-        where
-          not-ended : endRow g S ≡ []
-          not-ended = ap (λ (row : List Slot). endRow g (record { row = row; made = made; pending = pending; words = drop read sentence })) head
-
-      module _ (now : List ℕ) (r : ℕ) (at : CameTo now r) (below : r < 256) where
-        pub fronted : Fronted file q from pending r
-        fronted = record { predicted = predicted; rule-is = omega (arith, at .rule-here below .0, rules-length file); of-front = at .rule-here below .1 }
-
-        -- count and budget together do not grow
-        pub ready-now : Ready file table chain sentence read q from to pending made fuel now
-        ready-now =
-            record {
-              accepted = ready .accepted;
-              compiled = ready .compiled;
-              chained = ready .chained;
-              held = ready .held;
-              known = ready .known;
-              reached = ready .reached;
-              fits = ready .fits;
-              short = ready .short;
-              numbered = ready .numbered;
-              long = at .so-far .long ∙ ready .long;
-              bounded = omega (arith, at .so-far .counted refl, at .so-far .spent refl, ready .bounded, each-few g (fuel - 1) (count-few g (fuel - 1)) S (numbersFrom 0 (done r)));
-            }
-
-        here : done r ≡ r
-        here = done-here r (at .rule-here below .0)
-
-        together : (b : Bool) (after : List ℕ) → SearchedUnder g fuel S r now b after
-            → Searched sheet (upTo found (suc r)) (1 + length (upTo live (suc r))) (96 - fuel) b after
-        together b after w =
-            searched-as sheet after (upTo found (done r) ++ found r) (upTo found (suc r)) (1 + length (upTo live (done r)) + length (live r)) (1 + length (upTo live (suc r))) (96 - fuel) b
-            (ap (λ (k : ℕ). upTo found k ++ found r) here ∙ sym (upTo-next found r))
-            (ap (λ (k : ℕ). 1 + length (upTo live k) + length (live r)) here ∙ sums)
-            (searched-joined sheet now after (upTo found (done r)) (found r) (1 + length (upTo live (done r))) (length (live r)) (96 - fuel) b (at .so-far) w)
-          where
-            sums : 1 + length (upTo live r) + length (live r) ≡ 1 + length (upTo live (suc r))
-            sums = omega (arith, ap length (upTo-next live r), length-append (upTo live r) (live r))
-
-        pub came-next : (after : List ℕ) (r′ : ℕ) → SearchedUnder g fuel S r now true after → r′ ≡ getD chain (64 + r) 0 → CameTo after r′
-        came-next after r′ w e =
-            let known = rule-read file r (omega (arith, at .rule-here below .0, rules-length file)) in
-            let c : ruleRead file r .category ≡ a = eqb-true (ruleRead file r .category) a (sym (ap (λ (o : Option Rule). isBy o a) known) ∙ at .rule-here below .1) in
-            let f : firstRule g a (suc r) (R - suc r) ≡ r′ = ap (λ (x : ℕ). firstRule g x (suc r) (R - suc r)) (sym c) ∙ sym (ready .chained .next r (ruleRead file r) known) ∙ sym e in
-            subst (CameTo after) f (came after (suc r) (omega (arith, at .rule-here below .0)) (together true after w))
-
-        pub later : (r′ : ℕ) → r′ ≡ getD chain (64 + r) 0 → 256 - r′ < 256 - r
-        later r′ e =
-            let known = rule-read file r (omega (arith, at .rule-here below .0, rules-length file)) in
-            omega (arith, ready .chained .next r (ruleRead file r) known, first-later g (ruleRead file r .category) (suc r) (R - suc r) (omega (arith, at .rule-here below .0, rules-few)))
-
-        pub over-budget : (after : List ℕ) → SearchedUnder g fuel S r now false after → SearchedAt g fuel S sheet false after
-        over-budget after w =
-            let k = together false after w in
-            record {
-              long = k .long;
-              over = λ f. omega (arith, k .over f, upTo-more live (suc r) R (omega (arith, at .rule-here below .0)), whole-effort);
-              counted = λ f. not-both (sym f);
-              spent = λ f. not-both (sym f);
-              asked = λ f. not-both (sym f);
-              entry = λ f. not-both (sym f);
-            }
-
-      pub came-last : (now : List ℕ) (r : ℕ) → CameTo now r → 256 ≤ r → SearchedAt g fuel S sheet true now
-      came-last now r at h =
-          let d = done-all r (omega (arith, rules-few)) in
-          searched-as sheet now (upTo found (done r)) (foundFromRow g fuel S) (1 + length (upTo live (done r))) (effortBelow g fuel S) (96 - fuel) true
-          (ap (upTo found) d ∙ whole-found) (ap (λ (k : ℕ). 1 + length (upTo live k)) d ∙ whole-effort) (at .so-far)
+  pub came-last : (now : List ℕ) (r : ℕ) → At now r → 256 ≤ r → SearchedRules g fuel S sheet true now
+  came-last now r at h =
+      let d = done-all r (omega (arith, rules-few)) in
+      searched-as sheet now (upTo found (done R r)) (upTo found R) (length (upTo live (done R r))) (length (upTo live R)) (96 - fuel) true
+      (ap (upTo found) d) (ap (λ (k : ℕ). length (upTo live k)) d) (at .so-far)

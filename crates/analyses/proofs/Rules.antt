@@ -14,6 +14,7 @@ use Rattle.model.specs.Grammar.{Rule, Grammar, ruleAt, isLexical}
 use Rattle.model.specs.Rows.{Slot, RowState, RowOutcome, halts, moves, scanRow, predictRow, applyRow, stepRow, extendByRow, extendRow, walkRow}
 use Rattle.model.proofs.Lists.{each-append}
 use Rattle.analyses.specs.Chain.{isBy, isOf, firstRule}
+use Rattle.analyses.specs.Search.{upTo}
 
 -- numbers from `from` on, one more
 numbers-last : (from n : ℕ) → numbersFrom from (suc n) ≡ numbersFrom from n ++ ((from + n) ∷ [])
@@ -24,31 +25,28 @@ numbers-last from (suc n) =
 
 -- f 0, .., f (n - 1), joined
 module _ (f : ℕ → List (List ℕ)) where
-  abbrev pub upTo : ℕ → List (List ℕ)
-  upTo n = each f (numbersFrom 0 n)
-
-  pub upTo-next : (r : ℕ) → upTo (suc r) ≡ upTo r ++ f r
+  pub upTo-next : (r : ℕ) → upTo f (suc r) ≡ upTo f r ++ f r
   upTo-next r =
       let z : 0 + r ≡ r = omega arith in
       ap (each f) (numbers-last 0 r ∙ ap (λ (k : ℕ). numbersFrom 0 r ++ (k ∷ [])) z)
       ∙ each-append f (numbersFrom 0 r) (r ∷ [])
-      ∙ ap (λ (l : List (List ℕ)). upTo r ++ l) (append-nil (f r))
+      ∙ ap (λ (l : List (List ℕ)). upTo f r ++ l) (append-nil (f r))
 
-  pub upTo-skip : (r n : ℕ) → r ≤ n → ((i : ℕ) → r ≤ i → i < n → f i ≡ []) → upTo n ≡ upTo r
-  upTo-skip r zero h e = let z : r ≡ 0 = omega arith in ap upTo (sym z)
+  pub upTo-skip : (r n : ℕ) → r ≤ n → ((i : ℕ) → r ≤ i → i < n → f i ≡ []) → upTo f n ≡ upTo f r
+  upTo-skip r zero h e = let z : r ≡ 0 = omega arith in ap (upTo f) (sym z)
   upTo-skip r (suc n) h e = go (ℕ-discrete r (suc n)) (λ l. upTo-skip r n l (λ i a b. e i a (omega arith)))
     where
-      go : Dec (r ≡ suc n) → (r ≤ n → upTo n ≡ upTo r) → upTo (suc n) ≡ upTo r
-      go (yes z) ih = ap upTo (sym z)
-      go (no z) ih = upTo-next n ∙ ap (λ (l : List (List ℕ)). upTo n ++ l) (e n (omega arith) (omega arith)) ∙ append-nil (upTo n) ∙ ih (omega arith)
+      go : Dec (r ≡ suc n) → (r ≤ n → upTo f n ≡ upTo f r) → upTo f (suc n) ≡ upTo f r
+      go (yes z) ih = ap (upTo f) (sym z)
+      go (no z) ih = upTo-next n ∙ ap (λ (l : List (List ℕ)). upTo f n ++ l) (e n (omega arith) (omega arith)) ∙ append-nil (upTo f n) ∙ ih (omega arith)
 
-  pub upTo-more : (r n : ℕ) → r ≤ n → length (upTo r) ≤ length (upTo n)
-  upTo-more r zero h = let z : r ≡ 0 = omega arith in subst (λ (k : ℕ). length (upTo k) ≤ length (upTo 0)) (sym z) (omega arith)
+  pub upTo-more : (r n : ℕ) → r ≤ n → length (upTo f r) ≤ length (upTo f n)
+  upTo-more r zero h = let z : r ≡ 0 = omega arith in subst (λ (k : ℕ). length (upTo f k) ≤ length (upTo f 0)) (sym z) (omega arith)
   upTo-more r (suc n) h = go (ℕ-discrete r (suc n)) (λ l. upTo-more r n l)
     where
-      go : Dec (r ≡ suc n) → (r ≤ n → length (upTo r) ≤ length (upTo n)) → length (upTo r) ≤ length (upTo (suc n))
-      go (yes z) ih = subst (λ (k : ℕ). length (upTo k) ≤ length (upTo (suc n))) (sym z) (omega arith)
-      go (no z) ih = omega (arith, ap length (upTo-next n), length-append (upTo n) (f n), ih (omega arith))
+      go : Dec (r ≡ suc n) → (r ≤ n → length (upTo f r) ≤ length (upTo f n)) → length (upTo f r) ≤ length (upTo f (suc n))
+      go (yes z) ih = subst (λ (k : ℕ). length (upTo f k) ≤ length (upTo f (suc n))) (sym z) (omega arith)
+      go (no z) ih = omega (arith, ap length (upTo-next n), length-append (upTo f n) (f n), ih (omega arith))
 
 -- a rule of another category than the front's does not apply
 module _ (g : Grammar) (t : RowState) (s : Slot) (row : List Slot) (head : t .row ≡ s ∷ row) where

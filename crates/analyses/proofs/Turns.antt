@@ -177,6 +177,21 @@ module _ (file table chain sentence : List ℕ) (read : ℕ) (q : List ℕ) (fro
               → SearchedTails g fuel S r sheet b after
           next-row b after h = moved (standing sentence read out 0 n (pending - 1 + d) (made + d)) (goes .0 .leads-to) left-enough b after h
 
+    -- the same, with the number of daughters as code has it
+    pub row-ready-by : (d : ℕ) → d ≡ getD table (32 * r) 0 → 0 < d → pending + d ≤ fuel → (before out : List ℕ) (n : ℕ)
+        → Appended before out 0 (nextRow table (32 * r) made q from to) n → length out ≡ 384
+        → Ready file table chain sentence read out 0 n (pending - 1 + d) (made + d) (fuel - 1) sheet
+    row-ready-by d e h l before out n w k =
+        subst (λ (x : ℕ). Ready file table chain sentence read out 0 n (pending - 1 + x) (made + x) (fuel - 1) sheet) (sym e)
+        (row-ready (omega (arith, e)) (omega (arith, e)) before out n w k)
+
+    pub next-row-by : (d : ℕ) → d ≡ getD table (32 * r) 0 → 0 < d → pending + d ≤ fuel → (before out : List ℕ) (n : ℕ)
+        → Appended before out 0 (nextRow table (32 * r) made q from to) n → length out ≡ 384
+        → (b : Bool) (after : List ℕ) → SearchedAt g (fuel - 1) (standing sentence read out 0 n (pending - 1 + d) (made + d)) sheet b after → SearchedTails g fuel S r sheet b after
+    next-row-by d e h l before out n w k b after x =
+        next-row (omega (arith, e)) (omega (arith, e)) before out n w k b after
+        (subst (λ (y : ℕ). SearchedAt g (fuel - 1) (standing sentence read out 0 n (pending - 1 + y) (made + y)) sheet b after) e x)
+
     -- the rule noted before what was found
     pub noted-rule : (b : Bool) (after : List ℕ) → SearchedTails g fuel S r sheet b after → SearchedUnder g fuel S r sheet b (noted after (getD sheet 0 0) (96 - fuel) r)
     noted-rule b after h =

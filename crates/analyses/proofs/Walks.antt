@@ -13,8 +13,7 @@ use Rattle.model.specs.Base.{if_then_else_, each, numbersFrom}
 use Rattle.model.specs.Grammar.{Rule, Grammar, ruleAt}
 use Rattle.model.specs.Rows.{Slot, RowState, RowOutcome, halts, moves, applyRow, stepRow, finishedRow, extendIfRow, extendByRow, extendRow, walkRow, anyRow, endRow, liveFromRow, foundFromRow}
 use Rattle.analyses.specs.Tally.{effortBelow, countBelow}
-use Rattle.analyses.specs.Search.{tailsBy, tails, under}
-use Rattle.analyses.proofs.Rules.{upTo}
+use Rattle.analyses.specs.Search.{tailsBy, tails, under, upTo}
 
 module _ (g : Grammar) (leaf : RowState → List (List ℕ)) where
   -- no rule applies to a row without slots
@@ -83,8 +82,13 @@ module _ (g : Grammar) where
     pub each-few : (t : RowState) (l : List ℕ) → length (each (under g (endRow g) left t) l) ≤ length (each (under g (anyRow g) left t) l)
     each-few t [] = omega arith
     each-few t (r ∷ l) =
-        omega (arith, length-append (under g (endRow g) left t r) (each (under g (endRow g) left t) l), length-append (under g (anyRow g) left t r) (each (under g (anyRow g) left t) l),
-        outcome-few r (stepRow g t r), each-few t l)
+        omega (
+          arith,
+          length-append (under g (endRow g) left t r) (each (under g (endRow g) left t) l),
+          length-append (under g (anyRow g) left t r) (each (under g (anyRow g) left t) l),
+          outcome-few r (stepRow g t r),
+          each-few t l,
+        )
 
   pub count-few : (left : ℕ) (t : RowState) → countBelow g left t ≤ effortBelow g left t
   count-few zero t = finished-few (finishedRow t)

@@ -5,9 +5,9 @@ use mathlib.Core.Bool.{Bool, true, false}
 use mathlib.Core.Option.{none}
 use mathlib.Core.List.{List, [], _∷_}
 use Prim.Native.Nat.{ℕ, _+_, _-_, _*_, _<_, _≤_}
-use lib.Dec.{leb}
+use lib.Dec.{leb, ltb}
 use lib.ListN.{length, getD, drop}
-use Rattle.model.specs.Base.{if_then_else_}
+use Rattle.model.specs.Base.{if_then_else_, each, numbersFrom}
 use Rattle.model.specs.Grammar.{Grammar}
 use Rattle.model.specs.GrammarFile.{grammarRefusal, grammarOf, rulesOf}
 use Rattle.model.specs.Rows.{RowState, RowOutcome, halts, moves, stepRow, extendRow, walkRow, anyRow, endRow, foundFromRow}
@@ -65,3 +65,24 @@ pub record Fronted (file q : List ℕ) (from pending r : ℕ) : Type 0 where
   pub predicted : 1 ≤ pending
   pub rule-is : r < rulesOf file
   pub of-front : isOf (grammarOf file) (unpacked (getD q from 0) .category) r ≡ true
+
+-- what is found below rules 0 to n - 1, in order
+abbrev pub upTo : (ℕ → List (List ℕ)) → ℕ → List (List ℕ)
+upTo f n = each f (numbersFrom 0 n)
+
+abbrev pub SearchedUpTo : Grammar → ℕ → RowState → ℕ → List ℕ → Bool → List ℕ → Type 0
+SearchedUpTo g fuel t n before within after =
+    Searched before (upTo (under g (endRow g) (fuel - 1) t) n) (length (upTo (under g (anyRow g) (fuel - 1) t) n)) (96 - fuel) within after
+
+-- of all rules
+abbrev pub SearchedRules : Grammar → ℕ → RowState → List ℕ → Bool → List ℕ → Type 0
+SearchedRules g fuel t before within after = SearchedUpTo g fuel t (length (g .rules)) before within after
+
+-- rules below r are done, and all where r is none
+abbrev pub done : ℕ → ℕ → ℕ
+done rules r = if ltb r rules then r else rules
+
+-- what the loop over the rules of category a has done when it comes to rule r
+pub record CameTo (g : Grammar) (fuel : ℕ) (t : RowState) (a : ℕ) (before now : List ℕ) (r : ℕ) : Type 0 where
+  pub so-far : SearchedUpTo g fuel t (done (length (g .rules)) r) before true now
+  pub rule-here : r < 256 → (r < length (g .rules)) × (isOf g a r ≡ true)

@@ -3,14 +3,14 @@ ghost use mathlib.Core.Path.{_≡_};
 ghost use Prim.Native.Nat.{_+_, _-_, _*_, _<_, _≤_};
 ghost use lib.ListN.{length, getD};
 ghost use Rattle.model.specs.GrammarFile.{grammarOf};
-ghost use Rattle.analyses.specs.Search.{standing, Ready, SearchedAt, SearchedTails, SearchedUnder, Fronted};
+ghost use Rattle.analyses.specs.Search.{standing, Ready, SearchedAt, SearchedTails, SearchedUnder, SearchedRules, Fronted};
 ghost use Rattle.analyses.specs.Tally.{spentOne, completed, noted};
+use model::Word;
 use recognizer::row::category;
 use recognizer::row::expand;
 use recognizer::rules::daughters;
 use recognizer::rules::word;
 use recognizer::step::fits;
-use model::Word;
 
 // A complete trace that ends at a place: it is counted, and its end is kept if it is the entry asked for.
 fn complete(sheet: &mut [u64; 100], place: usize)
@@ -67,11 +67,57 @@ pub fn search(
         }
         return true;
     }
+    rules_below(
+        file,
+        t,
+        chain,
+        s,
+        read,
+        q,
+        from,
+        to,
+        pending,
+        made,
+        fuel,
+        sheet,
+    )
+}
+
+// The search below each rule of the front's category, in order.
+fn rules_below(
+    file: &[u8],
+    t: &[u16; 8192],
+    chain: &[u16; 320],
+    s: &[u16],
+    read: usize,
+    q: &[u16; 384],
+    from: usize,
+    to: usize,
+    pending: usize,
+    made: u16,
+    fuel: usize,
+    sheet: &mut [u64; 100],
+) -> bool
+    requires { ⌜ Ready (now file) (now t) (now chain) (now s) read (now q) from to pending made fuel (now sheet) × (1 ≤ pending) ⌝ }
+    ensures { λ b. ⌜ SearchedRules (grammarOf (now (file .entry))) fuel (standing (now (s .entry)) read (now (q .entry)) from to pending made) (now (sheet .entry)) b (now (sheet .exit)) ⌝ }
+{
     let a = category(q[from]).0 as usize;
     let mut r = chain[a];
     while r < 256 {
         if below(
-            file, t, chain, s, read, q, from, to, pending, made, fuel, sheet, r,
+            file,
+            t,
+            chain,
+            s,
+            read,
+            q,
+            from,
+            to,
+            pending,
+            made,
+            fuel,
+            sheet,
+            r,
         ) {
             let i = r as usize;
             r = chain[64 + i];
@@ -103,7 +149,19 @@ fn below(
 {
     let first = sheet[0];
     let within = stepped(
-        file, t, chain, s, read, q, from, to, pending, made, fuel, sheet, r,
+        file,
+        t,
+        chain,
+        s,
+        read,
+        q,
+        from,
+        to,
+        pending,
+        made,
+        fuel,
+        sheet,
+        r,
     );
     note(sheet, first, 96 - fuel, r);
     within
@@ -173,7 +231,20 @@ fn stepped(
         return true;
     }
     expanded(
-        file, t, chain, s, read, q, from, to, pending, made, fuel, sheet, r, d,
+        file,
+        t,
+        chain,
+        s,
+        read,
+        q,
+        from,
+        to,
+        pending,
+        made,
+        fuel,
+        sheet,
+        r,
+        d,
     )
 }
 

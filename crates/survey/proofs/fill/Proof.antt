@@ -58,8 +58,7 @@ loop-again : tie.Need-loop-again Inv-loop μ-loop
 loop-again c =
     let t = c .before .before .before .before .before .before in
     let s = t .before .before .before .before in
-    let v = c .before .before .before .visit-all in
-    (
+    let v = c .before .before .before .visit-all in (
       t .loop .inv .0,
       omega arith,
       omega arith,

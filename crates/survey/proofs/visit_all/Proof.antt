@@ -53,8 +53,7 @@ loop-again : tie.Need-loop-again Inv-loop μ-loop
 loop-again c =
     let v = c .before .before .before .visit-rule in
     let t = c .before .before .before .before .before .before in
-    let s = t .before .before .before .before in
-    (
+    let s = t .before .before .before .before in (
       t .loop .inv .0,
       omega arith,
       search needs,

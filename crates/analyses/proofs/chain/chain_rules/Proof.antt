@@ -31,14 +31,15 @@ rule-count-requires c κs = search needs
 -- src/chain.rt:25:5
 loop-holds : tie.Need-loop-holds Inv-loop μ-loop
 loop-holds c =
-    let f = c .before .before .args .file .now in
-    (
+    let f = c .before .before .args .file .now in (
       c .rule-count .ensures .0,
       refl,
       λ accepted.
-          let e = c .rule-count .ensures .1 (rules-in f accepted .1) in
-          (omega (arith, e), subst (λ (k : ℕ). Linked (grammarOf f) (rulesOf f) k (replicate 320 65535)) (sym e)
-          (link-none (grammarOf f) (rulesOf f) (replicate 320 65535) refl (λ a h. getD-replicate 320 a 65535 0 (omega arith)))),
+          let e = c .rule-count .ensures .1 (rules-in f accepted .1) in (
+            omega (arith, e),
+            subst (λ (k : ℕ). Linked (grammarOf f) (rulesOf f) k (replicate 320 65535)) (sym e)
+                (link-none (grammarOf f) (rulesOf f) (replicate 320 65535) refl (λ a h. getD-replicate 320 a 65535 0 (omega arith))),
+          ),
     )
 
 -- src/chain.rt:26:9
@@ -93,8 +94,7 @@ loop-less c = search needs
 loop-again : tie.Need-loop-again Inv-loop μ-loop
 loop-again c =
     let t = c .before .before .before in
-    let f = t .before .before .before .args .file .now in
-    (
+    let f = t .before .before .before .args .file .now in (
       omega arith,
       search needs,
       λ accepted.
@@ -107,8 +107,8 @@ returns : tie.Need-returns Inv-loop μ-loop
 returns c =
     let f = c .before .before .before .before .args .file .now in
     λ accepted.
-        let e : c .before .loop .r ≡ 0 = omega arith in
-        file-linked f accepted (c .before .loop .chain) (rw e at (c .before .loop .inv .2 accepted .1))
+    let e : c .before .loop .r ≡ 0 = omega arith in
+    file-linked f accepted (c .before .loop .chain) (rw e at (c .before .loop .inv .2 accepted .1))
 
 pub chain-rules-spec : {M : Type 1} → statement M
 chain-rules-spec =

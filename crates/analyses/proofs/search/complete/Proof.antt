@@ -30,7 +30,7 @@ element-write-sheet-2 c = search needs
 
 -- src/search.rt:16:1
 returns : tie.Need-returns
-returns c = 
+returns c =
     let a = c .before .before .before .args in
     ⊎-elim (λ w. completed-at (a .sheet .now) (c .if1 .sheet) (a .place) (w .0 .taken) (w .1)) (λ w. completed-other (a .sheet .now) (c .if1 .sheet) (a .place) (w .0 .left) (w .1)) (c .if1 .came)
 

@@ -29,19 +29,19 @@ element-write-sheet c = search needs
 
 -- src/search.rt:28:1
 returns : tie.Need-returns
-returns c = 
+returns c =
     let a = c .before .before .before .before .args in
     noted-in (a .sheet .now) (a .first) (a .place) (a .r) (c .before .before .if1 .taken) (c .if2 .taken)
 
 -- src/search.rt:28:1
 returns-2 : tie.Need-returns-2
-returns-2 c = 
+returns-2 c =
     let a = c .before .before .before .before .args in
     noted-after (a .sheet .now) (a .first) (a .place) (a .r) (c .before .before .if1 .taken) (c .if2 .left)
 
 -- src/search.rt:28:1
 returns-3 : tie.Need-returns-3
-returns-3 c = 
+returns-3 c =
     let a = c .before .before .args in
     noted-before (a .sheet .now) (a .first) (a .place) (a .r) (c .if1 .left)
 
