@@ -171,7 +171,7 @@ module _ (file : List ℕ) (accepted : grammarRefusal file ≡ none) where
   categories-few = omega (arith, dimensions-length, categories-in)
 
   -- every record passes its tests
-  pub record-length : (r : ℕ) → r < rulesOf file → length (recordOf file r) ≡ 24
+  record-length : (r : ℕ) → r < rulesOf file → length (recordOf file r) ≡ 24
   record-length r h = simp (length-take, length-drop) (omega (arith, whole-blocks, enough-blocks))
 
   pub record-tested : (r : ℕ) → r < rulesOf file → Tested (grammarOf file) (recordOf file r)
