@@ -1,12 +1,22 @@
 // The grammar file: its layout, its fields and its reader (document 01, "The grammar file", refusals 1 to 10).
+mod blocks;
 mod bytes;
 mod layout;
 mod lists;
 mod rule;
 
+pub use blocks::block_refusal;
+pub use blocks::check_refusal;
+pub use blocks::count_refusal;
+pub use blocks::records_in;
+pub use blocks::wrong_block;
+pub use blocks::wrong_check;
+pub use blocks::wrong_count;
+pub use blocks::wrong_length;
 pub use bytes::byte;
 pub use bytes::fields;
 pub use bytes::four_bytes;
+pub use bytes::less;
 pub use bytes::two_bytes;
 pub use layout::categories;
 pub use layout::dimension;
