@@ -1,13 +1,15 @@
 -- The reader's tests in pieces: the refusals of one kind, and what is tested from a kind on (document 01, refusals 1 to 10).
 -- Assumes nothing.
-use Prim.Native.Nat.{ℕ, _-_}
+use Prim.Native.Nat.{ℕ, _+_, _-_}
+use mathlib.Core.Bool.{Bool, _&&_}
 use mathlib.Core.List.{List}
 use mathlib.Core.Option.{Option}
 use Rattle.model.specs.declared.Refusal.{Refusal}
 use Rattle.model.specs.declared.Verdict.{Verdict}
 use Rattle.model.specs.Base.{_orElse_, firstFrom}
 use Rattle.model.specs.Verdict.{refuseIf, verdict}
-use Rattle.model.specs.GrammarFile.{blocks, wrongCheck, wrongBlock, wrongHeading, wrongBlocks, wrongCount, wrongRest, ruleRefusal, rulesOf}
+use lib.Dec.{ltb, eqb}
+use Rattle.model.specs.GrammarFile.{within, allZero, fields, categoriesOf, startOf, wordsOf, dimensionsOf, dimensionIn, blocks, wrongCheck, wrongBlock, wrongHeading, wrongBlocks, wrongCount, wrongRest, ruleRefusal, rulesOf}
 
 -- what a piece of the tests answers: `Accepted 0` where it refuses nothing
 abbrev pub tested : Option Refusal → Verdict
@@ -22,3 +24,13 @@ blockRefusal file n = firstFrom (λ k. refuseIf (wrongBlock file k) (Refusal.Gra
 
 abbrev pub countRefusal : List ℕ → ℕ → Option Refusal
 countRefusal file n = firstFrom (λ k. refuseIf (wrongCount file k) (Refusal.Grammar 5 k)) 1 n
+
+-- refusal 4 in pieces: C, W and R in range; the start a category of dimension 1; the unused bytes 0
+abbrev pub numbersRight : List ℕ → Bool
+numbersRight file = within 1 64 (categoriesOf file) && within 1 4096 (wordsOf file) && within 1 256 (rulesOf file)
+
+abbrev pub startRight : List ℕ → Bool
+startRight file = ltb (startOf file) (categoriesOf file) && eqb (dimensionIn (dimensionsOf file) (startOf file)) 1
+
+abbrev pub unusedRight : List ℕ → Bool
+unusedRight file = allZero (fields file 9 7) && allZero (fields file (16 + categoriesOf file) (508 - (16 + categoriesOf file)))

@@ -1,6 +1,7 @@
 // The grammar file: its layout, its fields and its reader (document 01, "The grammar file", refusals 1 to 10).
 mod blocks;
 mod bytes;
+mod heading;
 mod layout;
 mod lists;
 mod rule;
@@ -18,6 +19,7 @@ pub use bytes::fields;
 pub use bytes::four_bytes;
 pub use bytes::less;
 pub use bytes::two_bytes;
+pub use heading::wrong_heading;
 pub use layout::categories;
 pub use layout::dimension;
 pub use layout::dimensions;
