@@ -2,14 +2,14 @@
 -- Assumes nothing.
 use Prim.Native.Nat.{ℕ, _+_, _-_}
 use mathlib.Core.Bool.{Bool, _&&_}
-use mathlib.Core.List.{List}
+use mathlib.Core.List.{List, _++_}
 use mathlib.Core.Option.{Option}
 use Rattle.model.specs.declared.Refusal.{Refusal}
 use Rattle.model.specs.declared.Verdict.{Verdict}
 use Rattle.model.specs.Base.{_orElse_, firstFrom}
 use Rattle.model.specs.Verdict.{refuseIf, verdict}
 use lib.Dec.{ltb, eqb}
-use Rattle.model.specs.GrammarFile.{within, allZero, fields, categoriesOf, startOf, wordsOf, dimensionsOf, dimensionIn, blocks, wrongCheck, wrongBlock, wrongHeading, wrongBlocks, wrongCount, wrongRest, ruleRefusal, rulesOf}
+use Rattle.model.specs.GrammarFile.{within, allZero, fields, categoriesOf, startOf, wordsOf, dimensionsOf, dimensionIn, field, variables, blocks, wrongCheck, wrongBlock, wrongHeading, wrongBlocks, wrongCount, wrongRest, ruleRefusal, rulesOf}
 
 -- what a piece of the tests answers: `Accepted 0` where it refuses nothing
 abbrev pub tested : Option Refusal → Verdict
@@ -34,3 +34,13 @@ startRight file = ltb (startOf file) (categoriesOf file) && eqb (dimensionIn (di
 
 abbrev pub unusedRight : List ℕ → Bool
 unusedRight file = allZero (fields file 9 7) && allZero (fields file (16 + categoriesOf file) (508 - (16 + categoriesOf file)))
+
+-- refusal 9 of a record by its kind: the bytes that a lexical and a nonlexical rule do not use
+abbrev pub unusedLexical : List ℕ → List ℕ
+unusedLexical e = fields e 2 3 ++ fields e 7 17
+
+abbrev pub unusedNonlexical : List ℕ → List ℕ → List ℕ
+unusedNonlexical dimensions e =
+    fields e (2 + field e 1) (3 - field e 1) ++ fields e 5 2
+    ++ fields e (7 + dimensionIn dimensions (field e 0)) (4 - dimensionIn dimensions (field e 0))
+    ++ fields e (11 + variables dimensions e) (13 - variables dimensions e)

@@ -3,7 +3,6 @@ ghost use mathlib.Core.Path.{_≡_};
 ghost use Rattle.model.specs.Base.{every};
 ghost use Rattle.model.specs.GrammarFile.{within, wrongHeading};
 ghost use Rattle.grammar.specs.Reading.{numbersRight, startRight, unusedRight};
-use crate::bytes::fields;
 use crate::bytes::less;
 use crate::layout::categories;
 use crate::layout::dimension;
@@ -11,7 +10,7 @@ use crate::layout::dimensions;
 use crate::layout::rules;
 use crate::layout::start;
 use crate::layout::words;
-use crate::lists::all_zero;
+use crate::lists::zeros;
 
 // Whether x is from low to high, ends included.
 pub fn within(low: u16, high: u16, x: u16) -> bool
@@ -65,11 +64,11 @@ fn start_right(file: &[u8]) -> bool
 fn unused_right(file: &[u8]) -> bool
     ensures { λ r. ⌜ r ≡ unusedRight (now (file .entry)) ⌝ }
 {
-    if !all_zero(fields(file, 9, 7)) {
+    if !zeros(file, 9, 7) {
         return false;
     }
     let used = 16 + categories(file) as usize;
-    all_zero(fields(file, used, less(508, used)))
+    zeros(file, used, less(508, used))
 }
 
 // Refusal 4: a heading value out of range, the start not a category of dimension 1, or an unused byte not 0.
