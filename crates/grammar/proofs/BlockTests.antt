@@ -9,7 +9,8 @@ use borrow.Author.Tests.{eq-eqb, ne-eqb, lt-leb, le-leb, lt-ltb, le-ltb}
 use lib.Dec.{eqb, ltb}
 use lib.ListN.{length, getD}
 use Rattle.model.specs.Base.{if_then_else_}
-use Rattle.model.specs.GrammarFile.{blocks, byteOf, twoBytes, fourBytes, recordsIn, wrongLength, wrongBlock}
+use Rattle.model.proofs.Tests.{not-off, and-r, within-low}
+use Rattle.model.specs.GrammarFile.{within, blocks, byteOf, twoBytes, fourBytes, recordsIn, wrongLength, wrongBlock}
 use Rattle.grammar.proofs.Answers.{not-leb}
 
 -- the number of 2 bytes, and of 4, at byte i of block k
@@ -50,6 +51,11 @@ module _ (file : List ℕ) where
 
   pub many-blocks : length file % 512 ≡ 0 → 1 ≤ length file / 512 → wrongLength file ≡ ltb 14 (length file / 512)
   many-blocks e h = rw (eq-eqb (length file % 512) 0 e, le-leb 1 (length file / 512) h) (not-leb (length file / 512) 14)
+
+  pub few-blocks : wrongLength file ≡ false → length file / 512 ≤ 14
+  few-blocks e =
+      within-low 1 14 (blocks file)
+      (and-r (eqb (length file % 512) 0) (within 1 14 (blocks file)) (not-off (eqb (length file % 512) 0 && within 1 14 (blocks file)) e)) .1
 
 -- the records of a rule block
 pub full : (rules k : ℕ) → 21 * k < rules → recordsIn rules k ≡ 21

@@ -9,7 +9,7 @@ use Rattle.model.specs.declared.Verdict.{Verdict}
 use Rattle.model.specs.Base.{_orElse_, firstFrom}
 use Rattle.model.specs.Verdict.{refuseIf, verdict}
 use lib.Dec.{ltb, eqb}
-use Rattle.model.specs.GrammarFile.{within, allZero, fields, categoriesOf, startOf, wordsOf, dimensionsOf, dimensionIn, field, variables, blocks, wrongCheck, wrongBlock, wrongHeading, wrongBlocks, wrongCount, wrongRest, ruleRefusal, rulesOf}
+use Rattle.model.specs.GrammarFile.{within, allZero, fields, categoriesOf, startOf, wordsOf, dimensionsOf, dimensionIn, field, variables, blocks, wrongCheck, wrongBlock, wrongHeading, wrongBlocks, wrongCount, wrongRest, ruleRefusal, rulesOf, wrongCategory, wrongWord, wrongVariables, unusedSet}
 
 -- what a piece of the tests answers: `Accepted 0` where it refuses nothing
 abbrev pub tested : Option Refusal → Verdict
@@ -44,3 +44,27 @@ unusedNonlexical dimensions e =
     fields e (2 + field e 1) (3 - field e 1) ++ fields e 5 2
     ++ fields e (7 + dimensionIn dimensions (field e 0)) (4 - dimensionIn dimensions (field e 0))
     ++ fields e (11 + variables dimensions e) (13 - variables dimensions e)
+
+-- refusals 6 to 9 of record e at place i; with refusal 10 they are `recordRefusal`
+abbrev pub recordTests : List ℕ → ℕ → List ℕ → ℕ → Option Refusal
+recordTests dimensions words e i =
+    refuseIf (wrongCategory dimensions e) (Refusal.Grammar 6 i)
+    orElse refuseIf (wrongWord dimensions e words) (Refusal.Grammar 7 i)
+    orElse refuseIf (wrongVariables dimensions e) (Refusal.Grammar 8 i)
+    orElse refuseIf (unusedSet dimensions e) (Refusal.Grammar 9 i)
+
+-- refusals 6 to 10 of n rules
+abbrev pub rulesRefusal : List ℕ → ℕ → Option Refusal
+rulesRefusal file n = firstFrom (ruleRefusal file) 0 n
+
+-- the tests from the rules, from the number of blocks and from the checks on; `grammarRefusal` is refusal 1 and then the last of these
+abbrev pub fromRules : List ℕ → Option Refusal
+fromRules file = rulesRefusal file (rulesOf file) orElse refuseIf (wrongRest file) (Refusal.Grammar 9 (rulesOf file))
+
+abbrev pub fromCounts : List ℕ → Option Refusal
+fromCounts file = refuseIf (wrongBlocks file) (Refusal.Grammar 5 0) orElse countRefusal file (blocks file - 1) orElse fromRules file
+
+abbrev pub fromBlocks : List ℕ → Option Refusal
+fromBlocks file =
+    checkRefusal file (blocks file) orElse blockRefusal file (blocks file) orElse refuseIf (wrongHeading file) (Refusal.Grammar 4 0)
+    orElse fromCounts file

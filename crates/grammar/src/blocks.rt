@@ -1,7 +1,7 @@
-// The tests of the blocks: refusals 1, 2, 3 and 5.
+// The tests of the blocks: refusals 1, 2, 3 and 5, and 9 of the rest of the last block.
 ghost use mathlib.Core.Path.{_≡_};
 ghost use Prim.Native.Nat.{_-_};
-ghost use Rattle.model.specs.GrammarFile.{wrongLength, wrongCheck, wrongBlock, wrongCount, recordsIn, rulesOf};
+ghost use Rattle.model.specs.GrammarFile.{wrongLength, wrongCheck, wrongBlock, wrongCount, wrongBlocks, wrongRest, recordsIn, blocksFor};
 ghost use Rattle.grammar.specs.Reading.{tested, checkRefusal, blockRefusal, countRefusal};
 use crate::bytes::byte;
 use crate::bytes::fields;
@@ -10,6 +10,7 @@ use crate::bytes::less;
 use crate::bytes::two_bytes;
 use crate::layout::rules;
 use crate::lists::block_check;
+use crate::lists::zeros;
 use model::Refusal;
 use model::Verdict;
 
@@ -108,4 +109,27 @@ pub fn count_refusal(file: &[u8], n: u16) -> Verdict
         k += 1;
     }
     Verdict::Accepted(0)
+}
+
+// How many blocks so many rules take.
+pub fn blocks_for(rules: u16) -> usize
+    ensures { λ n. ⌜ n ≡ blocksFor rules ⌝ }
+{
+    1 + (rules as usize + 20) / 21
+}
+
+// Refusal 5: the number of blocks.
+pub fn wrong_blocks(file: &[u8]) -> bool
+    ensures { λ r. ⌜ r ≡ wrongBlocks (now (file .entry)) ⌝ }
+{
+    file.len() / 512 != blocks_for(rules(file))
+}
+
+// Refusal 9 at place R: the rest of the last block is not 0.
+pub fn wrong_rest(file: &[u8]) -> bool
+    ensures { λ r. ⌜ r ≡ wrongRest (now (file .entry)) ⌝ }
+{
+    let from = 512 * less(file.len() / 512, 1);
+    let used = 4 + 24 * (byte(file, from + 3) as usize);
+    !zeros(file, from + used, less(508, used))
 }
