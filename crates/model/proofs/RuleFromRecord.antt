@@ -74,14 +74,14 @@ module _ (g : Grammar) (e : List ℕ) (tested : Tested g e) where
       mem-getD (List·Memᴰ·tail i) = let (k, h, f) = mem-getD i in (suc k, omega arith, f)
 
   -- with or without daughters
-  pub lexical-none : isLexical rule ≡ true → n ≡ 0
+  lexical-none : isLexical rule ≡ true → n ≡ 0
   lexical-none l = go (daughtersOf e) daughters-length l
     where
       go : (ds : List ℕ) → length ds ≡ n → (elim ds [ [] ↦ true | d ∷ es ↦ false ]) ≡ true → n ≡ 0
       go [] k m = sym k
       go (d ∷ ds) k m = let z : _≡_ {A = ℕ} 0 1 = cc in absurd (omega arith)
 
-  pub not-lexical-some : isLexical rule ≡ false → 0 < n
+  not-lexical-some : isLexical rule ≡ false → 0 < n
   not-lexical-some l = go (daughtersOf e) daughters-length l
     where
       go : (ds : List ℕ) → length ds ≡ n → (elim ds [ [] ↦ true | d ∷ es ↦ false ]) ≡ false → 0 < n

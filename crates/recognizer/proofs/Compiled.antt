@@ -1,17 +1,17 @@
 -- A table whose cells are those of each record holds every rule of the grammar that the file holds.
 -- Assumes nothing.
-use mathlib.Core.Path.{_≡_, refl, sym, ap, ap₂, subst, _∙_}
+use mathlib.Core.Path.{_≡_, sym, ap, ap₂, subst, _∙_}
 use mathlib.Core.Option.{none, some}
-use mathlib.Core.List.{List, [], map, map-map}
-use Prim.Native.Nat.{ℕ, suc, _+_, _-_, _*_, _/_, _%_, _<_, _≤_}
+use mathlib.Core.List.{List, map, map-map}
+use Prim.Native.Nat.{ℕ, _+_, _-_, _*_, _/_, _%_, _<_, _≤_}
 use native.Mathlib.Omega.{arith}
 use native.Mathlib.Numerals.{add-one}
 use lib.ListN.{length, getD, take, drop}
 use lib.Seq.{slice}
 use Rattle.model.specs.Base.{sumBelow}
-use Rattle.model.specs.Grammar.{Variable, Rule, Grammar, ruleAt}
+use Rattle.model.specs.Grammar.{Rule}
 use Rattle.model.specs.GrammarFile.{fields, field, daughtersOf, dimensionsOf, rulesOf, recordOf, grammarRefusal, decoded, ruleOf, grammarOf}
-use Rattle.model.specs.Rows.{Slot, varSlot, block, packed}
+use Rattle.model.specs.Rows.{varSlot, block, packed}
 use Rattle.model.proofs.Lists.{number-below}
 use Rattle.model.proofs.WellFormed.{rules-length}
 use Rattle.model.proofs.RuleFromRecord.{three, category-in, daughter-in, field-length, field-at, daughters-length}

@@ -5,3 +5,4 @@ pub mod Record
 pub mod Compiled
 pub mod Expand
 pub mod Steps
+pub mod Run

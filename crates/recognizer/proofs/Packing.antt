@@ -1,7 +1,7 @@
 -- A slot as a number and back.
 -- Assumes nothing.
 use mathlib.Core.Path.{_≡_}
-use Prim.Native.Nat.{ℕ, _+_, _*_, _/_, _%_, _<_}
+use Prim.Native.Nat.{ℕ, _+_, _*_, _/_, _%_}
 use native.Mathlib.Omega.{arith}
 use Rattle.model.specs.Rows.{Slot, packed}
 use Rattle.model.proofs.RowsCode.{Fits, packed-owner, packed-cat, packed-comp}

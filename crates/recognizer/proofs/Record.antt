@@ -3,29 +3,28 @@
 -- Assumes nothing.
 use mathlib.Core.Path.{_≡_, refl, sym, ap, ap₂, subst, _∙_}
 use mathlib.Core.Bool.{Bool, true, false}
-use mathlib.Core.Option.{Option, none, some}
+use mathlib.Core.Option.{none}
 use mathlib.Core.List.{List, [], _∷_, _++_, map, List·Memᴰ, List·Memᴰ·head, List·Memᴰ·tail}
-use Prim.Native.Nat.{ℕ, zero, suc, _+_, _-_, _*_, _/_, _%_, _<_, _≤_}
+use Prim.Native.Nat.{ℕ, zero, suc, _+_, _-_, _/_, _<_, _≤_}
 use native.Mathlib.Omega.{arith}
 use native.Mathlib.Decide.{decLt}
-use borrow.Author.Tests.{lt-ltb, le-ltb, eqb-true}
-use lib.Dec.{T, eqb, eqb→eq, ltb}
-use lib.ListN.{length, getD, take, drop, length-take, length-drop, drop-of-length-le, List·getD-eq-default}
-use lib.Seq.{take-nil, drop-nil, drop-drop, getD-take, getD-drop}
+use borrow.Author.Tests.{lt-ltb, le-ltb}
+use lib.Dec.{T, eqb, eqb→eq}
+use lib.ListN.{length, getD, take, drop, List·getD-eq-default}
+use lib.Seq.{drop-drop}
 use Rattle.model.specs.declared.Refusal.{Refusal}
-use Rattle.model.specs.Base.{if_then_else_, _orElse_, firstFrom, sumBelow, total, every}
+use Rattle.model.specs.Base.{if_then_else_, _orElse_, firstFrom, sumBelow, total}
 use Rattle.model.specs.Verdict.{refuseIf}
-use Rattle.model.specs.Grammar.{Variable, Rule, Grammar, isLexical, dimension}
-use Rattle.model.specs.GrammarFile.{fields, field, allZero, hasDaughters, daughtersOf, lengthsOf, variables, dimensionIn, dimensionsOf, wordsOf, rulesOf, recordOf, wrongCategory, wrongWord, wrongVariables, unusedSet, unusedBytes, eachOnce, repeated, ruleRefusal, wrongRest, grammarRefusal, decoded, sequences, ruleOf, grammarOf}
-use Rattle.model.specs.WellFormed.{Perm}
+use Rattle.model.specs.Grammar.{Variable, Rule, Grammar, isLexical}
+use Rattle.model.specs.GrammarFile.{fields, field, allZero, daughtersOf, lengthsOf, variables, dimensionIn, dimensionsOf, wordsOf, rulesOf, recordOf, wrongCategory, wrongWord, wrongVariables, unusedSet, unusedBytes, eachOnce, repeated, ruleRefusal, wrongRest, grammarRefusal, decoded, sequences, ruleOf, grammarOf}
 use Rattle.model.proofs.Tests.{no-refusal, first-of, rest-of, first-none, not-off, and-l, every-getD}
 use Rattle.model.proofs.Lists.{map-in}
 use Rattle.model.proofs.Perm.{perm-mem}
 use Rattle.model.proofs.Variables.{vars-out}
-use Rattle.model.proofs.RuleFromRecord.{Tested, three, daughter-in, field-length, field-at, daughters-length, lexical-none, not-lexical-some, twelve, variables-right, named-are, rule-right}
+use Rattle.model.proofs.RuleFromRecord.{Tested, field-length, field-at, daughters-length, twelve, variables-right, named-are, rule-right}
 use Rattle.model.proofs.FileTests.{passed}
-use Rattle.model.proofs.FromFile.{record-tested, dimensions-in, dimensions-four, categories-few, accepted-right}
-use Rattle.recognizer.proofs.Lists.{sum-same, sum-first, sum-total, sum-rises, every-left, every-right}
+use Rattle.model.proofs.FromFile.{record-tested, dimensions-in, dimensions-four}
+use Rattle.recognizer.proofs.Lists.{sum-same, sum-first, sum-total, every-left, every-right}
 
 -- component k of sequences of these lengths
 pub sequence-at : (ls vs : List ℕ) (k : ℕ) → getD (sequences ls vs) k [] ≡ map decoded (take (getD ls k 0) (drop (sumBelow (λ j. getD ls j 0) k) vs))

@@ -9,8 +9,8 @@ use native.Mathlib.Omega.{arith}
 use native.Mathlib.Numerals.{add-one}
 use borrow.Author.Tests.{ltb-true, ltb-false, ne-eqb}
 use lib.Dec.{ltb, eqb}
-use lib.ListN.{length, getD, getElem?, take, drop, length-map, drop-of-length-le}
-use lib.Seq.{slice, slice-empty, slice-cons, drop-cons, length-slice}
+use lib.ListN.{length, getD, getElem?, drop, drop-of-length-le}
+use lib.Seq.{slice, slice-empty, slice-cons, drop-cons}
 use Rattle.model.specs.Base.{if_then_else_}
 use Rattle.model.specs.Grammar.{Rule, Grammar, emptyWord, ruleAt, isLexical}
 use Rattle.model.specs.GrammarFile.{rulesOf, grammarRefusal, grammarOf}
@@ -21,7 +21,7 @@ use Rattle.model.proofs.FromFile.{ruleRead, rule-read, accepted-right}
 use Rattle.model.proofs.RowsBounds.{Reached, reached-step, file-row}
 use Rattle.model.proofs.RowsCode.{step-scans, step-predicts}
 use Rattle.recognizer.specs.declared.step.Stepped.{Stepped}
-use Rattle.recognizer.specs.declared.step.Stepped.the-variants.{Halts, Long, Scanned, Expanded}
+use Rattle.recognizer.specs.declared.step.Stepped.the-variants.{Halts, Scanned}
 use Rattle.recognizer.specs.Row.{unpacked, rowOf, stateOf, Held}
 use Rattle.recognizer.specs.Table.{CellsFit, RuleCells, Compiled}
 use Rattle.recognizer.specs.Expand.{nextRow, Appended}
@@ -48,7 +48,7 @@ lexical-some rule h = go (rule .daughters) h
     go (d ∷ ds) h = refl
 
 -- a scan
-module _ (w : ℕ) (row : List Slot) (made pending : ℕ) (sentence : List ℕ) (read left from to : ℕ) (known : read ≤ length sentence) (short : pending ≤ left) (fronted : from < to) (E : ℕ → RowState) where
+module _ (w : ℕ) (row : List Slot) (made pending : ℕ) (sentence : List ℕ) (read left from to : ℕ) (known : read ≤ length sentence) (short : pending ≤ left) (fronted : from < to) (E : ℕ → ℕ → RowState) where
   abbrev after : ℕ → RowState
   after n = record { row = row; made = made; pending = pending; words = drop n sentence }
 
@@ -76,6 +76,15 @@ module _ (w : ℕ) (row : List Slot) (made pending : ℕ) (sentence : List ℕ) 
           (if b then Scanned read else if ltb read (length sentence) then (if wordFits w (getD sentence read 0) then Scanned (read + 1) else Halts 16) else Halts 16)
       go true = (record { leads-to = refl; short = short; fronted = fronted }, known)
       go false = at-word (ltb read (length sentence)) refl
+
+-- a row that is not empty
+pub row-head : (q : List ℕ) (from to : ℕ) → Held q from to → from < to → rowOf q from to ≡ unpacked (getD q from 0) ∷ rowOf q (from + 1) to
+row-head q from to held fronted =
+    ap (map unpacked) (slice-cons from to q 0 fronted (omega (arith, held .long, held .within)) ∙ ap (λ (i : ℕ). getD q from 0 ∷ slice i to q) (sym (add-one from)))
+
+pub pending-some : (file q : List ℕ) (from to made pending : ℕ) (words : List ℕ) → grammarRefusal file ≡ none → Reached (grammarOf file) (stateOf q from to made pending words) → Held q from to → from < to → 1 ≤ pending
+pending-some file q from to made pending words accepted reached held fronted =
+    omega (arith, file-row file accepted (stateOf q from to made pending words) reached .0, ap length (row-head q from to held fronted))
 
 -- a step of rule r from the row q[from..to], by the tests of the code
 module _ (file t q : List ℕ) (from to made pending left r : ℕ) (words : List ℕ) (accepted : grammarRefusal file ≡ none) (compiled : Compiled (grammarOf file) t) (held : Held q from to)
@@ -112,10 +121,7 @@ module _ (file t q : List ℕ) (from to made pending left r : ℕ) (words : List
       x = getD q from 0
 
       head : rowOf q from to ≡ unpacked x ∷ rowOf q (from + 1) to
-      head = ap (map unpacked) (slice-cons from to q 0 fronted (omega (arith, held .long, held .within)) ∙ ap (λ (i : ℕ). x ∷ slice i to q) (sym (add-one from)))
-
-      pub pending-some : 1 ≤ pending
-      pending-some = omega (arith, file-row file accepted S (stands .reached) .0, ap length head)
+      head = row-head q from to held fronted
 
       pub wrong-category : (getD t (32 * r + 7) 0 ≡ x / 4 % 64 → ⊥) → stepRow g S r ≡ halts 15
       wrong-category h =
@@ -153,13 +159,19 @@ module _ (file t q : List ℕ) (from to made pending left r : ℕ) (words : List
               stands .few,
             )
 
-        pub expands : 0 < d → pending - 1 + d ≤ left → (before after : List ℕ) (n : ℕ) → Appended before after 0 (nextRow t (32 * r) made q from to) n
-            → Goes (stepRow g S r) (stateOf after 0 n (made + d) (pending - 1 + d) words) left from to × (n ≤ 384)
-        expands h l before after n w = (
+        expands-by : 0 < d → pending - 1 + d ≤ left → (before after : List ℕ) (n : ℕ) → Appended before after 0 (nextRow t (32 * r) made q from to) n
+            → Goes (stepRow g S r) (stateOf after 0 n (made + d) (pending - 1 + d) words) left from to × (n ≤ 384) × (d ≤ 3)
+        expands-by h l before after n w = (
           record {
             leads-to = predicts h ∙ ap (λ (row : List Slot). moves (record { row = row; made = made + d; pending = pending - 1 + d; words = words })) (sym (ap (map unpacked) (w .written) ∙ expanded rule t (32 * r) made cells q from to));
             short = l;
             fronted = fronted;
           },
           omega (arith, w .place, room h l),
+          cells .fit .few,
         )
+
+        pub expands : (m : ℕ) → m ≡ d → 0 < d → pending - 1 + d ≤ left → (before after : List ℕ) (n : ℕ) → Appended before after 0 (nextRow t (32 * r) made q from to) n
+            → Goes (stepRow g S r) (stateOf after 0 n (made + m) (pending - 1 + m) words) left from to × (n ≤ 384) × (m ≤ 3)
+        expands m e h l before after n w =
+            subst (λ (x : ℕ). Goes (stepRow g S r) (stateOf after 0 n (made + x) (pending - 1 + x) words) left from to × (n ≤ 384) × (x ≤ 3)) (sym e) (expands-by h l before after n w)

@@ -2,3 +2,4 @@
 pub mod row;
 pub mod rules;
 pub mod step;
+pub mod trace;

@@ -1,10 +1,8 @@
 // The queue as a row of slots in sentence order, each slot one number. How a slot is packed is known in this file alone.
 // A row is the part from..to of an array.
-ghost use mathlib.Core.List.{_++_};
 ghost use mathlib.Core.Path.{_≡_};
 ghost use Prim.Native.Nat.{_+_, _/_, _%_, _<_, _≤_};
-ghost use lib.ListN.{length, getD, take};
-ghost use Rattle.model.specs.Rows.{Slot};
+ghost use lib.ListN.{length};
 ghost use Rattle.recognizer.specs.Row.{unpacked, Held};
 ghost use Rattle.recognizer.specs.Table.{CellsFit};
 ghost use Rattle.recognizer.specs.Expand.{blockAt, nextSlots, nextRow, Appended};

@@ -1,8 +1,8 @@
 // One step: a rule number applied to the front of the row.
 ghost use mathlib.Core.Option.{none};
 ghost use mathlib.Core.Path.{_≡_};
-ghost use Prim.Native.Nat.{_+_, _-_, _*_, _≤_};
-ghost use lib.ListN.{length, getD, drop};
+ghost use Prim.Native.Nat.{_+_, _-_, _≤_};
+ghost use lib.ListN.{length, drop};
 ghost use Rattle.model.specs.GrammarFile.{grammarRefusal, grammarOf};
 ghost use Rattle.model.specs.Rows.{stepRow};
 ghost use Rattle.model.specs.Step.{wordFits};
@@ -20,12 +20,12 @@ use model::RuleNumber;
 use model::Word;
 
 // What a step does: it halts by refusal 13, 14, 15 or 16; or its queue is longer than the steps left; or the head of the row goes and so many words
-// are read; or the next row, of so many slots, is written.
+// are read; or the next row, of so many slots, is written and so many predictions are made.
 pub enum Stepped {
     Halts(u8),
     Long,
     Scanned(usize),
-    Expanded(usize),
+    Expanded(usize, u16),
 }
 
 // Whether a rule's word takes a place of the sentence.
@@ -67,7 +67,7 @@ pub fn step(
     out: &mut [u16; 384],
 ) -> Stepped
     requires { ⌜ (grammarRefusal (now file) ≡ none) × Compiled (grammarOf (now file)) (now t) × Held (now q) from to × (length (now out) ≡ 384) × (read ≤ length (now sentence)) × Stands (grammarOf (now file)) (stateOf (now q) from to made pending (drop read (now sentence))) left ⌝ }
-    ensures { λ s. ⌜ (length (now (out .exit)) ≡ 384) × Says (stepRow (grammarOf (now (file .entry))) (stateOf (now (q .entry)) from to made pending (drop read (now (sentence .entry)))) (r .0)) left from to (length (now (sentence .entry))) (λ n. stateOf (now (q .entry)) (from + 1) to made (pending - 1) (drop n (now (sentence .entry)))) (λ n. stateOf (now (out .exit)) 0 n (made + getD (now (t .entry)) (32 * r .0) 0) (pending - 1 + getD (now (t .entry)) (32 * r .0) 0) (drop read (now (sentence .entry)))) s ⌝ }
+    ensures { λ s. ⌜ (length (now (out .exit)) ≡ 384) × Says (stepRow (grammarOf (now (file .entry))) (stateOf (now (q .entry)) from to made pending (drop read (now (sentence .entry)))) (r .0)) left from to (length (now (sentence .entry))) (λ n. stateOf (now (q .entry)) (from + 1) to made (pending - 1) (drop n (now (sentence .entry)))) (λ n d. stateOf (now (out .exit)) 0 n (made + d) (pending - 1 + d) (drop read (now (sentence .entry)))) s ⌝ }
 {
     if rules(file) <= r.0 {
         return Stepped::Halts(13);
@@ -79,12 +79,12 @@ pub fn step(
     if category(t, at).0 != slot_category(q[from]).0 {
         return Stepped::Halts(15);
     }
-    let d = daughters(t, at) as usize;
+    let d = daughters(t, at);
     if d == 0 {
         return scan(word(t, at), sentence, read);
     }
-    if left < pending - 1 + d {
+    if left < pending - 1 + d as usize {
         return Stepped::Long;
     }
-    Stepped::Expanded(expand(t, q, from, to, out, at, made))
+    Stepped::Expanded(expand(t, q, from, to, out, at, made), d)
 }

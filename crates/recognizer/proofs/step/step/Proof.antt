@@ -79,9 +79,6 @@ returns-3 c =
 daughters-requires : tie.Need-daughters-requires
 daughters-requires c κs = fit (c .before .before .before .before .before .before) .room
 
-cast-d : tie.Need-cast-d
-cast-d c = search needs
-
 word-requires : tie.Need-word-requires
 word-requires c κs = fit (c .before .before .before .before .before .before .before .before) .room
 
@@ -93,11 +90,10 @@ returns-4 c =
     let a = c .before .before .before .before .before .before .before .before .before .before .before .before .before .before .before .before .before .args in
     let p = c .before .before .before .before .before .before .before .before .before .before .before .before .before .before .before .before .before .pre in
     let k = c .before .before .before .before .before .before .before .before .before .before in
-    let w : c .before .word .result .0 ≡ getD (a .t .now) (32 * a .r .0 + 1) 0 = c .before .word .ensures ∙ ap (λ (i : ℕ). getD (a .t .now) (i + 1) 0) (k .place-of .ensures) in
-    let d = getD (a .t .now) (32 * a .r .0) 0 in (
+    let w : c .before .word .result .0 ≡ getD (a .t .now) (32 * a .r .0 + 1) 0 = c .before .word .ensures ∙ ap (λ (i : ℕ). getD (a .t .now) (i + 1) 0) (k .place-of .ensures) in (
       p .3,
       scan-says (c .before .word .result .0) (rowOf (a .q .now) (a .from + 1) (a .to)) (a .made) (a .pending - 1) (a .sentence .now) (a .read) (a .left) (a .from) (a .to) (p .4) (omega (arith, p .5 .short)) (fronted k)
-          (λ n. stateOf (a .out .now) 0 n (a .made + d) (a .pending - 1 + d) (drop (a .read) (a .sentence .now)))
+          (λ n d. stateOf (a .out .now) 0 n (a .made + d) (a .pending - 1 + d) (drop (a .read) (a .sentence .now)))
           (stepRow (grammarOf (a .file .now)) (stateOf (a .q .now) (a .from) (a .to) (a .made) (a .pending) (drop (a .read) (a .sentence .now))) (a .r .0)) (c .scan .result)
           (scans (a .file .now) (a .t .now) (a .q .now) (a .from) (a .to) (a .made) (a .pending) (a .left) (a .r .0) (drop (a .read) (a .sentence .now)) (p .0) (p .1) (p .2) (p .5) (here k) (fronted k) (same (c .before .before .before .before)) (sym (count (c .before .before .before)) ∙ c .before .before .if4 .taken)
           ∙ ap (λ (x : ℕ). scanRow x (rowOf (a .q .now) (a .from + 1) (a .to)) (a .made) (a .pending - 1) (drop (a .read) (a .sentence .now))) (sym w))
@@ -108,7 +104,10 @@ sub-if5 : tie.Need-sub-if5
 sub-if5 c =
     let a = c .before .before .before .before .before .before .before .before .before .before .before .before .before .before .before .args in
     let p = c .before .before .before .before .before .before .before .before .before .before .before .before .before .before .before .pre in
-    pending-some (a .file .now) (a .t .now) (a .q .now) (a .from) (a .to) (a .made) (a .pending) (a .left) (a .r .0) (drop (a .read) (a .sentence .now)) (p .0) (p .1) (p .2) (p .5) (here (c .before .before .before .before .before .before .before .before)) (fronted (c .before .before .before .before .before .before .before .before))
+    pending-some (a .file .now) (a .q .now) (a .from) (a .to) (a .made) (a .pending) (drop (a .read) (a .sentence .now)) (p .0) (p .5 .reached) (p .2) (fronted (c .before .before .before .before .before .before .before .before))
+
+cast-if5 : tie.Need-cast-if5
+cast-if5 c = search needs
 
 add-if5 : tie.Need-add-if5
 add-if5 c = search needs
@@ -138,7 +137,7 @@ returns-6 c =
     let k = c .before .before .before .before .before .before .before .before .before .before .before in
     let d = count (c .before .before .before .before) in
     let e = subst (λ (i : ℕ). Appended (a .out .now) (c .expand .last .1 .1 .1 .1 .0) 0 (nextRow (a .t .now) i (a .made) (a .q .now) (a .from) (a .to)) (c .expand .result)) (k .place-of .ensures) (c .expand .ensures) in
-    (e .kept ∙ p .3, expands (a .file .now) (a .t .now) (a .q .now) (a .from) (a .to) (a .made) (a .pending) (a .left) (a .r .0) (drop (a .read) (a .sentence .now)) (p .0) (p .1) (p .2) (p .5) (here k) (fronted k) (same (c .before .before .before .before .before)) (omega arith) (omega arith) (a .out .now) (c .expand .last .1 .1 .1 .1 .0) (c .expand .result) e)
+    (e .kept ∙ p .3, expands (a .file .now) (a .t .now) (a .q .now) (a .from) (a .to) (a .made) (a .pending) (a .left) (a .r .0) (drop (a .read) (a .sentence .now)) (p .0) (p .1) (p .2) (p .5) (here k) (fronted k) (same (c .before .before .before .before .before)) (c .before .before .before .before .daughters .result) d (omega arith) (omega arith) (a .out .now) (c .expand .last .1 .1 .1 .1 .0) (c .expand .result) e)
 
 pub step-spec : {M : Type 1} → statement M
 step-spec =
@@ -154,11 +153,11 @@ step-spec =
     category-requires-2
     returns-3
     daughters-requires
-    cast-d
     word-requires
     scan-requires
     returns-4
     sub-if5
+    cast-if5
     add-if5
     returns-5
     expand-requires
