@@ -165,8 +165,8 @@ module _ (file table chain sentence : List ℕ) (read : ℕ) (q : List ℕ) (fro
         made-small = omega (arith, ready .numbered, ready .fits)
 
         module _ (before out : List ℕ) (n : ℕ) (written : Appended before out 0 (nextRow table (32 * r) made q from to) n) (out-long : length out ≡ 384) where
-          goes : Goes (stepRow g S r) (standing sentence read out 0 n (pending - 1 + d) (made + d)) (fuel - 1) from to × (n ≤ 384)
-          goes = expands file table q from to made pending (fuel - 1) r (drop read sentence) (ready .accepted) (ready .compiled) (ready .held) stands (fronted .rule-is) head-here of-category some-daughters left-enough before out n written
+          goes : Goes (stepRow g S r) (standing sentence read out 0 n (pending - 1 + d) (made + d)) (fuel - 1) from to × (n ≤ 384) × (d ≤ 3)
+          goes = expands file table q from to made pending (fuel - 1) r (drop read sentence) (ready .accepted) (ready .compiled) (ready .held) stands (fronted .rule-is) head-here of-category d refl some-daughters left-enough before out n written
 
           pub row-ready : Ready file table chain sentence read out 0 n (pending - 1 + d) (made + d) (fuel - 1) sheet
           row-ready =
