@@ -1,8 +1,11 @@
 pub mod Lists
+pub mod Verdicts
 pub mod Packing
 pub mod Cells
 pub mod Record
 pub mod Compiled
 pub mod Expand
 pub mod Steps
-pub mod Run
+pub mod Running
+pub mod Words
+pub mod Checked

@@ -1,9 +1,10 @@
 // The queue as a row of slots in sentence order, each slot one number. How a slot is packed is known in this file alone.
 // A row is the part from..to of an array.
+ghost use mathlib.Core.List.{[], _∷_};
 ghost use mathlib.Core.Path.{_≡_};
 ghost use Prim.Native.Nat.{_+_, _/_, _%_, _<_, _≤_};
 ghost use lib.ListN.{length};
-ghost use Rattle.recognizer.specs.Row.{unpacked, Held};
+ghost use Rattle.recognizer.specs.Row.{unpacked, rowOf, Held};
 ghost use Rattle.recognizer.specs.Table.{CellsFit};
 ghost use Rattle.recognizer.specs.Expand.{blockAt, nextSlots, nextRow, Appended};
 use crate::rules::begins;
@@ -30,12 +31,14 @@ pub fn component(x: u16) -> usize
     (x % 4) as usize
 }
 
-// The only component of the first prediction, which is of category a.
-pub fn first_slot(a: Category) -> u16
+// The first row, q[0..1]: the only component of prediction 0, which is of category a.
+pub fn first_row(a: Category) -> [u16; 384]
     requires { ⌜ a .0 < 64 ⌝ }
-    ensures { λ x. ⌜ unpacked x ≡ record { owner = 0; category = a .0; component = 0 } ⌝ }
+    ensures { λ q. ⌜ Held q 0 1 × (rowOf q 0 1 ≡ record { owner = 0; category = a .0; component = 0 } ∷ []) ⌝ }
 {
-    a.0 as u16 * 4
+    let mut q = [0u16; 384];
+    q[0] = a.0 as u16 * 4;
+    q
 }
 
 // Writes the block of component k of the rule at `at` behind the first n slots of out, and answers the place after it.

@@ -116,10 +116,3 @@ module _ (g : Grammar) (sentence trace : List ℕ) (k : ℕ) (S : RowState) wher
           short = omega (arith, h .short);
           few = omega (arith, h .few);
         }
-
--- a refusal is no acceptance
-pub refused : (o : Option Refusal) (n : ℕ) (x : Refusal) → o ≡ some x → Verdict.Refused x ≡ verdict o n
-refused o n x e = sym (ap (λ (p : Option Refusal). verdict p n) e)
-
-pub accepted : (o : Option Refusal) (n m : ℕ) → o ≡ none → m ≡ n → Verdict.Accepted m ≡ verdict o n
-accepted o n m e d = ap Verdict.Accepted d ∙ sym (ap (λ (p : Option Refusal). verdict p n) e)
