@@ -1,5 +1,4 @@
 pub mod Lists
-pub mod Verdicts
 pub mod Packing
 pub mod Cells
 pub mod Record

@@ -5,8 +5,12 @@ ghost use mathlib.Core.Bool.{false};
 ghost use Prim.Native.Nat.{suc, _<_, _≤_};
 ghost use lib.ListN.{getD, length, replicate};
 ghost use Rattle.model.specs.GrammarFile.{grammarOf, grammarRefusal, rulesOf, categoriesOf, daughtersOf, recordOf};
+ghost use Rattle.model.specs.Calls.{SurveyOutcome};
 ghost use Rattle.model.specs.Survey.{ready, visit, surveyRound, rounds, survey};
 use buffers::number_at;
+use buffers::room_refusal;
+use grammar::categories;
+use grammar::read_grammar;
 use model::Category;
 use model::RuleNumber;
 use model::Verdict;
@@ -71,7 +75,7 @@ fn fill(file: &[u8], figures: &mut [u16])
     requires { ⌜ (grammarRefusal (now file) ≡ none) × (now figures ≡ replicate (categoriesOf (now file)) 0) ⌝ }
     ensures { λ r. ⌜ now (figures .exit) ≡ survey (grammarOf (now (file .entry))) ⌝ }
 {
-    let last = grammar::categories(file) as u16;
+    let last = categories(file) as u16;
     let mut round: u16 = 1;
     while round <= last {
         if visit_all(file, figures, round) {
@@ -92,4 +96,30 @@ fn clear(figures: &mut [u16])
         figures[i] = 0;
         i += 1;
     }
+}
+
+// The survey: refusals 1 to 10, 23; else C, with C figures at the front of the output. Costs at most C times R visits to a rule.
+pub fn survey(file: &[u8], out: &mut [u16]) -> Verdict
+    ensures { λ v. ⌜ SurveyOutcome (now (file .entry)) (now (out .entry)) v (now (out .exit)) ⌝ }
+{
+    let read = read_grammar(file);
+    let Verdict::Accepted(_) = read else {
+        return read;
+    };
+    let room = room_refusal(out);
+    let Verdict::Accepted(_) = room else {
+        return room;
+    };
+    let n = categories(file) as usize;
+    write_figures(file, &mut out[0..n]);
+    Verdict::Accepted(n as u64)
+}
+
+// The figures of an accepted file, one for each category.
+fn write_figures(file: &[u8], figures: &mut [u16])
+    requires { ⌜ (grammarRefusal (now file) ≡ none) × (length (now figures) ≡ categoriesOf (now file)) ⌝ }
+    ensures { λ r. ⌜ now (figures .exit) ≡ survey (grammarOf (now (file .entry))) ⌝ }
+{
+    clear(figures);
+    fill(file, figures);
 }

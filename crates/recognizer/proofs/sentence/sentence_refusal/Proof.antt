@@ -8,7 +8,7 @@ use borrow.Author.Needs.{needs}
 use Rattle.model.specs.declared.Refusal.{Refusal}
 use Rattle.model.specs.GrammarFile.{grammarOf, wordsOf}
 use Rattle.model.specs.Trace.{firstUnknown}
-use Rattle.recognizer.proofs.Verdicts.{refused, accepted}
+use Rattle.model.proofs.Verdicts.{refused, accepted}
 use Rattle.recognizer.proofs.Words.{too-many, not-too-many, word-unknown, word-known, words-end}
 use Rattle.recognizer.proofs.sentence.sentence_refusal.Statement.{statement}
 use Rattle.recognizer.proofs.sentence.sentence_refusal.Tie as tie

@@ -18,7 +18,7 @@ use Rattle.recognizer.specs.Row.{stateOf}
 use Rattle.recognizer.specs.Steps.{Goes}
 use Rattle.recognizer.proofs.Steps.{row-head, pending-some}
 use Rattle.recognizer.proofs.Running.{words-left, all-read, none-taken, halted, longer, verdict-further, taken-further, runs-further, stands}
-use Rattle.recognizer.proofs.Verdicts.{refused, accepted}
+use Rattle.model.proofs.Verdicts.{refused, accepted}
 use Rattle.recognizer.proofs.trace.+run.{statement}
 use Rattle.recognizer.proofs.trace.+run.Tie.{close}
 use Rattle.recognizer.proofs.trace.run.Reads as run

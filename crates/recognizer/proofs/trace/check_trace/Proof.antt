@@ -6,7 +6,7 @@ use borrow.Author.Needs.{needs}
 use Rattle.model.specs.Base.{_orElse_}
 use Rattle.model.specs.GrammarFile.{rulesOf, grammarRefusal, grammarOf}
 use Rattle.model.specs.Trace.{sentenceRefusal, traceRefusal}
-use Rattle.recognizer.proofs.Verdicts.{passed, stopped, after-pass, sentence-short}
+use Rattle.model.proofs.Verdicts.{passed, stopped, after-pass, sentence-short}
 use Rattle.recognizer.proofs.trace.check_trace.Statement.{statement}
 use Rattle.recognizer.proofs.trace.check_trace.Tie as tie
 

@@ -6,7 +6,7 @@ use lib.ListN.{length}
 use borrow.Author.Needs.{needs}
 use Rattle.model.specs.declared.Refusal.{Refusal}
 use Rattle.model.proofs.Tests.{none-some}
-use Rattle.recognizer.proofs.Verdicts.{refused}
+use Rattle.model.proofs.Verdicts.{refused}
 use Rattle.recognizer.proofs.Checked.{start-small, trace-long, trace-empty, begin-runs, begin-verdict, begin-taken}
 use Rattle.recognizer.proofs.trace.run_trace.Statement.{statement}
 use Rattle.recognizer.proofs.trace.run_trace.Tie as tie

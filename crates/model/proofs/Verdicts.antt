@@ -30,6 +30,13 @@ module _ (o : Option Refusal) (n : ℕ) (v : Verdict) (is : v ≡ verdict o n) w
       go : (o : Option Refusal) → verdict o n ≡ Verdict.Accepted m → o ≡ none
       go none f = refl
       go (some x) f = let z : _≡_ {A = ℕ} 0 1 = cc in absurd (omega arith)
+
+  pub met : {x : Refusal} → v ≡ Verdict.Refused x → o ≡ some x
+  met {x} e = go o (sym is ∙ e)
+    where
+      go : (o : Option Refusal) → verdict o n ≡ Verdict.Refused x → o ≡ some x
+      go none f = let z : _≡_ {A = ℕ} 0 1 = cc in absurd (omega arith)
+      go (some y) f = cc
 
   -- a refusal stands whatever is tested after it
   pub stopped : (p : Option Refusal) (m : ℕ) {x : Refusal} → v ≡ Verdict.Refused x → v ≡ verdict (o orElse p) m
