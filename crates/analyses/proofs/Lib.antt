@@ -7,3 +7,5 @@ pub mod Scans
 pub mod Turns
 pub mod AtState
 pub mod Loop
+pub mod Begin
+pub mod Limits
