@@ -9,3 +9,4 @@ pub mod AtState
 pub mod Loop
 pub mod Begin
 pub mod Limits
+pub mod Counted

@@ -1,5 +1,10 @@
 -- `analyses::calls::count_tests` meets its contract.
 -- Assumes nothing.
+use Rattle.model.specs.Base.{_orElse_}
+use Rattle.model.specs.GrammarFile.{grammarRefusal, grammarOf, rulesOf}
+use Rattle.model.specs.Trace.{sentenceRefusal}
+use Rattle.model.specs.Counting.{limitsRefusal}
+use Rattle.model.proofs.Verdicts.{passed, stopped, after-pass}
 use borrow.Author.Needs.{needs}
 use Rattle.analyses.proofs.calls.count_tests.Statement.{statement}
 use Rattle.analyses.proofs.calls.count_tests.Tie as tie
@@ -22,7 +27,13 @@ enum-told-2 c = search needs
 
 -- src/calls.rt:82:9
 returns : tie.Need-returns
-returns c = search needs
+returns c =
+    let a = c .before .before .before .before .before .args in
+    let G = grammarRefusal (a .file .now) in
+    let L = limitsRefusal (a .n) (a .limit) in
+    let W = sentenceRefusal (grammarOf (a .file .now)) (a .sentence .now) in
+    let k = c .before .before .read-grammar in
+    stopped G (rulesOf (a .file .now)) (k .result) (k .ensures) (L orElse W) 0 (c .enum-told2 .given .1)
 
 -- src/calls.rt:84:9
 limits-refusal-requires : tie.Need-limits-refusal-requires
@@ -37,7 +48,14 @@ enum-told-4 c = search needs
 
 -- src/calls.rt:86:9
 returns-2 : tie.Need-returns-2
-returns-2 c = search needs
+returns-2 c =
+    let a = c .before .before .before .before .before .before .before .before .args in
+    let G = grammarRefusal (a .file .now) in
+    let L = limitsRefusal (a .n) (a .limit) in
+    let W = sentenceRefusal (grammarOf (a .file .now)) (a .sentence .now) in
+    let g = c .before .before .before .before .before .read-grammar in
+    let k = c .before .before .limits-refusal in
+    after-pass G (L orElse W) 0 (k .result) (passed G (rulesOf (a .file .now)) (g .result) (g .ensures) (c .before .before .before .enum-told .given .1)) (stopped L 0 (k .result) (k .ensures) W 0 (c .enum-told4 .given .1))
 
 -- src/calls.rt:88:5
 sentence-refusal-requires : tie.Need-sentence-refusal-requires
@@ -45,7 +63,16 @@ sentence-refusal-requires c κs = search needs
 
 -- src/calls.rt:77:1
 returns-3 : tie.Need-returns-3
-returns-3 c = search needs
+returns-3 c =
+    let a = c .before .before .before .before .before .before .before .before .before .args in
+    let G = grammarRefusal (a .file .now) in
+    let L = limitsRefusal (a .n) (a .limit) in
+    let W = sentenceRefusal (grammarOf (a .file .now)) (a .sentence .now) in
+    let g = c .before .before .before .before .before .before .read-grammar in
+    let l = c .before .before .before .limits-refusal in
+    let k = c .sentence-refusal in
+    after-pass G (L orElse W) 0 (k .result) (passed G (rulesOf (a .file .now)) (g .result) (g .ensures) (c .before .before .before .before .enum-told .given .1))
+    (after-pass L W 0 (k .result) (passed L 0 (l .result) (l .ensures) (c .before .enum-told3 .given .1)) (k .ensures))
 
 pub count-tests-spec : {M : Type 1} → statement M
 count-tests-spec =
