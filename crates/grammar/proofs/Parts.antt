@@ -5,7 +5,7 @@ use mathlib.Core.List.{List, [], _∷_}
 use Prim.Native.Nat.{ℕ, _+_, _-_, _*_, _<_, _≤_}
 use native.Mathlib.Omega.{arith}
 use lib.ListN.{length, getD, take, drop, length-drop, length-take, drop-of-length-le, List·getD-eq-default}
-use lib.Seq.{drop-length, take-nil, take-all, getD-take, getD-drop}
+use lib.Seq.{drop-length, take-nil, take-all, take-take, getD-take, getD-drop}
 use Rattle.model.specs.GrammarFile.{fields}
 
 module _ (bytes : List ℕ) (i n : ℕ) where
@@ -28,6 +28,10 @@ module _ (bytes : List ℕ) (i n : ℕ) where
 
   pub part-past : (j : ℕ) → n ≤ j → getD (fields bytes i n) j 0 ≡ 0
   part-past j h = List·getD-eq-default (fields bytes i n) 0 {n = j} (omega (arith, part-length))
+
+  -- the part from its first byte on is the part itself
+  pub part-again : fields (fields bytes i n) 0 n ≡ fields bytes i n
+  part-again = take-take n n (drop i bytes) (omega arith)
 
 -- two bytes of a part
 pub part-two : (bytes : List ℕ) (i n j : ℕ) → j + 1 < n → getD (fields bytes i n) j 0 + 256 * getD (fields bytes i n) (j + 1) 0 ≡ getD bytes (i + j) 0 + 256 * getD bytes (i + j + 1) 0

@@ -2,7 +2,7 @@
 -- Assumes nothing.
 use mathlib.Core.Path.{_≡_, refl, sym, ap, _∙_}
 use mathlib.Core.Bool.{Bool, true, false, _&&_}
-use mathlib.Core.List.{List, [], _∷_}
+use mathlib.Core.List.{List, [], _∷_, map}
 use Prim.Native.Nat.{ℕ, suc, _+_, _*_, _<_, _≤_}
 use native.Mathlib.Omega.{arith}
 use native.Mathlib.Numerals.{add-one}
@@ -37,6 +37,14 @@ module _ (l : List ℕ) (i : ℕ) where
 
   pub weighted-end : length l ≤ i → weighted (i + 1) (drop i l) ≡ 0
   weighted-end h = rw (drop-of-length-le l {i = i} h)
+
+-- the sum of what f gives
+module _ (f : ℕ → ℕ) (l : List ℕ) (i : ℕ) where
+  pub sum-more : i < length l → total (map f (drop i l)) ≡ f (getD l i 0) + total (map f (drop (i + 1) l))
+  sum-more h = rw (add-one, drop-cons l i 0 h)
+
+  pub sum-end : length l ≤ i → total (map f (drop i l)) ≡ 0
+  sum-end h = rw (drop-of-length-le l {i = i} h)
 
 -- how often x occurs
 module _ (x : ℕ) (l : List ℕ) (i : ℕ) where

@@ -1,6 +1,6 @@
 // Numbers and parts of a list of bytes. A byte past the end reads 0, and a part stops at the end: nothing here has a `requires`.
 ghost use mathlib.Core.Path.{_≡_};
-ghost use Prim.Native.Nat.{_+_, _*_, _<_, _≤_};
+ghost use Prim.Native.Nat.{_+_, _-_, _*_};
 ghost use lib.ListN.{getD};
 ghost use Rattle.model.specs.GrammarFile.{fields};
 
@@ -45,4 +45,11 @@ pub fn fields(bytes: &[u8], i: usize, n: usize) -> &[u8]
         return &bytes[i..];
     }
     &bytes[i..i + n]
+}
+
+// a less b, or 0 where b is greater.
+pub fn less(a: usize, b: usize) -> usize
+    ensures { λ r. ⌜ r ≡ a - b ⌝ }
+{
+    if b <= a { a - b } else { 0 }
 }

@@ -65,7 +65,7 @@ pub fn record_place(r: RuleNumber) -> usize
 }
 
 // The record of a rule.
-pub fn record(file: &[u8], r: RuleNumber) -> &[u8]
+pub fn record_of(file: &[u8], r: RuleNumber) -> &[u8]
     ensures { λ e. ⌜ now e ≡ recordOf (now (file .entry)) (r .0) ⌝ }
 {
     fields(file, record_place(r), 24)

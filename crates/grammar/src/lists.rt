@@ -20,6 +20,13 @@ pub fn all_zero(bytes: &[u8]) -> bool
     true
 }
 
+// Whether n bytes from byte i on are 0.
+pub fn zeros(bytes: &[u8], i: usize, n: usize) -> bool
+    ensures { λ r. ⌜ r ≡ allZero (fields (now (bytes .entry)) i n) ⌝ }
+{
+    all_zero(fields(bytes, i, n))
+}
+
 // The sum of the bytes.
 pub fn total(bytes: &[u8]) -> u32
     requires { ⌜ length (now bytes) < 65536 ⌝ }

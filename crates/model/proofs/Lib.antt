@@ -49,3 +49,4 @@ pub mod WriterTests
 pub mod WriterAgain
 pub mod WriterBack
 pub mod WriterHeading
+pub mod Verdicts

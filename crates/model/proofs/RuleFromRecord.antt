@@ -45,23 +45,23 @@ module _ (g : Grammar) (e : List ℕ) (tested : Tested g e) where
   abbrev daughterOut : ℕ → Bool
   daughterOut j = leb (length dimensions) (field e (2 + j))
 
-  category-in : field e 0 < length dimensions
+  pub category-in : field e 0 < length dimensions
   category-in = leb-false (length dimensions) (field e 0) (or-l categoryOut (ltb 3 n) (or-l (categoryOut || ltb 3 n) (anyBelow daughterOut n) (tested .category)))
 
-  three : n ≤ 3
+  pub three : n ≤ 3
   three = ltb-false 3 n (or-r categoryOut (ltb 3 n) (or-l (categoryOut || ltb 3 n) (anyBelow daughterOut n) (tested .category)))
 
-  daughter-in : (j : ℕ) → j < n → field e (2 + j) < length dimensions
+  pub daughter-in : (j : ℕ) → j < n → field e (2 + j) < length dimensions
   daughter-in j h = leb-false (length dimensions) (field e (2 + j)) (any-none daughterOut n (or-r (categoryOut || ltb 3 n) (anyBelow daughterOut n) (tested .category)) j h)
 
   -- parts of the record
-  field-length : (i k : ℕ) → i + k ≤ 24 → length (fields e i k) ≡ k
+  pub field-length : (i k : ℕ) → i + k ≤ 24 → length (fields e i k) ≡ k
   field-length i k h = simp (length-take, length-drop) (omega (arith, tested .long))
 
-  field-at : (i k j : ℕ) → j < k → getD (fields e i k) j 0 ≡ field e (i + j)
+  pub field-at : (i k j : ℕ) → j < k → getD (fields e i k) j 0 ≡ field e (i + j)
   field-at i k j h = rw (getD-take, getD-drop)
 
-  daughters-length : length (daughtersOf e) ≡ n
+  pub daughters-length : length (daughtersOf e) ≡ n
   daughters-length = field-length 2 n (omega (arith, three))
 
   daughter-mem : (d : ℕ) → List·Memᴰ d (daughtersOf e) → d < length dimensions
@@ -123,19 +123,19 @@ module _ (g : Grammar) (e : List ℕ) (tested : Tested g e) where
     total-four [] h = omega arith
     total-four (d ∷ ds) h = omega (arith, dimensions-in d (h d (List·Memᴰ·head refl)), total-four ds (λ c m. h c (List·Memᴰ·tail m)))
 
-    twelve : variables dimensions e ≤ 12
+    pub twelve : variables dimensions e ≤ 12
     twelve = omega (arith, total-four (daughtersOf e) daughter-mem, daughters-length, three)
 
     abbrev addUp : Bool
     addUp = eqb (total (lengthsOf dimensions e)) (variables dimensions e)
 
-    variables-right : isLexical rule ≡ false → T (addUp && eachOnce dimensions e)
+    pub variables-right : isLexical rule ≡ false → T (addUp && eachOnce dimensions e)
     variables-right l = not-off (addUp && eachOnce dimensions e) (rw (lt-ltb 0 n (not-lexical-some l)) at (tested .variables))
 
     components-are : isLexical rule ≡ false → rule .components ≡ sequences (lengthsOf dimensions e) (fields e 11 12)
     components-are l = rw (lt-ltb 0 n (not-lexical-some l))
 
-    named-are : isLexical rule ≡ false → named (rule .components) ≡ map decode (fields e 11 (variables dimensions e))
+    pub named-are : isLexical rule ≡ false → named (rule .components) ≡ map decode (fields e 11 (variables dimensions e))
     named-are l =
         let t = eqb→eq (total (lengthsOf dimensions e)) (variables dimensions e) (and-l addUp (eachOnce dimensions e) (variables-right l)) in
         ap named (components-are l) ∙ parts-named (lengthsOf dimensions e) (fields e 11 12)

@@ -1,0 +1,158 @@
+-- The search at a state: without budget, without predictions, and with its rules.
+-- Assumes nothing.
+use mathlib.Core.Path.{_≡_, refl, sym, ap, ap₂, subst, _∙_}
+use mathlib.Core.Bool.{Bool, true, false}
+use mathlib.Core.Option.{Option, none, some}
+use mathlib.Core.List.{List, [], _∷_, _++_, map}
+use Prim.Native.Nat.{ℕ, zero, suc, _+_, _-_, _*_, _/_, _%_, _<_, _≤_}
+use native.Mathlib.Omega.{arith}
+use native.Mathlib.Decide.{decLt}
+use borrow.Author.Tests.{lt-ltb, le-ltb, eqb-true}
+use lib.Dec.{eqb, ltb}
+use lib.ListN.{length, getD, drop, length-append, length-map, drop-of-length-le}
+use lib.Seq.{slice, slice-cons, drop-cons, length-slice}
+use Rattle.model.specs.Base.{if_then_else_, each, numbersFrom}
+use Rattle.model.specs.Grammar.{Rule, Grammar, ruleAt}
+use Rattle.model.specs.GrammarFile.{grammarOf, rulesOf}
+use Rattle.model.specs.Rows.{Slot, RowState, finishedRow, walkRow, anyRow, endRow, foundFromRow}
+use Rattle.model.proofs.FromFile.{ruleRead, rule-read, rules-in}
+use Rattle.model.proofs.RowsBounds.{file-row}
+use Rattle.model.proofs.WellFormed.{rules-length}
+use Rattle.recognizer.specs.Row.{unpacked, rowOf}
+use Rattle.analyses.specs.Chain.{isBy, isOf, firstRule}
+use Rattle.analyses.specs.Tally.{effortBelow, countBelow, Searched, spentOne, completed}
+use Rattle.analyses.specs.Search.{standing, Ready, SearchedAt, under, upTo, SearchedRules}
+use Rattle.analyses.proofs.Rules.{upTo-next}
+use Rattle.analyses.proofs.Searches.{searched-as, searched-joined, searched-spent, searched-complete}
+use Rattle.analyses.proofs.Walks.{walk-empty, walk-length, each-few, count-few}
+use Rattle.analyses.proofs.Turns.{row-some}
+
+not-both : {A : Type 0} → true ≡ false → A
+not-both e = let z : _≡_ {A = ℕ} 0 1 = cc in absurd (omega arith)
+
+pub not-none : (n : ℕ) → (n ≡ 0 → ⊥) → 1 ≤ n
+not-none zero h = absurd (h refl)
+not-none (suc n) h = omega arith
+
+module _ (file table chain sentence : List ℕ) (read : ℕ) (q : List ℕ) (from to pending made fuel : ℕ) (sheet : List ℕ)
+    (ready : Ready file table chain sentence read q from to pending made fuel sheet) where
+  abbrev g : Grammar
+  g = grammarOf file
+
+  abbrev S : RowState
+  S = standing sentence read q from to pending made
+
+  abbrev R : ℕ
+  R = length (g .rules)
+
+  rules-few : R ≤ 256
+  rules-few = omega (arith, rules-length file, rules-in file (ready .accepted) .1)
+
+  -- every state has a live prefix: the empty one
+  effort-some : (n : ℕ) → 1 ≤ effortBelow g n S
+  effort-some zero = omega arith
+  effort-some (suc n) = omega (arith, walk-length g (anyRow g) n S)
+
+  pub no-budget : getD sheet 1 0 ≡ 0 → SearchedAt g fuel S sheet false sheet
+  no-budget e =
+      record {
+        long = refl;
+        over = λ f. omega (arith, effort-some fuel);
+        counted = λ f. not-both (sym f);
+        spent = λ f. not-both (sym f);
+        asked = λ f. not-both (sym f);
+        entry = λ f. not-both (sym f);
+      }
+
+  -- a state without predictions
+  module _ (budget : getD sheet 1 0 ≡ 0 → ⊥) where
+    some-budget : 1 ≤ getD sheet 1 0
+    some-budget = not-none (getD sheet 1 0) budget
+
+    spent : Searched sheet [] 1 (96 - fuel) true (spentOne sheet)
+    spent = searched-spent sheet (96 - fuel) (omega (arith, ready .long)) some-budget
+
+    module _ (nothing-left : pending ≡ 0) where
+      row-length : length (rowOf q from to) ≡ to - from
+      row-length = length-map (slice from to q) unpacked ∙ length-slice from to q (omega (arith, ready .held .within, ready .held .long))
+
+      row-none : rowOf q from to ≡ []
+      row-none = go (rowOf q from to) (omega (arith, file-row file (ready .accepted) S (ready .reached) .0))
+        where
+          go : (l : List Slot) → length l ≤ 0 → l ≡ []
+          go [] h = refl
+          go (x ∷ l) h = let z : ⊥ = omega arith in absurd z
+
+      effort-one : 1 ≡ effortBelow g fuel S
+      effort-one = ap length (sym (walk-empty g (anyRow g) fuel S row-none))
+
+      found-is : (ws : List ℕ) → drop read sentence ≡ ws → (elim ws [ [] ↦ [] ∷ [] | w ∷ us ↦ [] ]) ≡ foundFromRow g fuel S
+      found-is ws e = sym (walk-empty g (endRow g) fuel S row-none ∙ ends ws e)
+        where
+          ends : (ws : List ℕ) → drop read sentence ≡ ws → endRow g S ≡ (elim ws [ [] ↦ [] ∷ [] | w ∷ us ↦ [] ])
+          ends ws e = ap₂ (λ (row : List Slot) (us : List ℕ). endRow g (record { row = row; made = made; pending = pending; words = us })) row-none e ∙ go ws
+            where
+              go : (ws : List ℕ) → endRow g (record { row = []; made = made; pending = pending; words = ws }) ≡ (elim ws [ [] ↦ [] ∷ [] | w ∷ us ↦ [] ])
+              go [] = refl
+              go (w ∷ us) = refl
+
+      pub all-read : length sentence ≡ read → SearchedAt g fuel S sheet true (completed (spentOne sheet) (96 - fuel))
+      all-read e =
+          let d : drop read sentence ≡ [] = drop-of-length-le sentence {i = read} (omega arith) in
+          searched-as sheet (completed (spentOne sheet) (96 - fuel)) ([] ∷ []) (foundFromRow g fuel S) 1 (effortBelow g fuel S) (96 - fuel) true (found-is [] d) effort-one
+          (searched-joined sheet (spentOne sheet) (completed (spentOne sheet) (96 - fuel)) [] ([] ∷ []) 1 0 (96 - fuel) true spent
+          (searched-complete (spentOne sheet) (96 - fuel) (spent .long ∙ ready .long)))
+
+      pub words-left : (length sentence ≡ read → ⊥) → SearchedAt g fuel S sheet true (spentOne sheet)
+      words-left n =
+          let h : read < length sentence = go (ready .known) n in
+          searched-as sheet (spentOne sheet) [] (foundFromRow g fuel S) 1 (effortBelow g fuel S) (96 - fuel) true
+          (found-is (getD sentence read 0 ∷ drop (suc read) sentence) (drop-cons sentence read 0 h)) effort-one spent
+        where
+          go : read ≤ length sentence → (length sentence ≡ read → ⊥) → read < length sentence
+          go h n = by (decLt read (length sentence))
+            where
+              by : Dec (read < length sentence) → read < length sentence
+              by (yes k) = k
+              by (no k) = absurd (n (omega arith))
+
+    -- a state with predictions: what is below all its rules
+    module _ (predicted : 1 ≤ pending) where
+      fuel-more : fuel ≡ suc (fuel - 1)
+      fuel-more = omega (arith, ready .fits)
+
+      head : rowOf q from to ≡ unpacked (getD q from 0) ∷ rowOf q (suc from) to
+      head =
+          ap (map unpacked) (slice-cons from to q 0 (row-some file table chain sentence read q from to pending made fuel sheet ready predicted) (omega (arith, ready .held .long, ready .held .within)))
+
+      whole-effort : 1 + length (upTo (under g (anyRow g) (fuel - 1) S) R) ≡ effortBelow g fuel S
+      whole-effort = sym (ap (λ (n : ℕ). effortBelow g n S) fuel-more ∙ walk-length g (anyRow g) (fuel - 1) S)
+
+      whole-found : upTo (under g (endRow g) (fuel - 1) S) R ≡ foundFromRow g fuel S
+      whole-found =
+          sym (ap (λ (n : ℕ). foundFromRow g n S) fuel-more ∙ ap (λ (l : List (List ℕ)). l ++ upTo (under g (endRow g) (fuel - 1) S) R) not-ended)
+        where
+          not-ended : endRow g S ≡ []
+          not-ended = ap (λ (row : List Slot). endRow g (record { row = row; made = made; pending = pending; words = drop read sentence })) head
+
+      pub rules-ready : Ready file table chain sentence read q from to pending made fuel (spentOne sheet)
+      rules-ready =
+          record {
+            accepted = ready .accepted;
+            compiled = ready .compiled;
+            chained = ready .chained;
+            held = ready .held;
+            known = ready .known;
+            reached = ready .reached;
+            fits = ready .fits;
+            short = ready .short;
+            numbered = ready .numbered;
+            long = spent .long ∙ ready .long;
+            bounded = omega (arith, spent .counted refl, spent .spent refl, ready .bounded);
+          }
+
+      pub below-rules : (b : Bool) (after : List ℕ) → SearchedRules g fuel S (spentOne sheet) b after → SearchedAt g fuel S sheet b after
+      below-rules b after w =
+          searched-as sheet after (upTo (under g (endRow g) (fuel - 1) S) R) (foundFromRow g fuel S) (1 + length (upTo (under g (anyRow g) (fuel - 1) S) R)) (effortBelow g fuel S) (96 - fuel) b
+          whole-found whole-effort
+          (searched-joined sheet (spentOne sheet) after [] (upTo (under g (endRow g) (fuel - 1) S) R) 1 (length (upTo (under g (anyRow g) (fuel - 1) S) R)) (96 - fuel) b spent w)

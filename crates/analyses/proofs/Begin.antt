@@ -1,0 +1,63 @@
+-- The search from the start: it is ready, and finds the listing at the effort of document 01.
+-- Assumes nothing.
+use mathlib.Core.Path.{_≡_, refl, sym, ap, subst, _∙_}
+use mathlib.Core.Bool.{Bool}
+use mathlib.Core.Option.{none}
+use mathlib.Core.List.{List, [], _∷_}
+use Prim.Native.Nat.{ℕ, zero, suc, _+_, _-_, _≤_}
+use native.Mathlib.Omega.{arith}
+use lib.ListN.{length, getD}
+use Rattle.model.specs.Grammar.{Grammar}
+use Rattle.model.specs.GrammarFile.{grammarRefusal, grammarOf, startOf}
+use Rattle.model.specs.Counting.{listing, effort}
+use Rattle.model.specs.Rows.{Slot, RowState, beginRow, foundFromRow}
+use Rattle.model.proofs.FromFile.{accepted-right}
+use Rattle.model.proofs.RowsAgree.{rows-agree}
+use Rattle.model.proofs.RowsBounds.{Reached, reached-begin}
+use Rattle.recognizer.specs.Row.{rowOf, stateOf, Held}
+use Rattle.recognizer.specs.Table.{Compiled}
+use Rattle.analyses.specs.Chain.{Chained}
+use Rattle.analyses.specs.Tally.{effortBelow, Searched}
+use Rattle.analyses.specs.Search.{standing, Ready, SearchedAt}
+use Rattle.analyses.proofs.Searches.{searched-as}
+
+module _ (file : List ℕ) (accepted : grammarRefusal file ≡ none) (sentence table chain q : List ℕ) (a n : ℕ) (sheet : List ℕ)
+    (start : a ≡ startOf file) (first : rowOf q 0 1 ≡ record { owner = 0; category = a; component = 0 } ∷ []) (some : 1 ≤ n) (few : n ≤ 96) where
+  abbrev g : Grammar
+  g = grammarOf file
+
+  begins : standing sentence 0 q 0 1 1 1 ≡ beginRow g sentence
+  begins =
+      ap (λ (row : List Slot). record { row = row; made = 1; pending = 1; words = sentence })
+      (first ∙ ap (λ (x : ℕ). record { owner = 0; category = x; component = 0 } ∷ []) start)
+
+  pub start-ready : Compiled g table → Chained g chain → Held q 0 1 → length sheet ≡ 100 → getD sheet 0 0 + getD sheet 1 0 ≤ 1000000000
+      → Ready file table chain sentence 0 q 0 1 1 1 n sheet
+  start-ready compiled chained held long bounded =
+      record {
+        accepted = accepted;
+        compiled = compiled;
+        chained = chained;
+        held = held;
+        known = omega arith;
+        reached = subst (Reached g) (sym begins) (reached-begin g (accepted-right file accepted) sentence);
+        fits = some;
+        short = few;
+        numbered = omega arith;
+        long = long;
+        bounded = bounded;
+      }
+
+  found-all : (k : ℕ) → 1 ≤ k → foundFromRow g k (beginRow g sentence) ≡ listing g sentence k
+  found-all zero h = let z : ⊥ = omega arith in absurd z
+  found-all (suc k) h = rows-agree file accepted sentence .listings (suc k)
+
+  effort-all : (k : ℕ) → 1 ≤ k → effortBelow g k (beginRow g sentence) ≡ effort g sentence k
+  effort-all zero h = let z : ⊥ = omega arith in absurd z
+  effort-all (suc k) h = rows-agree file accepted sentence .efforts (suc k)
+
+  pub start-searched : (b : Bool) (after : List ℕ) → SearchedAt g n (standing sentence 0 q 0 1 1 1) sheet b after
+      → Searched sheet (listing g sentence n) (effort g sentence n) (96 - n) b after
+  start-searched b after h =
+      searched-as sheet after (foundFromRow g n (standing sentence 0 q 0 1 1 1)) (listing g sentence n) (effortBelow g n (standing sentence 0 q 0 1 1 1)) (effort g sentence n) (96 - n) b
+      (ap (foundFromRow g n) begins ∙ found-all n some) (ap (effortBelow g n) begins ∙ effort-all n some) h

@@ -1,0 +1,171 @@
+-- The search's loop over the rules of the front's category, rule after rule.
+-- Assumes nothing.
+use mathlib.Core.Path.{_≡_, refl, sym, ap, ap₂, subst, _∙_}
+use mathlib.Core.Bool.{Bool, true, false}
+use mathlib.Core.Option.{Option, none, some}
+use mathlib.Core.List.{List, [], _∷_, _++_, map}
+use Prim.Native.Nat.{ℕ, zero, suc, _+_, _-_, _*_, _/_, _%_, _<_, _≤_}
+use native.Mathlib.Omega.{arith}
+use native.Mathlib.Decide.{decLt}
+use borrow.Author.Tests.{lt-ltb, le-ltb, eqb-true}
+use lib.Dec.{eqb, ltb}
+use lib.ListN.{length, getD, drop, length-append, length-map, drop-of-length-le}
+use lib.Seq.{slice, slice-cons, drop-cons, length-slice}
+use Rattle.model.specs.Base.{if_then_else_, each, numbersFrom}
+use Rattle.model.specs.Grammar.{Rule, Grammar, ruleAt}
+use Rattle.model.specs.GrammarFile.{grammarOf, rulesOf}
+use Rattle.model.specs.Rows.{Slot, RowState, finishedRow, walkRow, anyRow, endRow, foundFromRow}
+use Rattle.model.proofs.FromFile.{ruleRead, rule-read, rules-in}
+use Rattle.model.proofs.RowsBounds.{file-row}
+use Rattle.model.proofs.WellFormed.{rules-length}
+use Rattle.recognizer.specs.Row.{unpacked, rowOf}
+use Rattle.analyses.specs.Chain.{isBy, isOf, firstRule}
+use Rattle.analyses.specs.Tally.{effortBelow, countBelow, Searched, spentOne, completed}
+use Rattle.analyses.specs.Search.{standing, Ready, under, upTo, SearchedUnder, SearchedRules, Fronted, done, CameTo}
+use Rattle.analyses.proofs.Rules.{upTo-next, upTo-skip, upTo-more, other-rule, first-passes, first-found, first-later}
+use Rattle.analyses.proofs.Searches.{found-none, searched-as, searched-joined}
+use Rattle.analyses.proofs.Walks.{walk-empty, walk-length, each-few, count-few}
+use Rattle.analyses.proofs.Turns.{row-some}
+
+not-both : {A : Type 0} → true ≡ false → A
+not-both e = let z : _≡_ {A = ℕ} 0 1 = cc in absurd (omega arith)
+
+module _ (file table chain sentence : List ℕ) (read : ℕ) (q : List ℕ) (from to pending made fuel : ℕ) (sheet : List ℕ)
+    (ready : Ready file table chain sentence read q from to pending made fuel sheet) (predicted : 1 ≤ pending) where
+  abbrev g : Grammar
+  g = grammarOf file
+
+  abbrev S : RowState
+  S = standing sentence read q from to pending made
+
+  abbrev R : ℕ
+  R = length (g .rules)
+
+  rules-few : R ≤ 256
+  rules-few = omega (arith, rules-length file, rules-in file (ready .accepted) .1)
+
+  abbrev a : ℕ
+  a = unpacked (getD q from 0) .category
+
+  abbrev found : ℕ → List (List ℕ)
+  found r = under g (endRow g) (fuel - 1) S r
+
+  abbrev live : ℕ → List (List ℕ)
+  live r = under g (anyRow g) (fuel - 1) S r
+
+  head : rowOf q from to ≡ unpacked (getD q from 0) ∷ rowOf q (suc from) to
+  head =
+      ap (map unpacked) (slice-cons from to q 0 (row-some file table chain sentence read q from to pending made fuel sheet ready predicted) (omega (arith, ready .held .long, ready .held .within)))
+
+  done-here : (r : ℕ) → r < R → done R r ≡ r
+  done-here r h = ap (λ (b : Bool). if b then r else R) (lt-ltb r R h)
+
+  done-all : (r : ℕ) → R ≤ r → done R r ≡ R
+  done-all r h = ap (λ (b : Bool). if b then r else R) (le-ltb r R h)
+
+  done-least : (r k : ℕ) → k ≤ r → k ≤ R → (k ≤ done R r) × (done R r ≤ R) × (done R r ≤ r)
+  done-least r k h l = go (decLt r R)
+    where
+      go : Dec (r < R) → (k ≤ done R r) × (done R r ≤ R) × (done R r ≤ r)
+      go (yes m) = omega (arith, done-here r m)
+      go (no m) = omega (arith, done-all r (omega arith))
+
+  abbrev At : List ℕ → ℕ → Type 0
+  At now r = CameTo g fuel S a sheet now r
+
+  others : (leaf : RowState → List (List ℕ)) (i : ℕ) → isOf g a i ≡ false → under g leaf (fuel - 1) S i ≡ []
+  others leaf i e = other-rule g S (unpacked (getD q from 0)) (rowOf q (suc from) to) head i e (λ u. walkRow g leaf (fuel - 1) u) (fuel - 1)
+
+  -- from rule k on to the first of the front's category
+  skipped : (leaf : RowState → List (List ℕ)) (k : ℕ) → k ≤ R
+      → upTo (λ i. under g leaf (fuel - 1) S i) (done R (firstRule g a k (R - k))) ≡ upTo (λ i. under g leaf (fuel - 1) S i) k
+  skipped leaf k h =
+      let later = first-later g a k (R - k) (omega (arith, rules-few)) in
+      let b = done-least (firstRule g a k (R - k)) k later h in
+      upTo-skip (λ i. under g leaf (fuel - 1) S i) k (done R (firstRule g a k (R - k))) (b .0)
+      (λ i l m. others leaf i (first-passes g a k (R - k) i l (omega (arith, b .1)) (omega (arith, b .2))))
+
+  here-found : (k : ℕ) → k ≤ R → firstRule g a k (R - k) < 256 → (firstRule g a k (R - k) < R) × (isOf g a (firstRule g a k (R - k)) ≡ true)
+  here-found k h l = let f = first-found g a k (R - k) (omega (arith, rules-few)) l in (omega (arith, f .1), f .2)
+
+  came : (now : List ℕ) (k : ℕ) → k ≤ R → Searched sheet (upTo found k) (length (upTo live k)) (96 - fuel) true now → At now (firstRule g a k (R - k))
+  came now k h w =
+      record {
+        so-far = searched-as sheet now (upTo found k) (upTo found (done R (firstRule g a k (R - k)))) (length (upTo live k)) (length (upTo live (done R (firstRule g a k (R - k))))) (96 - fuel) true
+            (sym (skipped (endRow g) k h)) (ap (λ (l : List (List ℕ)). length l) (sym (skipped (anyRow g) k h))) w;
+        rule-here = here-found k h;
+      }
+
+  pub came-first : (r : ℕ) → r ≡ getD chain a 0 → At sheet r
+  came-first r e =
+      let n : R - 0 ≡ R = omega arith in
+      let f : firstRule g a 0 (R - 0) ≡ r = ap (firstRule g a 0) n ∙ sym (ready .chained .first a small) ∙ sym e in
+      subst (At sheet) f (came sheet 0 (omega arith) (found-none sheet (96 - fuel)))
+    where
+      small : a < 64
+      small = omega arith
+
+  module _ (now : List ℕ) (r : ℕ) (at : At now r) (below : r < 256) where
+    pub fronted : Fronted file q from pending r
+    fronted = record { predicted = predicted; rule-is = omega (arith, at .rule-here below .0, rules-length file); of-front = at .rule-here below .1 }
+
+    -- count and budget together do not grow
+    pub ready-now : Ready file table chain sentence read q from to pending made fuel now
+    ready-now =
+        record {
+          accepted = ready .accepted;
+          compiled = ready .compiled;
+          chained = ready .chained;
+          held = ready .held;
+          known = ready .known;
+          reached = ready .reached;
+          fits = ready .fits;
+          short = ready .short;
+          numbered = ready .numbered;
+          long = at .so-far .long ∙ ready .long;
+          bounded = omega (arith, at .so-far .counted refl, at .so-far .spent refl, ready .bounded, each-few g (fuel - 1) (count-few g (fuel - 1)) S (numbersFrom 0 (done R r)));
+        }
+
+    here : done R r ≡ r
+    here = done-here r (at .rule-here below .0)
+
+    together : (b : Bool) (after : List ℕ) → SearchedUnder g fuel S r now b after
+        → Searched sheet (upTo found (suc r)) (length (upTo live (suc r))) (96 - fuel) b after
+    together b after w =
+        searched-as sheet after (upTo found (done R r) ++ found r) (upTo found (suc r)) (length (upTo live (done R r)) + length (live r)) (length (upTo live (suc r))) (96 - fuel) b
+        (ap (λ (k : ℕ). upTo found k ++ found r) here ∙ sym (upTo-next found r))
+        (ap (λ (k : ℕ). length (upTo live k) + length (live r)) here ∙ sums)
+        (searched-joined sheet now after (upTo found (done R r)) (found r) (length (upTo live (done R r))) (length (live r)) (96 - fuel) b (at .so-far) w)
+      where
+        sums : length (upTo live r) + length (live r) ≡ length (upTo live (suc r))
+        sums = omega (arith, ap length (upTo-next live r), length-append (upTo live r) (live r))
+
+    pub came-next : (after : List ℕ) (r′ : ℕ) → SearchedUnder g fuel S r now true after → r′ ≡ getD chain (64 + r) 0 → At after r′
+    came-next after r′ w e =
+        let known = rule-read file r (omega (arith, at .rule-here below .0, rules-length file)) in
+        let c : ruleRead file r .category ≡ a = eqb-true (ruleRead file r .category) a (sym (ap (λ (o : Option Rule). isBy o a) known) ∙ at .rule-here below .1) in
+        let f : firstRule g a (suc r) (R - suc r) ≡ r′ = ap (λ (x : ℕ). firstRule g x (suc r) (R - suc r)) (sym c) ∙ sym (ready .chained .next r (ruleRead file r) known) ∙ sym e in
+        subst (At after) f (came after (suc r) (omega (arith, at .rule-here below .0)) (together true after w))
+
+    pub later : (r′ : ℕ) → r′ ≡ getD chain (64 + r) 0 → 256 - r′ < 256 - r
+    later r′ e =
+        let known = rule-read file r (omega (arith, at .rule-here below .0, rules-length file)) in
+        omega (arith, ready .chained .next r (ruleRead file r) known, first-later g (ruleRead file r .category) (suc r) (R - suc r) (omega (arith, at .rule-here below .0, rules-few)))
+
+    pub over-budget : (after : List ℕ) → SearchedUnder g fuel S r now false after → SearchedRules g fuel S sheet false after
+    over-budget after w =
+        let k = together false after w in
+        record {
+          long = k .long;
+          over = λ f. omega (arith, k .over f, upTo-more live (suc r) R (omega (arith, at .rule-here below .0)));
+          counted = λ f. not-both (sym f);
+          spent = λ f. not-both (sym f);
+          asked = λ f. not-both (sym f);
+          entry = λ f. not-both (sym f);
+        }
+
+  pub came-last : (now : List ℕ) (r : ℕ) → At now r → 256 ≤ r → SearchedRules g fuel S sheet true now
+  came-last now r at h =
+      let d = done-all r (omega (arith, rules-few)) in
+      searched-as sheet now (upTo found (done R r)) (upTo found R) (length (upTo live (done R r))) (length (upTo live R)) (96 - fuel) true
+      (ap (upTo found) d) (ap (λ (k : ℕ). length (upTo live k)) d) (at .so-far)

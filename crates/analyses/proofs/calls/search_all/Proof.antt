@@ -1,0 +1,64 @@
+-- `analyses::calls::search_all` meets its contract.
+-- Assumes nothing.
+use native.Mathlib.Omega.{arith}
+use borrow.Author.Needs.{needs}
+use Rattle.model.proofs.FromFile.{start-in, categories-in}
+use Rattle.analyses.proofs.Begin.{start-ready, start-searched}
+use Rattle.analyses.proofs.calls.search_all.Statement.{statement}
+use Rattle.analyses.proofs.calls.search_all.Tie as tie
+use Rattle.analyses.proofs.calls.search_all.Reads as reads
+use Rattle.analyses.proofs.calls.search_all.Lts as lts
+use Rattle.analyses.proofs.chain.chain_rules.Reads as chain-rules-reads
+use Rattle.analyses.proofs.search.search.Reads as search-reads
+use Rattle.grammar.proofs.start.Reads as start-reads
+use Rattle.recognizer.proofs.row.first_row.Reads as first-row-reads
+use Rattle.recognizer.proofs.rules.compile.Reads as compile-reads
+
+-- src/calls.rt:46:13
+compile-requires : tie.Need-compile-requires
+compile-requires c κs = search needs
+
+-- src/calls.rt:47:17
+chain-rules-requires : tie.Need-chain-rules-requires
+chain-rules-requires c κs = search needs
+
+-- src/calls.rt:48:23
+start-requires : tie.Need-start-requires
+start-requires c κs = search needs
+
+-- src/calls.rt:48:13
+first-row-requires : tie.Need-first-row-requires
+first-row-requires c κs =
+    let s = c .before .before .before .before .before in
+    omega (arith, c .start .ensures, start-in (s .args .file .now) (s .pre .0), categories-in (s .args .file .now) (s .pre .0))
+
+-- src/calls.rt:49:5
+search-requires : tie.Need-search-requires
+search-requires c κs =
+    let s = c .before .before .before .before .before .before .before .before .before .before in
+    let a = s .args in
+    let p = s .pre in
+    let r = c .before .before .before .before .first-row in
+    (start-ready (a .file .now) (p .0) (a .sentence .now) (c .before .before .before .before .before .before .before .compile .result) (c .before .before .before .before .before .before .chain-rules .result) (r .result) (c .before .before .before .before .before .start .result .0) (a .n) (a .sheet .now) (c .before .before .before .before .before .start .ensures) (r .ensures .1) (p .1) (p .2)
+    (c .before .before .before .before .before .before .before .compile .ensures (p .0)) (c .before .before .before .before .before .before .chain-rules .ensures (p .0)) (r .ensures .0) (p .3) (p .4))
+
+-- src/calls.rt:42:1
+returns : tie.Need-returns
+returns c =
+    let s = c .before .before .before .before .before .before .before .before .before .before .before in
+    let a = s .args in
+    let p = s .pre in
+    let r = c .before .before .before .before .before .first-row in
+    start-searched (a .file .now) (p .0) (a .sentence .now) (c .before .before .before .before .before .before .before .before .compile .result) (c .before .before .before .before .before .before .before .chain-rules .result) (r .result) (c .before .before .before .before .before .before .start .result .0) (a .n) (a .sheet .now) (c .before .before .before .before .before .before .start .ensures) (r .ensures .1) (p .1) (p .2)
+    (c .search .result) _ (c .search .ensures)
+
+pub search-all-spec : {M : Type 1} → statement M
+search-all-spec =
+    tie.close
+    (tie.spec
+    compile-requires
+    chain-rules-requires
+    start-requires
+    first-row-requires
+    search-requires
+    returns)

@@ -1,0 +1,1101 @@
+-- `analyses::search::+below+expanded+rules_below+search+stepped` meets its contract.
+-- Assumes nothing.
+use mathlib.Core.Path.{_≡_, refl, sym, ap, subst, _∙_}
+use mathlib.Core.Bool.{true}
+use mathlib.Core.List.{List}
+use Prim.Native.Nat.{_+_, _-_, _*_, _≤_}
+use native.Mathlib.Omega.{arith}
+use lib.ListN.{length, getD, length-set}
+use lib.Seq.{getD-set-other}
+use Rattle.model.specs.GrammarFile.{grammarOf}
+use Rattle.model.specs.Step.{wordFits}
+use Rattle.recognizer.specs.Row.{unpacked}
+use Rattle.analyses.specs.Search.{standing, Ready, SearchedAt, SearchedTails, SearchedUnder, SearchedRules, CameTo}
+use Rattle.analyses.proofs.Turns.{row-some, rule-small, head-here, fit, moved, empty-ready, empty-word, no-words, word-ready, next-word, other-word, queue-long, row-room, made-small, row-ready-by, next-row-by, noted-rule}
+use Rattle.analyses.proofs.AtState.{not-none, no-budget, all-read, words-left, rules-ready, below-rules}
+use Rattle.analyses.proofs.Loop.{came-first, fronted, ready-now, came-next, later, over-budget, came-last}
+use borrow.Author.Needs.{needs}
+use Prim.Native.Nat.{ℕ, _<_}
+use borrow.Fn.Kinds.{In}
+use borrow.Fn.PlainCycle.{Measures, is, falls, and}
+use Rattle.analyses.proofs.search.below.Reads as below
+use Rattle.analyses.proofs.search.below.Kinds as below-kinds
+use Rattle.analyses.proofs.search.+below+expanded+rules_below+search+stepped.Lts-below as below-lts
+use Rattle.analyses.proofs.search.expanded.Reads as expanded
+use Rattle.analyses.proofs.search.expanded.Kinds as expanded-kinds
+use Rattle.analyses.proofs.search.+below+expanded+rules_below+search+stepped.Lts-expanded as expanded-lts
+use Rattle.analyses.proofs.search.rules_below.Reads as rules-below
+use Rattle.analyses.proofs.search.rules_below.Kinds as rules-below-kinds
+use Rattle.analyses.proofs.search.+below+expanded+rules_below+search+stepped.Lts-rules_below as rules-below-lts
+use Rattle.analyses.proofs.search.search.Reads as search′
+use Rattle.analyses.proofs.search.search.Kinds as search-kinds
+use Rattle.analyses.proofs.search.+below+expanded+rules_below+search+stepped.Lts-search as search-lts
+use Rattle.analyses.proofs.search.stepped.Reads as stepped
+use Rattle.analyses.proofs.search.stepped.Kinds as stepped-kinds
+use Rattle.analyses.proofs.search.+below+expanded+rules_below+search+stepped.Lts-stepped as stepped-lts
+use Rattle.analyses.proofs.search.complete.Reads as complete-reads
+use Rattle.analyses.proofs.search.note.Reads as note-reads
+use Rattle.recognizer.proofs.row.category.Reads as category-reads
+use Rattle.recognizer.proofs.row.expand.Reads as expand-reads
+use Rattle.recognizer.proofs.rules.daughters.Reads as daughters-reads
+use Rattle.recognizer.proofs.rules.word.Reads as word-reads
+use Rattle.recognizer.proofs.step.fits.Reads as fits-reads
+use Rattle.analyses.proofs.search.+below+expanded+rules_below+search+stepped.{statement}
+use Rattle.analyses.proofs.search.+below+expanded+rules_below+search+stepped.Tie.{close}
+
+abbrev μ-below : Measures 6 below-kinds.ps ℕ
+μ-below κs a = 5 * a .1 .1 .1 .1 .1 .1 .1 .1 .1 .1 .0 + 2
+
+abbrev μ-expanded : Measures 6 expanded-kinds.ps ℕ
+μ-expanded κs a = 5 * a .1 .1 .1 .1 .1 .1 .1 .1 .1 .1 .0 + 0
+
+abbrev μ-rules-below : Measures 6 rules-below-kinds.ps ℕ
+μ-rules-below κs a = 5 * a .1 .1 .1 .1 .1 .1 .1 .1 .1 .1 .0 + 3
+
+abbrev μ-search : Measures 6 search-kinds.ps ℕ
+μ-search κs a = 5 * a .1 .1 .1 .1 .1 .1 .1 .1 .1 .1 .0 + 4
+
+abbrev μ-stepped : Measures 6 stepped-kinds.ps ℕ
+μ-stepped κs a = 5 * a .1 .1 .1 .1 .1 .1 .1 .1 .1 .1 .0 + 1
+
+abbrev below-at : ℕ → In 6 below-kinds.ps
+below-at t = and 6 below-kinds.ps (is 6 below-kinds.ps μ-below t) below.Pre
+
+abbrev below-below : ℕ → In 6 below-kinds.ps
+below-below t = and 6 below-kinds.ps (falls 6 below-kinds.ps _<_ μ-below t) below.Pre
+
+abbrev expanded-at : ℕ → In 6 expanded-kinds.ps
+expanded-at t = and 6 expanded-kinds.ps (is 6 expanded-kinds.ps μ-expanded t) expanded.Pre
+
+abbrev expanded-below : ℕ → In 6 expanded-kinds.ps
+expanded-below t =
+    and 6 expanded-kinds.ps (falls 6 expanded-kinds.ps _<_ μ-expanded t) expanded.Pre
+
+abbrev rules-below-at : ℕ → In 6 rules-below-kinds.ps
+rules-below-at t =
+    and 6 rules-below-kinds.ps (is 6 rules-below-kinds.ps μ-rules-below t) rules-below.Pre
+
+abbrev rules-below-below : ℕ → In 6 rules-below-kinds.ps
+rules-below-below t =
+    and 6 rules-below-kinds.ps (falls 6 rules-below-kinds.ps _<_ μ-rules-below t) rules-below.Pre
+
+abbrev search-at : ℕ → In 6 search-kinds.ps
+search-at t = and 6 search-kinds.ps (is 6 search-kinds.ps μ-search t) search′.Pre
+
+abbrev search-below : ℕ → In 6 search-kinds.ps
+search-below t = and 6 search-kinds.ps (falls 6 search-kinds.ps _<_ μ-search t) search′.Pre
+
+abbrev stepped-at : ℕ → In 6 stepped-kinds.ps
+stepped-at t = and 6 stepped-kinds.ps (is 6 stepped-kinds.ps μ-stepped t) stepped.Pre
+
+abbrev stepped-below : ℕ → In 6 stepped-kinds.ps
+stepped-below t = and 6 stepped-kinds.ps (falls 6 stepped-kinds.ps _<_ μ-stepped t) stepped.Pre
+
+-- src/search.rt:127:17
+below-element-copy-out-first : (t : ℕ) → below-lts.Need-element-copy-out-first (
+  stepped-below t,
+  stepped.Post,
+  note-reads.Asked,
+  note-reads.Learnt,
+) (below-at t) below.Post
+below-element-copy-out-first t c = search needs
+
+-- src/search.rt:128:9
+below-stepped-requires : (t : ℕ) → below-lts.Need-stepped-requires (
+  stepped-below t,
+  stepped.Post,
+  note-reads.Asked,
+  note-reads.Learnt,
+) (below-at t) below.Post
+below-stepped-requires t c κs =
+    let s = c .before .before .before .before in
+    (omega (arith, s .pre .0), s .pre .1)
+
+-- src/search.rt:131:24
+below-sub-note : (t : ℕ) → below-lts.Need-sub-note (
+  stepped-below t,
+  stepped.Post,
+  note-reads.Asked,
+  note-reads.Learnt,
+) (below-at t) below.Post
+below-sub-note t c =
+    let s = c .before .before .before .before .before .before in
+    omega (arith, s .pre .1 .0 .short)
+
+-- src/search.rt:131:5
+below-note-requires : (t : ℕ) → below-lts.Need-note-requires (
+  stepped-below t,
+  stepped.Post,
+  note-reads.Asked,
+  note-reads.Learnt,
+) (below-at t) below.Post
+below-note-requires t c κs =
+    let s = c .before .before .before .before .before .before in
+    (c .before .stepped .ensures .long ∙ s .pre .1 .0 .long, omega (arith, s .pre .1 .0 .short))
+
+-- src/search.rt:109:1
+below-returns : (t : ℕ) → below-lts.Need-returns (
+  stepped-below t,
+  stepped.Post,
+  note-reads.Asked,
+  note-reads.Learnt,
+) (below-at t) below.Post
+below-returns t c =
+    let s = c .before .before .before .before .before .before .before in
+    let a = s .args in
+    let p = s .pre .1 in
+    let k = c .before .before .stepped in
+    subst (λ (x : List ℕ). SearchedUnder (grammarOf (a .file .now)) (a .fuel) (standing (a .s .now) (a .read) (a .q .now) (a .from) (a .to) (a .pending) (a .made)) (a .r) (a .sheet .now) (k .result) x) (sym (c .note .ensures))
+    (noted-rule (a .file .now) (a .t .now) (a .chain .now) (a .s .now) (a .read) (a .q .now) (a .from) (a .to) (a .pending) (a .made) (a .fuel) (a .sheet .now) (p .0) (a .r) (p .1) (k .result) _ (k .ensures))
+
+-- src/search.rt:224:46
+expanded-mul-expand : (t : ℕ) → expanded-lts.Need-mul-expand (
+  expand-reads.Asked,
+  expand-reads.Learnt,
+  search-below t,
+  search′.Post,
+) (expanded-at t) expanded.Post
+expanded-mul-expand t c = search needs
+
+-- src/search.rt:224:9
+expanded-expand-requires : (t : ℕ) → expanded-lts.Need-expand-requires (
+  expand-reads.Asked,
+  expand-reads.Learnt,
+  search-below t,
+  search′.Post,
+) (expanded-at t) expanded.Post
+expanded-expand-requires t c κs =
+    let s = c .before .before .before in
+    let a = s .args in
+    let p = s .pre .1 in
+    let h : 0 < getD (a .t .now) (32 * a .r) 0 = omega (arith, p .2, p .3) in
+    let l : a .pending + getD (a .t .now) (32 * a .r) 0 ≤ a .fuel = omega (arith, p .2, p .4) in
+    (fit (a .file .now) (a .t .now) (a .chain .now) (a .s .now) (a .read) (a .q .now) (a .from) (a .to) (a .pending) (a .made) (a .fuel) (a .sheet .now) (p .0) (a .r) (p .1), p .0 .held, head-here (a .file .now) (a .t .now) (a .chain .now) (a .s .now) (a .read) (a .q .now) (a .from) (a .to) (a .pending) (a .made) (a .fuel) (a .sheet .now) (p .0) (a .r) (p .1), made-small (a .file .now) (a .t .now) (a .chain .now) (a .s .now) (a .read) (a .q .now) (a .from) (a .to) (a .pending) (a .made) (a .fuel) (a .sheet .now) (p .0) (a .r) (p .1) h l, refl, row-room (a .file .now) (a .t .now) (a .chain .now) (a .s .now) (a .read) (a .q .now) (a .from) (a .to) (a .pending) (a .made) (a .fuel) (a .sheet .now) (p .0) (a .r) (p .1) h l)
+
+-- src/search.rt:234:9
+expanded-sub-search : (t : ℕ) → expanded-lts.Need-sub-search (
+  expand-reads.Asked,
+  expand-reads.Learnt,
+  search-below t,
+  search′.Post,
+) (expanded-at t) expanded.Post
+expanded-sub-search t c =
+    let s = c .before .before .before .before .before in
+    omega (arith, s .pre .1 .1 .predicted)
+
+-- src/search.rt:234:9
+expanded-add-search : (t : ℕ) → expanded-lts.Need-add-search (
+  expand-reads.Asked,
+  expand-reads.Learnt,
+  search-below t,
+  search′.Post,
+) (expanded-at t) expanded.Post
+expanded-add-search t c =
+    let s = c .before .before .before .before .before in
+    omega (arith, s .pre .1 .0 .short, s .pre .1 .4)
+
+-- src/search.rt:235:9
+expanded-add-search-2 : (t : ℕ) → expanded-lts.Need-add-search-2 (
+  expand-reads.Asked,
+  expand-reads.Learnt,
+  search-below t,
+  search′.Post,
+) (expanded-at t) expanded.Post
+expanded-add-search-2 t c =
+    let s = c .before .before .before .before .before in
+    omega (arith, s .pre .1 .0 .short, s .pre .1 .0 .numbered, s .pre .1 .0 .fits, s .pre .1 .4)
+
+-- src/search.rt:236:9
+expanded-sub-search-2 : (t : ℕ) → expanded-lts.Need-sub-search-2 (
+  expand-reads.Asked,
+  expand-reads.Learnt,
+  search-below t,
+  search′.Post,
+) (expanded-at t) expanded.Post
+expanded-sub-search-2 t c =
+    let s = c .before .before .before .before .before in
+    omega (arith, s .pre .1 .0 .fits, s .pre .1 .1 .predicted)
+
+-- src/search.rt:225:5
+expanded-search-requires : (t : ℕ) → expanded-lts.Need-search-requires (
+  expand-reads.Asked,
+  expand-reads.Learnt,
+  search-below t,
+  search′.Post,
+) (expanded-at t) expanded.Post
+expanded-search-requires t c κs =
+    let s = c .before .before .before .before .before .before in
+    let a = s .args in
+    let p = s .pre .1 in
+    let x = c .before .before .expand in
+    (omega (arith, s .pre .0, p .0 .fits, p .1 .predicted), row-ready-by (a .file .now) (a .t .now) (a .chain .now) (a .s .now) (a .read) (a .q .now) (a .from) (a .to) (a .pending) (a .made) (a .fuel) (a .sheet .now) (p .0) (a .r) (p .1) (a .d) (p .2) (p .3) (p .4) _ _ (x .result) (x .ensures) (x .ensures .kept))
+
+-- src/search.rt:204:1
+expanded-returns : (t : ℕ) → expanded-lts.Need-returns (
+  expand-reads.Asked,
+  expand-reads.Learnt,
+  search-below t,
+  search′.Post,
+) (expanded-at t) expanded.Post
+expanded-returns t c =
+    let s = c .before .before .before .before .before .before .before in
+    let a = s .args in
+    let p = s .pre .1 in
+    let x = c .before .before .before .expand in
+    let k = c .search in
+    next-row-by (a .file .now) (a .t .now) (a .chain .now) (a .s .now) (a .read) (a .q .now) (a .from) (a .to) (a .pending) (a .made) (a .fuel) (a .sheet .now) (p .0) (a .r) (p .1) (a .d) (p .2) (p .3) (p .4) _ _ (x .result) (x .ensures) (x .ensures .kept) (k .result) _ (k .ensures)
+
+abbrev rules-below-Inv-loop : rules-below-lts.InvT-loop
+rules-below-Inv-loop file t chain s read q from to pending made fuel sheet₀ a r₀ sheet r =
+    (length sheet ≡ 100)
+    × CameTo (grammarOf file) fuel (standing s read q from to pending made) (unpacked (getD q from 0) .category) sheet₀ sheet r
+
+abbrev rules-below-μ-loop : rules-below-lts.MeasureT-loop
+rules-below-μ-loop file t chain s read q from to pending made fuel sheet₀ a r₀ sheet r = 256 - r
+
+-- src/search.rt:93:22
+rules-below-mul-category : (t : ℕ) → rules-below-lts.Need-mul-category (
+  category-reads.Asked,
+  category-reads.Learnt,
+  below-below t,
+  below.Post,
+) (rules-below-at t) rules-below.Post rules-below-Inv-loop rules-below-μ-loop
+rules-below-mul-category t c = search needs
+
+-- src/search.rt:93:22
+rules-below-element-copy-out-category : (t : ℕ) → rules-below-lts.Need-element-copy-out-category (
+  category-reads.Asked,
+  category-reads.Learnt,
+  below-below t,
+  below.Post,
+) (rules-below-at t) rules-below.Post rules-below-Inv-loop rules-below-μ-loop
+rules-below-element-copy-out-category t c =
+    let s = c .before .before in
+    let a = s .args in
+    let p = s .pre .1 in
+    omega (arith, row-some (a .file .now) (a .t .now) (a .chain .now) (a .s .now) (a .read) (a .q .now) (a .from) (a .to) (a .pending) (a .made) (a .fuel) (a .sheet .now) (p .0) (p .1), p .0 .held .within)
+
+-- src/search.rt:93:13
+rules-below-category-requires : (t : ℕ) → rules-below-lts.Need-category-requires (
+  category-reads.Asked,
+  category-reads.Learnt,
+  below-below t,
+  below.Post,
+) (rules-below-at t) rules-below.Post rules-below-Inv-loop rules-below-μ-loop
+rules-below-category-requires t c κs = search needs
+
+-- src/search.rt:93:13
+rules-below-cast-a : (t : ℕ) → rules-below-lts.Need-cast-a (
+  category-reads.Asked,
+  category-reads.Learnt,
+  below-below t,
+  below.Post,
+) (rules-below-at t) rules-below.Post rules-below-Inv-loop rules-below-μ-loop
+rules-below-cast-a t c = search needs
+
+-- src/search.rt:94:17
+rules-below-mul-r : (t : ℕ) → rules-below-lts.Need-mul-r (
+  category-reads.Asked,
+  category-reads.Learnt,
+  below-below t,
+  below.Post,
+) (rules-below-at t) rules-below.Post rules-below-Inv-loop rules-below-μ-loop
+rules-below-mul-r t c = search needs
+
+-- src/search.rt:94:17
+rules-below-element-copy-out-r : (t : ℕ) → rules-below-lts.Need-element-copy-out-r (
+  category-reads.Asked,
+  category-reads.Learnt,
+  below-below t,
+  below.Post,
+) (rules-below-at t) rules-below.Post rules-below-Inv-loop rules-below-μ-loop
+rules-below-element-copy-out-r t c = omega (arith, c .before .category .ensures)
+
+-- src/search.rt:95:5
+rules-below-loop-holds : (t : ℕ) → rules-below-lts.Need-loop-holds (
+  category-reads.Asked,
+  category-reads.Learnt,
+  below-below t,
+  below.Post,
+) (rules-below-at t) rules-below.Post rules-below-Inv-loop rules-below-μ-loop
+rules-below-loop-holds t c =
+    let s = c .before .before .before .before .before .before in
+    let a = s .args in
+    let p = s .pre .1 in
+    (p .0 .long, came-first (a .file .now) (a .t .now) (a .chain .now) (a .s .now) (a .read) (a .q .now) (a .from) (a .to) (a .pending) (a .made) (a .fuel) (a .sheet .now) (p .0) (p .1) _ (ap (λ (k : ℕ). getD (a .chain .now) k 0) (c .before .before .category .ensures)))
+
+-- src/search.rt:96:12
+rules-below-below-requires : (t : ℕ) → rules-below-lts.Need-below-requires (
+  category-reads.Asked,
+  category-reads.Learnt,
+  below-below t,
+  below.Post,
+) (rules-below-at t) rules-below.Post rules-below-Inv-loop rules-below-μ-loop
+rules-below-below-requires t c κs =
+    let t = c .before .before in
+    let s = t .before .before .before .before .before .before .before in
+    let a = s .args in
+    let p = s .pre .1 in
+    (omega (arith, s .pre .0), (ready-now (a .file .now) (a .t .now) (a .chain .now) (a .s .now) (a .read) (a .q .now) (a .from) (a .to) (a .pending) (a .made) (a .fuel) (a .sheet .now) (p .0) (p .1) (t .loop .sheet) (t .loop .r) (t .loop .inv .1) (c .before .loop-test .taken), fronted (a .file .now) (a .t .now) (a .chain .now) (a .s .now) (a .read) (a .q .now) (a .from) (a .to) (a .pending) (a .made) (a .fuel) (a .sheet .now) (p .0) (p .1) (t .loop .sheet) (t .loop .r) (t .loop .inv .1) (c .before .loop-test .taken)))
+
+-- src/search.rt:99:21
+rules-below-cast-i : (t : ℕ) → rules-below-lts.Need-cast-i (
+  category-reads.Asked,
+  category-reads.Learnt,
+  below-below t,
+  below.Post,
+) (rules-below-at t) rules-below.Post rules-below-Inv-loop rules-below-μ-loop
+rules-below-cast-i t c = search needs
+
+-- src/search.rt:100:23
+rules-below-add-r : (t : ℕ) → rules-below-lts.Need-add-r (
+  category-reads.Asked,
+  category-reads.Learnt,
+  below-below t,
+  below.Post,
+) (rules-below-at t) rules-below.Post rules-below-Inv-loop rules-below-μ-loop
+rules-below-add-r t c = search needs
+
+-- src/search.rt:100:17
+rules-below-mul-r-2 : (t : ℕ) → rules-below-lts.Need-mul-r-2 (
+  category-reads.Asked,
+  category-reads.Learnt,
+  below-below t,
+  below.Post,
+) (rules-below-at t) rules-below.Post rules-below-Inv-loop rules-below-μ-loop
+rules-below-mul-r-2 t c = search needs
+
+-- src/search.rt:100:17
+rules-below-element-copy-out-r-2 : (t : ℕ) → rules-below-lts.Need-element-copy-out-r-2 (
+  category-reads.Asked,
+  category-reads.Learnt,
+  below-below t,
+  below.Post,
+) (rules-below-at t) rules-below.Post rules-below-Inv-loop rules-below-μ-loop
+rules-below-element-copy-out-r-2 t c = search needs
+
+-- src/search.rt:95:5
+rules-below-loop-less : (t : ℕ) → rules-below-lts.Need-loop-less (
+  category-reads.Asked,
+  category-reads.Learnt,
+  below-below t,
+  below.Post,
+) (rules-below-at t) rules-below.Post rules-below-Inv-loop rules-below-μ-loop
+rules-below-loop-less t c =
+    let u = c .before .before .before .before .before in
+    let s = u .before .before .before .before .before .before .before in
+    let a = s .args in
+    let p = s .pre .1 in
+    later (a .file .now) (a .t .now) (a .chain .now) (a .s .now) (a .read) (a .q .now) (a .from) (a .to) (a .pending) (a .made) (a .fuel) (a .sheet .now) (p .0) (p .1) (u .loop .sheet) (u .loop .r) (u .loop .inv .1) (c .before .before .before .before .loop-test .taken) _ refl
+
+-- src/search.rt:95:5
+rules-below-loop-again : (t : ℕ) → rules-below-lts.Need-loop-again (
+  category-reads.Asked,
+  category-reads.Learnt,
+  below-below t,
+  below.Post,
+) (rules-below-at t) rules-below.Post rules-below-Inv-loop rules-below-μ-loop
+rules-below-loop-again t c =
+    let u = c .before .before .before .before .before in
+    let s = u .before .before .before .before .before .before .before in
+    let a = s .args in
+    let p = s .pre .1 in
+    let k = c .before .before .below in
+    (k .ensures .long ∙ u .loop .inv .0, came-next (a .file .now) (a .t .now) (a .chain .now) (a .s .now) (a .read) (a .q .now) (a .from) (a .to) (a .pending) (a .made) (a .fuel) (a .sheet .now) (p .0) (p .1) (u .loop .sheet) (u .loop .r) (u .loop .inv .1) (c .before .before .before .before .loop-test .taken) _ _ (rw (c .before .if1 .taken) at (k .ensures)) refl)
+
+-- src/search.rt:102:13
+rules-below-returns : (t : ℕ) → rules-below-lts.Need-returns (
+  category-reads.Asked,
+  category-reads.Learnt,
+  below-below t,
+  below.Post,
+) (rules-below-at t) rules-below.Post rules-below-Inv-loop rules-below-μ-loop
+rules-below-returns t c =
+    let u = c .before .before .before .before in
+    let s = u .before .before .before .before .before .before .before in
+    let a = s .args in
+    let p = s .pre .1 in
+    let k = c .before .below in
+    over-budget (a .file .now) (a .t .now) (a .chain .now) (a .s .now) (a .read) (a .q .now) (a .from) (a .to) (a .pending) (a .made) (a .fuel) (a .sheet .now) (p .0) (p .1) (u .loop .sheet) (u .loop .r) (u .loop .inv .1) (c .before .before .before .loop-test .taken) _ (rw (c .if1 .left) at (k .ensures))
+
+-- src/search.rt:76:1
+rules-below-returns-2 : (t : ℕ) → rules-below-lts.Need-returns-2 (
+  category-reads.Asked,
+  category-reads.Learnt,
+  below-below t,
+  below.Post,
+) (rules-below-at t) rules-below.Post rules-below-Inv-loop rules-below-μ-loop
+rules-below-returns-2 t c =
+    let u = c .before in
+    let s = u .before .before .before .before .before .before .before in
+    let a = s .args in
+    let p = s .pre .1 in
+    came-last (a .file .now) (a .t .now) (a .chain .now) (a .s .now) (a .read) (a .q .now) (a .from) (a .to) (a .pending) (a .made) (a .fuel) (a .sheet .now) (p .0) (p .1) (u .loop .sheet) (u .loop .r) (u .loop .inv .1) (c .loop-test .left)
+
+-- src/search.rt:59:18
+search-element-copy-out-budget : (t : ℕ) → search-lts.Need-element-copy-out-budget (
+  complete-reads.Asked,
+  complete-reads.Learnt,
+  rules-below-below t,
+  rules-below.Post,
+) (search-at t) search′.Post
+search-element-copy-out-budget t c = search needs
+
+-- src/search.rt:61:9
+search-returns : (t : ℕ) → search-lts.Need-returns (
+  complete-reads.Asked,
+  complete-reads.Learnt,
+  rules-below-below t,
+  rules-below.Post,
+) (search-at t) search′.Post
+search-returns t c =
+    let s = c .before .before .before .before in
+    let a = s .args in
+    let p = s .pre .1 in
+    no-budget (a .file .now) (a .t .now) (a .chain .now) (a .s .now) (a .read) (a .q .now) (a .from) (a .to) (a .pending) (a .made) (a .fuel) (a .sheet .now) p (c .if1 .taken)
+
+-- src/search.rt:63:16
+search-sub-sheet : (t : ℕ) → search-lts.Need-sub-sheet (
+  complete-reads.Asked,
+  complete-reads.Learnt,
+  rules-below-below t,
+  rules-below.Post,
+) (search-at t) search′.Post
+search-sub-sheet t c = search needs
+
+-- src/search.rt:63:5
+search-element-write-sheet : (t : ℕ) → search-lts.Need-element-write-sheet (
+  complete-reads.Asked,
+  complete-reads.Learnt,
+  rules-below-below t,
+  rules-below.Post,
+) (search-at t) search′.Post
+search-element-write-sheet t c = search needs
+
+-- src/search.rt:66:29
+search-sub-complete : (t : ℕ) → search-lts.Need-sub-complete (
+  complete-reads.Asked,
+  complete-reads.Learnt,
+  rules-below-below t,
+  rules-below.Post,
+) (search-at t) search′.Post
+search-sub-complete t c =
+    let s = c .before .before .before .before .before .before .before in
+    omega (arith, s .pre .1 .short)
+
+-- src/search.rt:66:13
+search-complete-requires : (t : ℕ) → search-lts.Need-complete-requires (
+  complete-reads.Asked,
+  complete-reads.Learnt,
+  rules-below-below t,
+  rules-below.Post,
+) (search-at t) search′.Post
+search-complete-requires t c κs =
+    let s = c .before .before .before .before .before .before .before in
+    let a = s .args in
+    let p = s .pre .1 in
+    (length-set (a .sheet .now) 1 _ ∙ p .long, omega (arith, getD-set-other (a .sheet .now) 1 0 (getD (a .sheet .now) 1 0 - 1) 0 (λ z. omega arith), p .bounded))
+
+-- src/search.rt:68:9
+search-returns-2 : (t : ℕ) → search-lts.Need-returns-2 (
+  complete-reads.Asked,
+  complete-reads.Learnt,
+  rules-below-below t,
+  rules-below.Post,
+) (search-at t) search′.Post
+search-returns-2 t c =
+    let s = c .before .before .before .before .before .before .before .before in
+    let a = s .args in
+    let p = s .pre .1 in
+    subst (λ (x : List ℕ). SearchedAt (grammarOf (a .file .now)) (a .fuel) (standing (a .s .now) (a .read) (a .q .now) (a .from) (a .to) (a .pending) (a .made)) (a .sheet .now) true x) (sym (c .complete .ensures)) (all-read (a .file .now) (a .t .now) (a .chain .now) (a .s .now) (a .read) (a .q .now) (a .from) (a .to) (a .pending) (a .made) (a .fuel) (a .sheet .now) p (c .before .before .before .before .if1 .left) (c .before .before .before .if2 .taken) (c .before .before .if3 .taken))
+
+-- src/search.rt:68:9
+search-returns-3 : (t : ℕ) → search-lts.Need-returns-3 (
+  complete-reads.Asked,
+  complete-reads.Learnt,
+  rules-below-below t,
+  rules-below.Post,
+) (search-at t) search′.Post
+search-returns-3 t c =
+    let s = c .before .before .before .before .before .before in
+    let a = s .args in
+    let p = s .pre .1 in
+    words-left (a .file .now) (a .t .now) (a .chain .now) (a .s .now) (a .read) (a .q .now) (a .from) (a .to) (a .pending) (a .made) (a .fuel) (a .sheet .now) p (c .before .before .if1 .left) (c .before .if2 .taken) (c .if3 .left)
+
+-- src/search.rt:70:5
+search-rules-below-requires : (t : ℕ) → search-lts.Need-rules-below-requires (
+  complete-reads.Asked,
+  complete-reads.Learnt,
+  rules-below-below t,
+  rules-below.Post,
+) (search-at t) search′.Post
+search-rules-below-requires t c κs =
+    let s = c .before .before .before .before .before .before in
+    let a = s .args in
+    let p = s .pre .1 in
+    let h = not-none (a .pending) (c .before .if2 .left) in
+    (omega (arith, s .pre .0), (rules-ready (a .file .now) (a .t .now) (a .chain .now) (a .s .now) (a .read) (a .q .now) (a .from) (a .to) (a .pending) (a .made) (a .fuel) (a .sheet .now) p (c .before .before .if1 .left) h, h))
+
+-- src/search.rt:42:1
+search-returns-4 : (t : ℕ) → search-lts.Need-returns-4 (
+  complete-reads.Asked,
+  complete-reads.Learnt,
+  rules-below-below t,
+  rules-below.Post,
+) (search-at t) search′.Post
+search-returns-4 t c =
+    let s = c .before .before .before .before .before .before .before in
+    let a = s .args in
+    let p = s .pre .1 in
+    let h = not-none (a .pending) (c .before .before .if2 .left) in
+    let k = c .rules-below in
+    below-rules (a .file .now) (a .t .now) (a .chain .now) (a .s .now) (a .read) (a .q .now) (a .from) (a .to) (a .pending) (a .made) (a .fuel) (a .sheet .now) p (c .before .before .before .if1 .left) h (k .result) _ (k .ensures)
+
+-- src/search.rt:154:14
+stepped-mul-at : (t : ℕ) → stepped-lts.Need-mul-at (
+  daughters-reads.Asked,
+  daughters-reads.Learnt,
+  word-reads.Asked,
+  word-reads.Learnt,
+  search-below t,
+  search′.Post,
+  fits-reads.Asked,
+  fits-reads.Learnt,
+  expanded-below t,
+  expanded.Post,
+) (stepped-at t) stepped.Post
+stepped-mul-at t c = search needs
+
+-- src/search.rt:155:9
+stepped-daughters-requires : (t : ℕ) → stepped-lts.Need-daughters-requires (
+  daughters-reads.Asked,
+  daughters-reads.Learnt,
+  word-reads.Asked,
+  word-reads.Learnt,
+  search-below t,
+  search′.Post,
+  fits-reads.Asked,
+  fits-reads.Learnt,
+  expanded-below t,
+  expanded.Post,
+) (stepped-at t) stepped.Post
+stepped-daughters-requires t c κs =
+    let s = c .before .before in
+    let a = s .args in
+    let p = s .pre .1 in
+    omega (arith, rule-small (a .file .now) (a .t .now) (a .chain .now) (a .s .now) (a .read) (a .q .now) (a .from) (a .to) (a .pending) (a .made) (a .fuel) (a .sheet .now) (p .0) (a .r) (p .1))
+
+-- src/search.rt:157:13
+stepped-word-requires : (t : ℕ) → stepped-lts.Need-word-requires (
+  daughters-reads.Asked,
+  daughters-reads.Learnt,
+  word-reads.Asked,
+  word-reads.Learnt,
+  search-below t,
+  search′.Post,
+  fits-reads.Asked,
+  fits-reads.Learnt,
+  expanded-below t,
+  expanded.Post,
+) (stepped-at t) stepped.Post
+stepped-word-requires t c κs =
+    let s = c .before .before .before .before in
+    let a = s .args in
+    let p = s .pre .1 in
+    omega (arith, rule-small (a .file .now) (a .t .now) (a .chain .now) (a .s .now) (a .read) (a .q .now) (a .from) (a .to) (a .pending) (a .made) (a .fuel) (a .sheet .now) (p .0) (a .r) (p .1))
+
+-- src/search.rt:166:17
+stepped-add-search : (t : ℕ) → stepped-lts.Need-add-search (
+  daughters-reads.Asked,
+  daughters-reads.Learnt,
+  word-reads.Asked,
+  word-reads.Learnt,
+  search-below t,
+  search′.Post,
+  fits-reads.Asked,
+  fits-reads.Learnt,
+  expanded-below t,
+  expanded.Post,
+) (stepped-at t) stepped.Post
+stepped-add-search t c =
+    let s = c .before .before .before .before .before .before .before in
+    let a = s .args in
+    let p = s .pre .1 in
+    omega (arith, p .0 .held .ordered, p .0 .held .within)
+
+-- src/search.rt:168:17
+stepped-sub-search : (t : ℕ) → stepped-lts.Need-sub-search (
+  daughters-reads.Asked,
+  daughters-reads.Learnt,
+  word-reads.Asked,
+  word-reads.Learnt,
+  search-below t,
+  search′.Post,
+  fits-reads.Asked,
+  fits-reads.Learnt,
+  expanded-below t,
+  expanded.Post,
+) (stepped-at t) stepped.Post
+stepped-sub-search t c =
+    let s = c .before .before .before .before .before .before .before in
+    let a = s .args in
+    let p = s .pre .1 in
+    omega (arith, p .1 .predicted)
+
+-- src/search.rt:170:17
+stepped-sub-search-2 : (t : ℕ) → stepped-lts.Need-sub-search-2 (
+  daughters-reads.Asked,
+  daughters-reads.Learnt,
+  word-reads.Asked,
+  word-reads.Learnt,
+  search-below t,
+  search′.Post,
+  fits-reads.Asked,
+  fits-reads.Learnt,
+  expanded-below t,
+  expanded.Post,
+) (stepped-at t) stepped.Post
+stepped-sub-search-2 t c =
+    let s = c .before .before .before .before .before .before .before in
+    let a = s .args in
+    let p = s .pre .1 in
+    omega (arith, p .1 .predicted, p .0 .fits)
+
+-- src/search.rt:159:13
+stepped-search-requires : (t : ℕ) → stepped-lts.Need-search-requires (
+  daughters-reads.Asked,
+  daughters-reads.Learnt,
+  word-reads.Asked,
+  word-reads.Learnt,
+  search-below t,
+  search′.Post,
+  fits-reads.Asked,
+  fits-reads.Learnt,
+  expanded-below t,
+  expanded.Post,
+) (stepped-at t) stepped.Post
+stepped-search-requires t c κs =
+    let s = c .before .before .before .before .before .before .before .before in
+    let a = s .args in
+    let p = s .pre .1 in
+    (omega (arith, s .pre .0, p .1 .predicted, p .0 .fits), empty-ready (a .file .now) (a .t .now) (a .chain .now) (a .s .now) (a .read) (a .q .now) (a .from) (a .to) (a .pending) (a .made) (a .fuel) (a .sheet .now) (p .0) (a .r) (p .1) (sym (c .before .before .before .before .before .daughters .ensures) ∙ (c .before .before .before .before .if1 .taken)) (sym (c .before .before .before .word .ensures) ∙ (c .before .if2 .taken)))
+
+-- src/search.rt:159:13
+stepped-returns : (t : ℕ) → stepped-lts.Need-returns (
+  daughters-reads.Asked,
+  daughters-reads.Learnt,
+  word-reads.Asked,
+  word-reads.Learnt,
+  search-below t,
+  search′.Post,
+  fits-reads.Asked,
+  fits-reads.Learnt,
+  expanded-below t,
+  expanded.Post,
+) (stepped-at t) stepped.Post
+stepped-returns t c =
+    let s = c .before .before .before .before .before .before .before .before .before in
+    let a = s .args in
+    let p = s .pre .1 in
+    let k = c .search in
+    empty-word (a .file .now) (a .t .now) (a .chain .now) (a .s .now) (a .read) (a .q .now) (a .from) (a .to) (a .pending) (a .made) (a .fuel) (a .sheet .now) (p .0) (a .r) (p .1) (sym (c .before .before .before .before .before .before .daughters .ensures) ∙ (c .before .before .before .before .before .if1 .taken)) (sym (c .before .before .before .before .word .ensures) ∙ (c .before .before .if2 .taken)) (k .result) _ (k .ensures)
+
+-- src/search.rt:175:13
+stepped-returns-2 : (t : ℕ) → stepped-lts.Need-returns-2 (
+  daughters-reads.Asked,
+  daughters-reads.Learnt,
+  word-reads.Asked,
+  word-reads.Learnt,
+  search-below t,
+  search′.Post,
+  fits-reads.Asked,
+  fits-reads.Learnt,
+  expanded-below t,
+  expanded.Post,
+) (stepped-at t) stepped.Post
+stepped-returns-2 t c =
+    let s = c .before .before .before .before .before .before .before .before in
+    let a = s .args in
+    let p = s .pre .1 in
+    no-words (a .file .now) (a .t .now) (a .chain .now) (a .s .now) (a .read) (a .q .now) (a .from) (a .to) (a .pending) (a .made) (a .fuel) (a .sheet .now) (p .0) (a .r) (p .1) (sym (c .before .before .before .before .before .daughters .ensures) ∙ (c .before .before .before .before .if1 .taken)) (λ z. (c .before .if2 .left) ((c .before .before .before .word .ensures) ∙ z)) (c .if3 .taken)
+
+-- src/search.rt:177:20
+stepped-mul-fits : (t : ℕ) → stepped-lts.Need-mul-fits (
+  daughters-reads.Asked,
+  daughters-reads.Learnt,
+  word-reads.Asked,
+  word-reads.Learnt,
+  search-below t,
+  search′.Post,
+  fits-reads.Asked,
+  fits-reads.Learnt,
+  expanded-below t,
+  expanded.Post,
+) (stepped-at t) stepped.Post
+stepped-mul-fits t c = search needs
+
+-- src/search.rt:177:20
+stepped-shared-slice-read-fits : (t : ℕ) → stepped-lts.Need-shared-slice-read-fits (
+  daughters-reads.Asked,
+  daughters-reads.Learnt,
+  word-reads.Asked,
+  word-reads.Learnt,
+  search-below t,
+  search′.Post,
+  fits-reads.Asked,
+  fits-reads.Learnt,
+  expanded-below t,
+  expanded.Post,
+) (stepped-at t) stepped.Post
+stepped-shared-slice-read-fits t c = search needs
+
+-- src/search.rt:177:12
+stepped-fits-requires : (t : ℕ) → stepped-lts.Need-fits-requires (
+  daughters-reads.Asked,
+  daughters-reads.Learnt,
+  word-reads.Asked,
+  word-reads.Learnt,
+  search-below t,
+  search′.Post,
+  fits-reads.Asked,
+  fits-reads.Learnt,
+  expanded-below t,
+  expanded.Post,
+) (stepped-at t) stepped.Post
+stepped-fits-requires t c κs = search needs
+
+-- src/search.rt:183:17
+stepped-add-search-2 : (t : ℕ) → stepped-lts.Need-add-search-2 (
+  daughters-reads.Asked,
+  daughters-reads.Learnt,
+  word-reads.Asked,
+  word-reads.Learnt,
+  search-below t,
+  search′.Post,
+  fits-reads.Asked,
+  fits-reads.Learnt,
+  expanded-below t,
+  expanded.Post,
+) (stepped-at t) stepped.Post
+stepped-add-search-2 t c =
+    let s = c .before .before .before .before .before .before .before .before .before .before .before in
+    let a = s .args in
+    let p = s .pre .1 in
+    omega (arith, (c .before .before .before .if3 .left))
+
+-- src/search.rt:185:17
+stepped-add-search-3 : (t : ℕ) → stepped-lts.Need-add-search-3 (
+  daughters-reads.Asked,
+  daughters-reads.Learnt,
+  word-reads.Asked,
+  word-reads.Learnt,
+  search-below t,
+  search′.Post,
+  fits-reads.Asked,
+  fits-reads.Learnt,
+  expanded-below t,
+  expanded.Post,
+) (stepped-at t) stepped.Post
+stepped-add-search-3 t c =
+    let s = c .before .before .before .before .before .before .before .before .before .before .before in
+    let a = s .args in
+    let p = s .pre .1 in
+    omega (arith, p .0 .held .ordered, p .0 .held .within)
+
+-- src/search.rt:187:17
+stepped-sub-search-3 : (t : ℕ) → stepped-lts.Need-sub-search-3 (
+  daughters-reads.Asked,
+  daughters-reads.Learnt,
+  word-reads.Asked,
+  word-reads.Learnt,
+  search-below t,
+  search′.Post,
+  fits-reads.Asked,
+  fits-reads.Learnt,
+  expanded-below t,
+  expanded.Post,
+) (stepped-at t) stepped.Post
+stepped-sub-search-3 t c =
+    let s = c .before .before .before .before .before .before .before .before .before .before .before in
+    let a = s .args in
+    let p = s .pre .1 in
+    omega (arith, p .1 .predicted)
+
+-- src/search.rt:189:17
+stepped-sub-search-4 : (t : ℕ) → stepped-lts.Need-sub-search-4 (
+  daughters-reads.Asked,
+  daughters-reads.Learnt,
+  word-reads.Asked,
+  word-reads.Learnt,
+  search-below t,
+  search′.Post,
+  fits-reads.Asked,
+  fits-reads.Learnt,
+  expanded-below t,
+  expanded.Post,
+) (stepped-at t) stepped.Post
+stepped-sub-search-4 t c =
+    let s = c .before .before .before .before .before .before .before .before .before .before .before in
+    let a = s .args in
+    let p = s .pre .1 in
+    omega (arith, p .1 .predicted, p .0 .fits)
+
+-- src/search.rt:178:13
+stepped-search-requires-2 : (t : ℕ) → stepped-lts.Need-search-requires-2 (
+  daughters-reads.Asked,
+  daughters-reads.Learnt,
+  word-reads.Asked,
+  word-reads.Learnt,
+  search-below t,
+  search′.Post,
+  fits-reads.Asked,
+  fits-reads.Learnt,
+  expanded-below t,
+  expanded.Post,
+) (stepped-at t) stepped.Post
+stepped-search-requires-2 t c κs =
+    let s = c .before .before .before .before .before .before .before .before .before .before .before .before in
+    let a = s .args in
+    let p = s .pre .1 in
+    (omega (arith, s .pre .0, p .1 .predicted, p .0 .fits), word-ready (a .file .now) (a .t .now) (a .chain .now) (a .s .now) (a .read) (a .q .now) (a .from) (a .to) (a .pending) (a .made) (a .fuel) (a .sheet .now) (p .0) (a .r) (p .1) (sym (c .before .before .before .before .before .before .before .before .before .daughters .ensures) ∙ (c .before .before .before .before .before .before .before .before .if1 .taken)) (λ z. (c .before .before .before .before .before .if2 .left) ((c .before .before .before .before .before .before .before .word .ensures) ∙ z)) (c .before .before .before .before .if3 .left) (ap (λ (w : ℕ). wordFits w (getD (a .s .now) (a .read) 0)) (sym (c .before .before .before .before .before .before .before .word .ensures)) ∙ sym (c .before .before .fits2 .ensures) ∙ (c .before .if4 .taken)))
+
+-- src/search.rt:178:13
+stepped-returns-3 : (t : ℕ) → stepped-lts.Need-returns-3 (
+  daughters-reads.Asked,
+  daughters-reads.Learnt,
+  word-reads.Asked,
+  word-reads.Learnt,
+  search-below t,
+  search′.Post,
+  fits-reads.Asked,
+  fits-reads.Learnt,
+  expanded-below t,
+  expanded.Post,
+) (stepped-at t) stepped.Post
+stepped-returns-3 t c =
+    let s = c .before .before .before .before .before .before .before .before .before .before .before .before .before in
+    let a = s .args in
+    let p = s .pre .1 in
+    let k = c .search2 in
+    next-word (a .file .now) (a .t .now) (a .chain .now) (a .s .now) (a .read) (a .q .now) (a .from) (a .to) (a .pending) (a .made) (a .fuel) (a .sheet .now) (p .0) (a .r) (p .1) (sym (c .before .before .before .before .before .before .before .before .before .before .daughters .ensures) ∙ (c .before .before .before .before .before .before .before .before .before .if1 .taken)) (λ z. (c .before .before .before .before .before .before .if2 .left) ((c .before .before .before .before .before .before .before .before .word .ensures) ∙ z)) (c .before .before .before .before .before .if3 .left) (ap (λ (w : ℕ). wordFits w (getD (a .s .now) (a .read) 0)) (sym (c .before .before .before .before .before .before .before .before .word .ensures)) ∙ sym (c .before .before .before .fits2 .ensures) ∙ (c .before .before .if4 .taken)) (k .result) _ (k .ensures)
+
+-- src/search.rt:193:9
+stepped-returns-4 : (t : ℕ) → stepped-lts.Need-returns-4 (
+  daughters-reads.Asked,
+  daughters-reads.Learnt,
+  word-reads.Asked,
+  word-reads.Learnt,
+  search-below t,
+  search′.Post,
+  fits-reads.Asked,
+  fits-reads.Learnt,
+  expanded-below t,
+  expanded.Post,
+) (stepped-at t) stepped.Post
+stepped-returns-4 t c =
+    let s = c .before .before .before .before .before .before .before .before .before .before .before in
+    let a = s .args in
+    let p = s .pre .1 in
+    other-word (a .file .now) (a .t .now) (a .chain .now) (a .s .now) (a .read) (a .q .now) (a .from) (a .to) (a .pending) (a .made) (a .fuel) (a .sheet .now) (p .0) (a .r) (p .1) (sym (c .before .before .before .before .before .before .before .before .daughters .ensures) ∙ (c .before .before .before .before .before .before .before .if1 .taken)) (λ z. (c .before .before .before .before .if2 .left) ((c .before .before .before .before .before .before .word .ensures) ∙ z)) (c .before .before .before .if3 .left) (ap (λ (w : ℕ). wordFits w (getD (a .s .now) (a .read) 0)) (sym (c .before .before .before .before .before .before .word .ensures)) ∙ sym (c .before .fits2 .ensures) ∙ c .if4 .left)
+
+-- src/search.rt:195:25
+stepped-cast-if5 : (t : ℕ) → stepped-lts.Need-cast-if5 (
+  daughters-reads.Asked,
+  daughters-reads.Learnt,
+  word-reads.Asked,
+  word-reads.Learnt,
+  search-below t,
+  search′.Post,
+  fits-reads.Asked,
+  fits-reads.Learnt,
+  expanded-below t,
+  expanded.Post,
+) (stepped-at t) stepped.Post
+stepped-cast-if5 t c = search needs
+
+-- src/search.rt:195:15
+stepped-add-if5 : (t : ℕ) → stepped-lts.Need-add-if5 (
+  daughters-reads.Asked,
+  daughters-reads.Learnt,
+  word-reads.Asked,
+  word-reads.Learnt,
+  search-below t,
+  search′.Post,
+  fits-reads.Asked,
+  fits-reads.Learnt,
+  expanded-below t,
+  expanded.Post,
+) (stepped-at t) stepped.Post
+stepped-add-if5 t c =
+    let s = c .before .before .before .before in
+    let a = s .args in
+    let p = s .pre .1 in
+    omega (arith, p .0 .fits, p .0 .short, fit (a .file .now) (a .t .now) (a .chain .now) (a .s .now) (a .read) (a .q .now) (a .from) (a .to) (a .pending) (a .made) (a .fuel) (a .sheet .now) (p .0) (a .r) (p .1) .few, (c .before .daughters .ensures))
+
+-- src/search.rt:196:9
+stepped-returns-5 : (t : ℕ) → stepped-lts.Need-returns-5 (
+  daughters-reads.Asked,
+  daughters-reads.Learnt,
+  word-reads.Asked,
+  word-reads.Learnt,
+  search-below t,
+  search′.Post,
+  fits-reads.Asked,
+  fits-reads.Learnt,
+  expanded-below t,
+  expanded.Post,
+) (stepped-at t) stepped.Post
+stepped-returns-5 t c =
+    let s = c .before .before .before .before .before in
+    let a = s .args in
+    let p = s .pre .1 in
+    queue-long (a .file .now) (a .t .now) (a .chain .now) (a .s .now) (a .read) (a .q .now) (a .from) (a .to) (a .pending) (a .made) (a .fuel) (a .sheet .now) (p .0) (a .r) (p .1) (not-none (getD (a .t .now) (32 * a .r) 0) (λ z. (c .before .if1 .left) ((c .before .before .daughters .ensures) ∙ z))) (omega (arith, c .if5 .taken, (c .before .before .daughters .ensures)))
+
+-- src/search.rt:198:5
+stepped-expanded-requires : (t : ℕ) → stepped-lts.Need-expanded-requires (
+  daughters-reads.Asked,
+  daughters-reads.Learnt,
+  word-reads.Asked,
+  word-reads.Learnt,
+  search-below t,
+  search′.Post,
+  fits-reads.Asked,
+  fits-reads.Learnt,
+  expanded-below t,
+  expanded.Post,
+) (stepped-at t) stepped.Post
+stepped-expanded-requires t c κs =
+    let s = c .before .before .before .before .before .before in
+    let a = s .args in
+    let p = s .pre .1 in
+    let e = (c .before .before .before .daughters .ensures) in
+    (omega (arith, s .pre .0), (p .0, p .1, e, omega (arith, e, (not-none (getD (a .t .now) (32 * a .r) 0) (λ z. (c .before .before .if1 .left) ((c .before .before .before .daughters .ensures) ∙ z)))), omega (arith, (c .before .if5 .left))))
+
+-- src/search.rt:136:1
+stepped-returns-6 : (t : ℕ) → stepped-lts.Need-returns-6 (
+  daughters-reads.Asked,
+  daughters-reads.Learnt,
+  word-reads.Asked,
+  word-reads.Learnt,
+  search-below t,
+  search′.Post,
+  fits-reads.Asked,
+  fits-reads.Learnt,
+  expanded-below t,
+  expanded.Post,
+) (stepped-at t) stepped.Post
+stepped-returns-6 t c = c .expanded .ensures
+
+pub +below+expanded+rules-below+search+stepped-spec : {M : Type 1} → statement M
++below+expanded+rules-below+search+stepped-spec =
+    close μ-below μ-expanded μ-rules-below μ-search μ-stepped (λ t. below-lts.spec (
+      stepped-below t,
+      stepped.Post,
+      note-reads.Asked,
+      note-reads.Learnt,
+    )
+    (below-at t)
+    below.Post
+    (below-element-copy-out-first t)
+    (below-stepped-requires t)
+    (below-sub-note t)
+    (below-note-requires t)
+    (below-returns t))
+    (λ t. expanded-lts.spec (
+      expand-reads.Asked,
+      expand-reads.Learnt,
+      search-below t,
+      search′.Post,
+    )
+    (expanded-at t)
+    expanded.Post
+    (expanded-mul-expand t)
+    (expanded-expand-requires t)
+    (expanded-sub-search t)
+    (expanded-add-search t)
+    (expanded-add-search-2 t)
+    (expanded-sub-search-2 t)
+    (expanded-search-requires t)
+    (expanded-returns t))
+    (λ t. rules-below-lts.spec (
+      category-reads.Asked,
+      category-reads.Learnt,
+      below-below t,
+      below.Post,
+    )
+    (rules-below-at t)
+    rules-below.Post
+    rules-below-Inv-loop
+    rules-below-μ-loop
+    (rules-below-mul-category t)
+    (rules-below-element-copy-out-category t)
+    (rules-below-category-requires t)
+    (rules-below-cast-a t)
+    (rules-below-mul-r t)
+    (rules-below-element-copy-out-r t)
+    (rules-below-loop-holds t)
+    (rules-below-below-requires t)
+    (rules-below-cast-i t)
+    (rules-below-add-r t)
+    (rules-below-mul-r-2 t)
+    (rules-below-element-copy-out-r-2 t)
+    (rules-below-loop-less t)
+    (rules-below-loop-again t)
+    (rules-below-returns t)
+    (rules-below-returns-2 t))
+    (λ t. search-lts.spec (
+      complete-reads.Asked,
+      complete-reads.Learnt,
+      rules-below-below t,
+      rules-below.Post,
+    )
+    (search-at t)
+    search′.Post
+    (search-element-copy-out-budget t)
+    (search-returns t)
+    (search-sub-sheet t)
+    (search-element-write-sheet t)
+    (search-sub-complete t)
+    (search-complete-requires t)
+    (search-returns-2 t)
+    (search-returns-3 t)
+    (search-rules-below-requires t)
+    (search-returns-4 t))
+    λ t. stepped-lts.spec (
+      daughters-reads.Asked,
+      daughters-reads.Learnt,
+      word-reads.Asked,
+      word-reads.Learnt,
+      search-below t,
+      search′.Post,
+      fits-reads.Asked,
+      fits-reads.Learnt,
+      expanded-below t,
+      expanded.Post,
+    )
+    (stepped-at t)
+    stepped.Post
+    (stepped-mul-at t)
+    (stepped-daughters-requires t)
+    (stepped-word-requires t)
+    (stepped-add-search t)
+    (stepped-sub-search t)
+    (stepped-sub-search-2 t)
+    (stepped-search-requires t)
+    (stepped-returns t)
+    (stepped-returns-2 t)
+    (stepped-mul-fits t)
+    (stepped-shared-slice-read-fits t)
+    (stepped-fits-requires t)
+    (stepped-add-search-2 t)
+    (stepped-add-search-3 t)
+    (stepped-sub-search-3 t)
+    (stepped-sub-search-4 t)
+    (stepped-search-requires-2 t)
+    (stepped-returns-3 t)
+    (stepped-returns-4 t)
+    (stepped-cast-if5 t)
+    (stepped-add-if5 t)
+    (stepped-returns-5 t)
+    (stepped-expanded-requires t)
+    (stepped-returns-6 t)

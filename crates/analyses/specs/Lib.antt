@@ -1,0 +1,4 @@
+pub mod Chain
+pub mod Tally
+pub mod Search
+pub mod Tests

@@ -1,0 +1,100 @@
+// The count, and entry m of the listing.
+ghost use mathlib.Core.Option.{none};
+ghost use mathlib.Core.Path.{_≡_};
+ghost use Prim.Native.Nat.{_+_, _-_, _≤_};
+ghost use lib.ListN.{length, getD};
+ghost use Rattle.model.specs.Calls.{countCall};
+ghost use Rattle.model.specs.Counting.{limitsRefusal, effortRefusal, listing, count, effort};
+ghost use Rattle.model.specs.GrammarFile.{grammarRefusal, grammarOf};
+ghost use Rattle.model.specs.Verdict.{verdict, countVerdict};
+ghost use Rattle.analyses.specs.Tests.{beforeSearch};
+ghost use Rattle.analyses.specs.Tally.{Searched};
+use crate::chain::chain_rules;
+use crate::search::search;
+use grammar::read_grammar;
+use grammar::start;
+use model::CountVerdict;
+use model::Refusal;
+use model::Verdict;
+use recognizer::row::first_row;
+use recognizer::rules::compile;
+use recognizer::sentence_refusal;
+
+// Refusal 24: the node limit is not 1 to 96, or the effort limit not 1 to 1,000,000,000.
+fn limits_refusal(n: u64, limit: u64) -> Verdict
+    ensures { λ v. ⌜ v ≡ verdict (limitsRefusal n limit) 0 ⌝ }
+{
+    if n < 1 {
+        return Verdict::Refused(Refusal::Desk(24, 0));
+    }
+    if 96 < n {
+        return Verdict::Refused(Refusal::Desk(24, 0));
+    }
+    if limit < 1 {
+        return Verdict::Refused(Refusal::Desk(24, 0));
+    }
+    if 1000000000 < limit {
+        return Verdict::Refused(Refusal::Desk(24, 0));
+    }
+    Verdict::Accepted(0)
+}
+
+// The search from the start, with n steps.
+fn search_all(file: &[u8], sentence: &[u16], n: usize, sheet: &mut [u64; 100]) -> bool
+    requires { ⌜ (grammarRefusal (now file) ≡ none) × (1 ≤ n) × (n ≤ 96) × (length (now sheet) ≡ 100) × (getD (now sheet) 0 0 + getD (now sheet) 1 0 ≤ 1000000000) ⌝ }
+    ensures { λ b. ⌜ Searched (now (sheet .entry)) (listing (grammarOf (now (file .entry))) (now (sentence .entry)) n) (effort (grammarOf (now (file .entry))) (now (sentence .entry)) n) (96 - n) b (now (sheet .exit)) ⌝ }
+{
+    let t = compile(file);
+    let chain = chain_rules(file);
+    let q = first_row(start(file));
+    search(file, &t, &chain, sentence, 0, &q, 0, 1, 1, 1, n, sheet)
+}
+
+// A sheet with a budget and the entry that is asked for.
+fn sheet_for(budget: u64, m: u64) -> [u64; 100]
+    ensures { λ s. ⌜ (length s ≡ 100) × (getD s 0 0 ≡ 0) × (getD s 1 0 ≡ budget) × (getD s 2 0 ≡ m) ⌝ }
+{
+    let mut sheet = [0u64; 100];
+    sheet[1] = budget;
+    sheet[2] = m;
+    sheet
+}
+
+// Count and effort of an accepted file and sentence, with limits in range: refusal 25, or both.
+fn counted(file: &[u8], sentence: &[u16], n: u64, limit: u64) -> CountVerdict
+    requires { ⌜ (grammarRefusal (now file) ≡ none) × (limitsRefusal n limit ≡ none) ⌝ }
+    ensures { λ v. ⌜ v ≡ countVerdict (effortRefusal (grammarOf (now (file .entry))) (now (sentence .entry)) n limit) (count (grammarOf (now (file .entry))) (now (sentence .entry)) n) (effort (grammarOf (now (file .entry))) (now (sentence .entry)) n) ⌝ }
+{
+    let mut sheet = sheet_for(limit, 18446744073709551615);
+    if search_all(file, sentence, n as usize, &mut sheet) {
+        CountVerdict::Counted(sheet[0], limit - sheet[1])
+    } else {
+        CountVerdict::NotCounted(Refusal::Desk(25, 0))
+    }
+}
+
+// What the count tests before it searches: the grammar, 24, 11.
+fn count_tests(file: &[u8], sentence: &[u16], n: u64, limit: u64) -> Verdict
+    ensures { λ v. ⌜ v ≡ verdict (beforeSearch (now (file .entry)) (now (sentence .entry)) n limit) 0 ⌝ }
+{
+    let read = read_grammar(file);
+    let Verdict::Accepted(_) = read else {
+        return read;
+    };
+    let limits = limits_refusal(n, limit);
+    let Verdict::Accepted(_) = limits else {
+        return limits;
+    };
+    sentence_refusal(file, sentence)
+}
+
+// The count under node limit n: refusals 1 to 10, 24, 11, 25; else count and effort.
+pub fn count(file: &[u8], sentence: &[u16], n: u64, limit: u64) -> CountVerdict
+    ensures { λ v. ⌜ v ≡ countCall (now (file .entry)) (now (sentence .entry)) n limit ⌝ }
+{
+    let tests = count_tests(file, sentence, n, limit);
+    match tests {
+        Verdict::Accepted(_) => counted(file, sentence, n, limit),
+        Verdict::Refused(r) => CountVerdict::NotCounted(r),
+    }
+}

@@ -1,0 +1,287 @@
+// The search over live prefixes, depth first, within a budget. It counts the complete traces and keeps the one that is asked for.
+ghost use mathlib.Core.Path.{_≡_};
+ghost use Prim.Native.Nat.{_+_, _-_, _*_, _<_, _≤_};
+ghost use lib.ListN.{length, getD};
+ghost use Rattle.model.specs.GrammarFile.{grammarOf};
+ghost use Rattle.analyses.specs.Search.{standing, Ready, SearchedAt, SearchedTails, SearchedUnder, SearchedRules, Fronted};
+ghost use Rattle.analyses.specs.Tally.{spentOne, completed, noted};
+use model::Word;
+use recognizer::row::category;
+use recognizer::row::expand;
+use recognizer::rules::daughters;
+use recognizer::rules::word;
+use recognizer::step::fits;
+
+// A complete trace that ends at a place: it is counted, and its end is kept if it is the entry asked for.
+fn complete(sheet: &mut [u64; 100], place: usize)
+    requires { ⌜ (length (now sheet) ≡ 100) × (getD (now sheet) 0 0 ≤ 1000000000) ⌝ }
+    ensures { λ r. ⌜ now (sheet .exit) ≡ completed (now (sheet .entry)) place ⌝ }
+{
+    let count = sheet[0];
+    if count == sheet[2] {
+        sheet[99] = place as u64;
+    }
+    sheet[0] = count + 1;
+}
+
+// Keeps rule r at a place, if the entry asked for is one of those found since the count was `first`.
+fn note(sheet: &mut [u64; 100], first: u64, place: usize, r: u16)
+    requires { ⌜ (length (now sheet) ≡ 100) × (place < 97) ⌝ }
+    ensures { λ _. ⌜ now (sheet .exit) ≡ noted (now (sheet .entry)) first place r ⌝ }
+{
+    let asked = sheet[2];
+    if first <= asked {
+        if asked < sheet[0] {
+            sheet[3 + place] = r as u64;
+        }
+    }
+}
+
+// The search below the row q[from..to], with `read` words read and `fuel` steps left. The sheet has count, budget and the entry asked for; the tables t
+// and chain are those of the file. Says whether the budget sufficed. Costs a few operations a live prefix, and one for each slot of a row that is written.
+pub fn search(
+    file: &[u8],
+    t: &[u16; 8192],
+    chain: &[u16; 320],
+    s: &[u16],
+    read: usize,
+    q: &[u16; 384],
+    from: usize,
+    to: usize,
+    pending: usize,
+    made: u16,
+    fuel: usize,
+    sheet: &mut [u64; 100],
+) -> bool
+    requires { ⌜ Ready (now file) (now t) (now chain) (now s) read (now q) from to pending made fuel (now sheet) ⌝ }
+    ensures { λ b. ⌜ SearchedAt (grammarOf (now (file .entry))) fuel (standing (now (s .entry)) read (now (q .entry)) from to pending made) (now (sheet .entry)) b (now (sheet .exit)) ⌝ }
+{
+    let budget = sheet[1];
+    if budget == 0 {
+        return false;
+    }
+    sheet[1] = budget - 1;
+    if pending == 0 {
+        if s.len() == read {
+            complete(sheet, 96 - fuel);
+        }
+        return true;
+    }
+    rules_below(
+        file,
+        t,
+        chain,
+        s,
+        read,
+        q,
+        from,
+        to,
+        pending,
+        made,
+        fuel,
+        sheet,
+    )
+}
+
+// The search below each rule of the front's category, in order.
+fn rules_below(
+    file: &[u8],
+    t: &[u16; 8192],
+    chain: &[u16; 320],
+    s: &[u16],
+    read: usize,
+    q: &[u16; 384],
+    from: usize,
+    to: usize,
+    pending: usize,
+    made: u16,
+    fuel: usize,
+    sheet: &mut [u64; 100],
+) -> bool
+    requires { ⌜ Ready (now file) (now t) (now chain) (now s) read (now q) from to pending made fuel (now sheet) × (1 ≤ pending) ⌝ }
+    ensures { λ b. ⌜ SearchedRules (grammarOf (now (file .entry))) fuel (standing (now (s .entry)) read (now (q .entry)) from to pending made) (now (sheet .entry)) b (now (sheet .exit)) ⌝ }
+{
+    let a = category(q[from]).0 as usize;
+    let mut r = chain[a];
+    while r < 256 {
+        if below(
+            file,
+            t,
+            chain,
+            s,
+            read,
+            q,
+            from,
+            to,
+            pending,
+            made,
+            fuel,
+            sheet,
+            r,
+        ) {
+            let i = r as usize;
+            r = chain[64 + i];
+        } else {
+            return false;
+        }
+    }
+    true
+}
+
+// The search below rule r.
+fn below(
+    file: &[u8],
+    t: &[u16; 8192],
+    chain: &[u16; 320],
+    s: &[u16],
+    read: usize,
+    q: &[u16; 384],
+    from: usize,
+    to: usize,
+    pending: usize,
+    made: u16,
+    fuel: usize,
+    sheet: &mut [u64; 100],
+    r: u16,
+) -> bool
+    requires { ⌜ Ready (now file) (now t) (now chain) (now s) read (now q) from to pending made fuel (now sheet) × Fronted (now file) (now q) from pending r ⌝ }
+    ensures { λ b. ⌜ SearchedUnder (grammarOf (now (file .entry))) fuel (standing (now (s .entry)) read (now (q .entry)) from to pending made) r (now (sheet .entry)) b (now (sheet .exit)) ⌝ }
+{
+    let first = sheet[0];
+    let within = stepped(
+        file,
+        t,
+        chain,
+        s,
+        read,
+        q,
+        from,
+        to,
+        pending,
+        made,
+        fuel,
+        sheet,
+        r,
+    );
+    note(sheet, first, 96 - fuel, r);
+    within
+}
+
+// The search after the step of rule r, where it applies and leaves a queue that is no longer than the steps left.
+fn stepped(
+    file: &[u8],
+    t: &[u16; 8192],
+    chain: &[u16; 320],
+    s: &[u16],
+    read: usize,
+    q: &[u16; 384],
+    from: usize,
+    to: usize,
+    pending: usize,
+    made: u16,
+    fuel: usize,
+    sheet: &mut [u64; 100],
+    r: u16,
+) -> bool
+    requires { ⌜ Ready (now file) (now t) (now chain) (now s) read (now q) from to pending made fuel (now sheet) × Fronted (now file) (now q) from pending r ⌝ }
+    ensures { λ b. ⌜ SearchedTails (grammarOf (now (file .entry))) fuel (standing (now (s .entry)) read (now (q .entry)) from to pending made) r (now (sheet .entry)) b (now (sheet .exit)) ⌝ }
+{
+    let at = 32 * (r as usize);
+    let d = daughters(t, at);
+    if d == 0 {
+        let w = word(t, at);
+        if w.0 == 65535 {
+            return search(
+                file,
+                t,
+                chain,
+                s,
+                read,
+                q,
+                from + 1,
+                to,
+                pending - 1,
+                made,
+                fuel - 1,
+                sheet,
+            );
+        }
+        if s.len() <= read {
+            return true;
+        }
+        if fits(w, s[read]) {
+            return search(
+                file,
+                t,
+                chain,
+                s,
+                read + 1,
+                q,
+                from + 1,
+                to,
+                pending - 1,
+                made,
+                fuel - 1,
+                sheet,
+            );
+        }
+        return true;
+    }
+    if fuel < pending + d as usize {
+        return true;
+    }
+    expanded(
+        file,
+        t,
+        chain,
+        s,
+        read,
+        q,
+        from,
+        to,
+        pending,
+        made,
+        fuel,
+        sheet,
+        r,
+        d,
+    )
+}
+
+// The search after a nonlexical step, from the row that it writes.
+fn expanded(
+    file: &[u8],
+    t: &[u16; 8192],
+    chain: &[u16; 320],
+    s: &[u16],
+    read: usize,
+    q: &[u16; 384],
+    from: usize,
+    to: usize,
+    pending: usize,
+    made: u16,
+    fuel: usize,
+    sheet: &mut [u64; 100],
+    r: u16,
+    d: u16,
+) -> bool
+    requires { ⌜ Ready (now file) (now t) (now chain) (now s) read (now q) from to pending made fuel (now sheet) × Fronted (now file) (now q) from pending r × (d ≡ getD (now t) (32 * r) 0) × (0 < d) × (pending + d ≤ fuel) ⌝ }
+    ensures { λ b. ⌜ SearchedTails (grammarOf (now (file .entry))) fuel (standing (now (s .entry)) read (now (q .entry)) from to pending made) r (now (sheet .entry)) b (now (sheet .exit)) ⌝ }
+{
+    let mut out = [0u16; 384];
+    let n = expand(t, q, from, to, &mut out, 32 * (r as usize), made);
+    search(
+        file,
+        t,
+        chain,
+        s,
+        read,
+        &out,
+        0,
+        n,
+        pending - 1 + d as usize,
+        made + d,
+        fuel - 1,
+        sheet,
+    )
+}

@@ -1,0 +1,53 @@
+-- A packed verdict says what the verdict says: nothing is lost on the way to C.
+-- Assumes nothing.
+use mathlib.Core.Path.{_≡_, refl, ap, ap₂, _∙_}
+use mathlib.Core.Bool.{Bool, true, false}
+use mathlib.Core.List.{List, [], _∷_}
+use Prim.Native.Nat.{ℕ, _+_, _*_, _/_, _%_, _<_, _≤_}
+use native.Mathlib.Omega.{arith}
+use borrow.Author.Tests.{lt-ltb, le-ltb}
+use lib.Dec.{ltb, eqb}
+use Rattle.model.specs.declared.Refusal.{Refusal}
+use Rattle.model.specs.declared.Refusal.the-variants.{Grammar, Analysis, Desk}
+use Rattle.model.specs.declared.Verdict.{Verdict}
+use Rattle.model.specs.declared.Verdict.the-variants.{Accepted, Refused}
+use Rattle.model.specs.declared.CountVerdict.{CountVerdict}
+use Rattle.model.specs.declared.CountVerdict.the-variants.{Counted, NotCounted}
+use Rattle.model.specs.Base.{if_then_else_}
+use Rattle.model.specs.Verdict.{Author, grammarAuthor, analysisAuthor, desk, author, number, place, Answer, values, refusal, refusalAnswer, verdictAnswer, countAnswer}
+use Rattle.downgrater.specs.Packing.{authorCode, packedRefusal, packedVerdict, packedCount, authorOf, unpackedRefusal, unpackedVerdict, unpackedCount, Fits, VerdictFits, CountFits}
+
+abbrev packed : ℕ → ℕ → ℕ → ℕ
+packed w n p = 9223372036854775808 + 1099511627776 * w + 4294967296 * n + p
+
+-- the parts of a refusal's number
+above : (w n p : ℕ) → ltb (packed w n p) 9223372036854775808 ≡ false
+above w n p = le-ltb (packed w n p) 9223372036854775808 (omega arith)
+
+back : (w n p : ℕ) → w < 3 → n < 256 → p < 65536 → unpackedRefusal (packed w n p) ≡ refusal (authorOf w) n p
+back w n p few small near =
+    let whose : packed w n p / 1099511627776 % 256 ≡ w = omega arith in
+    let which : packed w n p / 4294967296 % 256 ≡ n = omega arith in
+    let at : packed w n p % 4294967296 ≡ p = omega arith in
+    λ i. refusal (authorOf (whose i)) (which i) (at i)
+
+pub refusal-back : (r : Refusal) → Fits r → unpackedRefusal (packedRefusal r) ≡ refusalAnswer r
+refusal-back (Grammar n p) f = back 0 n p (omega arith) (f .number-fits) (f .place-fits)
+refusal-back (Analysis n p) f = back 1 n p (omega arith) (f .number-fits) (f .place-fits)
+refusal-back (Desk n p) f = back 2 n p (omega arith) (f .number-fits) (f .place-fits)
+
+by-refusal : (r : Refusal) (a : Answer) → Fits r → (if ltb (packedRefusal r) 9223372036854775808 then a else unpackedRefusal (packedRefusal r)) ≡ refusalAnswer r
+by-refusal r a f = ap (λ (b : Bool). if b then a else unpackedRefusal (packedRefusal r)) (above (authorCode (author r)) (number r) (place r)) ∙ refusal-back r f
+
+pub verdict-back : (v : Verdict) → VerdictFits v → unpackedVerdict (packedVerdict v) ≡ verdictAnswer v
+verdict-back (Accepted n) f = rw (lt-ltb n 9223372036854775808 f)
+verdict-back (Refused r) f = by-refusal r (values (packedRefusal r ∷ [])) f
+
+pub count-back : (v : CountVerdict) → CountFits v → unpackedCount (packedCount v) ≡ countAnswer v
+count-back (Counted c e) f =
+    let x = c + 1073741824 * e in
+    let low : ltb (c + 1073741824 * e) 9223372036854775808 ≡ true = lt-ltb (c + 1073741824 * e) 9223372036854775808 (omega (arith, f .0, f .1)) in
+    let first : (c + 1073741824 * e) % 1073741824 ≡ c = omega (arith, f .0) in
+    let second : (c + 1073741824 * e) / 1073741824 ≡ e = omega (arith, f .0) in
+    rw low (λ i. values (first i ∷ second i ∷ []))
+count-back (NotCounted r) f = by-refusal r (values (packedRefusal r % 1073741824 ∷ packedRefusal r / 1073741824 ∷ [])) f

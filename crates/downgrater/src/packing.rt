@@ -1,0 +1,40 @@
+// A verdict as one 64-bit number.
+ghost use mathlib.Core.Path.{_≡_};
+ghost use Prim.Native.Nat.{_<_};
+ghost use Rattle.downgrater.specs.Packing.{packedRefusal, packedVerdict, packedCount, CountFits};
+use model::CountVerdict;
+use model::Refusal;
+use model::Verdict;
+
+fn refusal_bits(r: Refusal) -> u64
+    ensures { λ x. ⌜ x ≡ packedRefusal r ⌝ }
+{
+    match r {
+        Refusal::Grammar(n, p) => 9223372036854775808 + 4294967296 * (n as u64) + p as u64,
+        Refusal::Analysis(n, p) => {
+            9223372036854775808 + 1099511627776 + 4294967296 * (n as u64) + p as u64
+        }
+        Refusal::Desk(n, p) => {
+            9223372036854775808 + 2199023255552 + 4294967296 * (n as u64) + p as u64
+        }
+    }
+}
+
+pub fn verdict_bits(v: Verdict) -> u64
+    ensures { λ x. ⌜ x ≡ packedVerdict v ⌝ }
+{
+    match v {
+        Verdict::Accepted(n) => n,
+        Verdict::Refused(r) => refusal_bits(r),
+    }
+}
+
+pub fn count_bits(v: CountVerdict) -> u64
+    requires { ⌜ CountFits v ⌝ }
+    ensures { λ x. ⌜ x ≡ packedCount v ⌝ }
+{
+    match v {
+        CountVerdict::Counted(count, effort) => count + 1073741824 * effort,
+        CountVerdict::NotCounted(r) => refusal_bits(r),
+    }
+}

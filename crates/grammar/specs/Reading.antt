@@ -1,0 +1,70 @@
+-- The reader's tests in pieces: the refusals of one kind, and what is tested from a kind on (document 01, refusals 1 to 10).
+-- Assumes nothing.
+use Prim.Native.Nat.{ℕ, _+_, _-_}
+use mathlib.Core.Bool.{Bool, _&&_}
+use mathlib.Core.List.{List, _++_}
+use mathlib.Core.Option.{Option}
+use Rattle.model.specs.declared.Refusal.{Refusal}
+use Rattle.model.specs.declared.Verdict.{Verdict}
+use Rattle.model.specs.Base.{_orElse_, firstFrom}
+use Rattle.model.specs.Verdict.{refuseIf, verdict}
+use lib.Dec.{ltb, eqb}
+use Rattle.model.specs.GrammarFile.{within, allZero, fields, categoriesOf, startOf, wordsOf, dimensionsOf, dimensionIn, field, variables, blocks, wrongCheck, wrongBlock, wrongHeading, wrongBlocks, wrongCount, wrongRest, ruleRefusal, rulesOf, wrongCategory, wrongWord, wrongVariables, unusedSet}
+
+-- what a piece of the tests answers: `Accepted 0` where it refuses nothing
+abbrev pub tested : Option Refusal → Verdict
+tested refusal = verdict refusal 0
+
+-- refusals 2 and 3 of n blocks, and 5 of n rule blocks
+abbrev pub checkRefusal : List ℕ → ℕ → Option Refusal
+checkRefusal file n = firstFrom (λ k. refuseIf (wrongCheck file k) (Refusal.Grammar 2 k)) 0 n
+
+abbrev pub blockRefusal : List ℕ → ℕ → Option Refusal
+blockRefusal file n = firstFrom (λ k. refuseIf (wrongBlock file k) (Refusal.Grammar 3 k)) 0 n
+
+abbrev pub countRefusal : List ℕ → ℕ → Option Refusal
+countRefusal file n = firstFrom (λ k. refuseIf (wrongCount file k) (Refusal.Grammar 5 k)) 1 n
+
+-- refusal 4 in pieces: C, W and R in range; the start a category of dimension 1; the unused bytes 0
+abbrev pub numbersRight : List ℕ → Bool
+numbersRight file = within 1 64 (categoriesOf file) && within 1 4096 (wordsOf file) && within 1 256 (rulesOf file)
+
+abbrev pub startRight : List ℕ → Bool
+startRight file = ltb (startOf file) (categoriesOf file) && eqb (dimensionIn (dimensionsOf file) (startOf file)) 1
+
+abbrev pub unusedRight : List ℕ → Bool
+unusedRight file = allZero (fields file 9 7) && allZero (fields file (16 + categoriesOf file) (508 - (16 + categoriesOf file)))
+
+-- refusal 9 of a record by its kind: the bytes that a lexical and a nonlexical rule do not use
+abbrev pub unusedLexical : List ℕ → List ℕ
+unusedLexical e = fields e 2 3 ++ fields e 7 17
+
+abbrev pub unusedNonlexical : List ℕ → List ℕ → List ℕ
+unusedNonlexical dimensions e =
+    fields e (2 + field e 1) (3 - field e 1) ++ fields e 5 2
+    ++ fields e (7 + dimensionIn dimensions (field e 0)) (4 - dimensionIn dimensions (field e 0))
+    ++ fields e (11 + variables dimensions e) (13 - variables dimensions e)
+
+-- refusals 6 to 9 of record e at place i; with refusal 10 they are `recordRefusal`
+abbrev pub recordTests : List ℕ → ℕ → List ℕ → ℕ → Option Refusal
+recordTests dimensions words e i =
+    refuseIf (wrongCategory dimensions e) (Refusal.Grammar 6 i)
+    orElse refuseIf (wrongWord dimensions e words) (Refusal.Grammar 7 i)
+    orElse refuseIf (wrongVariables dimensions e) (Refusal.Grammar 8 i)
+    orElse refuseIf (unusedSet dimensions e) (Refusal.Grammar 9 i)
+
+-- refusals 6 to 10 of n rules
+abbrev pub rulesRefusal : List ℕ → ℕ → Option Refusal
+rulesRefusal file n = firstFrom (ruleRefusal file) 0 n
+
+-- the tests from the rules, from the number of blocks and from the checks on; `grammarRefusal` is refusal 1 and then the last of these
+abbrev pub fromRules : List ℕ → Option Refusal
+fromRules file = rulesRefusal file (rulesOf file) orElse refuseIf (wrongRest file) (Refusal.Grammar 9 (rulesOf file))
+
+abbrev pub fromCounts : List ℕ → Option Refusal
+fromCounts file = refuseIf (wrongBlocks file) (Refusal.Grammar 5 0) orElse countRefusal file (blocks file - 1) orElse fromRules file
+
+abbrev pub fromBlocks : List ℕ → Option Refusal
+fromBlocks file =
+    checkRefusal file (blocks file) orElse blockRefusal file (blocks file) orElse refuseIf (wrongHeading file) (Refusal.Grammar 4 0)
+    orElse fromCounts file

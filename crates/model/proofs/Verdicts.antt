@@ -1,0 +1,56 @@
+-- Verdicts of tests that refuse or pass, one after the other.
+-- Assumes nothing.
+use mathlib.Core.Path.{_≡_, refl, sym, ap, _∙_}
+use mathlib.Core.Option.{Option, none, some}
+use Prim.Native.Nat.{ℕ, _≤_}
+use native.Mathlib.Omega.{arith}
+use borrow.Author.Tests.{ltb-false}
+use lib.Dec.{ltb}
+use lib.ListN.{length}
+use mathlib.Core.List.{List}
+use Rattle.model.specs.declared.Refusal.{Refusal}
+use Rattle.model.specs.declared.Verdict.{Verdict}
+use Rattle.model.specs.Base.{_orElse_}
+use Rattle.model.specs.Verdict.{refuseIf, verdict}
+use Rattle.model.specs.Grammar.{Grammar}
+use Rattle.model.specs.Trace.{firstUnknown, sentenceRefusal}
+use Rattle.model.proofs.Tests.{no-refusal, first-of}
+
+pub refused : (o : Option Refusal) (n : ℕ) (x : Refusal) → o ≡ some x → Verdict.Refused x ≡ verdict o n
+refused o n x e = sym (ap (λ (p : Option Refusal). verdict p n) e)
+
+pub accepted : (o : Option Refusal) (n m : ℕ) → o ≡ none → m ≡ n → Verdict.Accepted m ≡ verdict o n
+accepted o n m e d = ap Verdict.Accepted d ∙ sym (ap (λ (p : Option Refusal). verdict p n) e)
+
+-- v is the verdict of the tests o
+module _ (o : Option Refusal) (n : ℕ) (v : Verdict) (is : v ≡ verdict o n) where
+  pub passed : {m : ℕ} → v ≡ Verdict.Accepted m → o ≡ none
+  passed {m} e = go o (sym is ∙ e)
+    where
+      go : (o : Option Refusal) → verdict o n ≡ Verdict.Accepted m → o ≡ none
+      go none f = refl
+      go (some x) f = let z : _≡_ {A = ℕ} 0 1 = cc in absurd (omega arith)
+
+  pub met : {x : Refusal} → v ≡ Verdict.Refused x → o ≡ some x
+  met {x} e = go o (sym is ∙ e)
+    where
+      go : (o : Option Refusal) → verdict o n ≡ Verdict.Refused x → o ≡ some x
+      go none f = let z : _≡_ {A = ℕ} 0 1 = cc in absurd (omega arith)
+      go (some y) f = cc
+
+  -- a refusal stands whatever is tested after it
+  pub stopped : (p : Option Refusal) (m : ℕ) {x : Refusal} → v ≡ Verdict.Refused x → v ≡ verdict (o orElse p) m
+  stopped p m {x} e = is ∙ go o (sym is ∙ e)
+    where
+      go : (o : Option Refusal) → verdict o n ≡ Verdict.Refused x → verdict o n ≡ verdict (o orElse p) m
+      go none f = let z : _≡_ {A = ℕ} 0 1 = cc in absurd (omega arith)
+      go (some y) f = refl
+
+-- after a test that passed
+pub after-pass : (o p : Option Refusal) (m : ℕ) (v : Verdict) → o ≡ none → v ≡ verdict p m → v ≡ verdict (o orElse p) m
+after-pass o p m v e f = f ∙ sym (ap (λ (q : Option Refusal). verdict (q orElse p) m) e)
+
+pub sentence-short : (g : Grammar) (sentence : List ℕ) → sentenceRefusal g sentence ≡ none → length sentence ≤ 96
+sentence-short g sentence e =
+    ltb-false 96 (length sentence)
+    (no-refusal (ltb 96 (length sentence)) (Refusal.Analysis 11 96) (first-of (refuseIf (ltb 96 (length sentence)) (Refusal.Analysis 11 96)) (firstUnknown (g .words) 0 sentence) e))

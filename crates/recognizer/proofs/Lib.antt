@@ -1,0 +1,10 @@
+pub mod Lists
+pub mod Packing
+pub mod Cells
+pub mod Record
+pub mod Compiled
+pub mod Expand
+pub mod Steps
+pub mod Running
+pub mod Words
+pub mod Checked

@@ -1,0 +1,173 @@
+-- What code needs to know of a record of a file that the reader accepts: lengths that a rule lacks are 0, components are the parts of these lengths,
+-- and a variable names a daughter of the rule.
+-- Assumes nothing.
+use mathlib.Core.Path.{_≡_, refl, sym, ap, ap₂, subst, _∙_}
+use mathlib.Core.Bool.{Bool, true, false}
+use mathlib.Core.Option.{none}
+use mathlib.Core.List.{List, [], _∷_, _++_, map, List·Memᴰ, List·Memᴰ·head, List·Memᴰ·tail}
+use Prim.Native.Nat.{ℕ, zero, suc, _+_, _-_, _/_, _<_, _≤_}
+use native.Mathlib.Omega.{arith}
+use native.Mathlib.Decide.{decLt}
+use borrow.Author.Tests.{lt-ltb, le-ltb}
+use lib.Dec.{T, eqb, eqb→eq}
+use lib.ListN.{length, getD, take, drop, List·getD-eq-default}
+use lib.Seq.{drop-drop}
+use Rattle.model.specs.declared.Refusal.{Refusal}
+use Rattle.model.specs.Base.{if_then_else_, _orElse_, firstFrom, sumBelow, total}
+use Rattle.model.specs.Verdict.{refuseIf}
+use Rattle.model.specs.Grammar.{Variable, Rule, Grammar, isLexical}
+use Rattle.model.specs.GrammarFile.{fields, field, allZero, daughtersOf, lengthsOf, variables, dimensionIn, dimensionsOf, wordsOf, rulesOf, recordOf, wrongCategory, wrongWord, wrongVariables, unusedSet, unusedBytes, eachOnce, repeated, ruleRefusal, wrongRest, grammarRefusal, decoded, sequences, ruleOf, grammarOf}
+use Rattle.model.proofs.Tests.{no-refusal, first-of, rest-of, first-none, not-off, and-l, every-getD}
+use Rattle.model.proofs.Lists.{map-in}
+use Rattle.model.proofs.Perm.{perm-mem}
+use Rattle.model.proofs.Variables.{vars-out}
+use Rattle.model.proofs.RuleFromRecord.{Tested, field-length, field-at, daughters-length, twelve, variables-right, named-are, rule-right}
+use Rattle.model.proofs.FileTests.{passed}
+use Rattle.model.proofs.FromFile.{record-tested, dimensions-in, dimensions-four}
+use Rattle.recognizer.proofs.Lists.{sum-same, sum-first, sum-total, every-left, every-right}
+
+-- component k of sequences of these lengths
+pub sequence-at : (ls vs : List ℕ) (k : ℕ) → getD (sequences ls vs) k [] ≡ map decoded (take (getD ls k 0) (drop (sumBelow (λ j. getD ls j 0) k) vs))
+sequence-at [] vs k = refl
+sequence-at (n ∷ ls) vs zero = refl
+sequence-at (n ∷ ls) vs (suc k) =
+    sequence-at ls (drop n vs) k
+    ∙ ap (λ (l : List ℕ). map decoded (take (getD ls k 0) l))
+    (drop-drop (sumBelow (λ j. getD ls j 0) k) n vs ∙ ap (λ (i : ℕ). drop i vs) (sym (sum-first (λ j. getD (n ∷ ls) j 0) k)))
+
+-- refusal 9 of record r
+module _ (file : List ℕ) (accepted : grammarRefusal file ≡ none) (r : ℕ) (here : r < rulesOf file) where
+  abbrev e : List ℕ
+  e = recordOf file r
+
+  abbrev d : List ℕ
+  d = dimensionsOf file
+
+  no-rule-refusal : ruleRefusal file r ≡ none
+  no-rule-refusal = passed file accepted .rule r here
+
+  nothing-unused : T (allZero (unusedBytes d e))
+  nothing-unused =
+      let r₆ = refuseIf (wrongCategory d e) (Refusal.Grammar 6 r) in
+      let r₇ = refuseIf (wrongWord d e (wordsOf file)) (Refusal.Grammar 7 r) in
+      let r₈ = refuseIf (wrongVariables d e) (Refusal.Grammar 8 r) in
+      let r₉ = refuseIf (unusedSet d e) (Refusal.Grammar 9 r) in
+      let r₁₀ = refuseIf (repeated (recordOf file) r) (Refusal.Grammar 10 r) in
+      not-off (allZero (unusedBytes d e))
+      (no-refusal (unusedSet d e) (Refusal.Grammar 9 r)
+      (first-of r₉ r₁₀ (rest-of r₈ (r₉ orElse r₁₀) (rest-of r₇ (r₈ orElse r₉ orElse r₁₀) (rest-of r₆ (r₇ orElse r₈ orElse r₉ orElse r₁₀) no-rule-refusal)))))
+
+  abbrev n : ℕ
+  n = field e 1
+
+  abbrev dim : ℕ
+  dim = dimensionIn d (field e 0)
+
+  abbrev rule : Rule
+  rule = ruleOf d e
+
+  -- the variables before component k
+  abbrev before : ℕ → ℕ
+  before k = sumBelow (λ j. field e (7 + j)) k
+
+  tested : Tested (grammarOf file) e
+  tested = record-tested file accepted r here
+
+  dim-four : dim ≤ 4
+  dim-four = dimensions-four file accepted (field e 0)
+
+  unused-zero : (i k j : ℕ) → i + k ≤ 24 → T (allZero (fields e i k)) → j < k → field e (i + j) ≡ 0
+  unused-zero i k j h t l =
+      sym (eqb→eq 0 (getD (fields e i k) j 0) (every-getD (eqb 0) (fields e i k) t j (omega (arith, field-length (grammarOf file) e tested i k h))) ∙ field-at (grammarOf file) e tested i k j l)
+
+  -- a length that the rule lacks
+  length-lacking : 0 < n → (k : ℕ) → dim ≤ k → k < 4 → field e (7 + k) ≡ 0
+  length-lacking h k a b =
+      let A = fields e (2 + n) (3 - n) in
+      let B = fields e 5 2 in
+      let C = fields e (7 + dim) (4 - dim) in
+      let D = fields e (11 + variables d e) (13 - variables d e) in
+      let t : T (allZero (A ++ B ++ C ++ D)) = rw (lt-ltb 0 n h) at nothing-unused in
+      let u : T (allZero C) = every-right (eqb 0) (A ++ B) C (every-left (eqb 0) (A ++ B ++ C) D t) in
+      let z : 7 + dim + (k - dim) ≡ 7 + k = omega arith in
+      subst (λ (i : ℕ). field e i ≡ 0) z (unused-zero (7 + dim) (4 - dim) (k - dim) (omega (arith, dim-four)) u (omega arith))
+
+  length-lexical : n ≡ 0 → (k : ℕ) → k < 4 → field e (7 + k) ≡ 0
+  length-lexical h k b =
+      let t : T (allZero (fields e 2 3 ++ fields e 7 17)) = rw (le-ltb 0 n (omega arith)) at nothing-unused in
+      unused-zero 7 17 k (omega arith) (every-right (eqb 0) (fields e 2 3) (fields e 7 17) t) (omega arith)
+
+  length-at : 0 < n → (k : ℕ) → k < 4 → getD (lengthsOf d e) k 0 ≡ field e (7 + k)
+  length-at h k b = go (decLt k dim)
+    where
+      go : Dec (k < dim) → getD (lengthsOf d e) k 0 ≡ field e (7 + k)
+      go (yes l) = field-at (grammarOf file) e tested 7 dim k l
+      go (no l) =
+          List·getD-eq-default (lengthsOf d e) 0 {n = k} (omega (arith, field-length (grammarOf file) e tested 7 dim (omega (arith, dim-four))))
+          ∙ sym (length-lacking h k (omega arith) b)
+
+  before-is : 0 < n → (k : ℕ) → k ≤ 4 → sumBelow (λ j. getD (lengthsOf d e) j 0) k ≡ before k
+  before-is h k b = sum-same (λ j. getD (lengthsOf d e) j 0) (λ j. field e (7 + j)) k (λ j l. length-at h j (omega arith))
+
+  before-lexical : n ≡ 0 → (k : ℕ) → k ≤ 4 → before k ≡ 0
+  before-lexical h zero b = refl
+  before-lexical h (suc k) b = omega (arith, before-lexical h k (omega arith), length-lexical h k (omega arith))
+
+  not-lexical : 0 < n → isLexical rule ≡ false
+  not-lexical h = go (daughtersOf e) (daughters-length (grammarOf file) e tested)
+    where
+      go : (ds : List ℕ) → length ds ≡ n → _≡_ {A = Bool} (elim ds [ [] ↦ true | x ∷ xs ↦ false ]) false
+      go [] k = absurd (omega arith)
+      go (x ∷ ds) k = refl
+
+  adds-up : 0 < n → before 4 ≡ variables d e
+  adds-up h =
+      sym (before-is h 4 (omega arith)) ∙ sum-total (lengthsOf d e) 4 (omega (arith, field-length (grammarOf file) e tested 7 dim (omega (arith, dim-four)), dim-four))
+      ∙ eqb→eq (total (lengthsOf d e)) (variables d e)
+      (and-l (eqb (total (lengthsOf d e)) (variables d e)) (eachOnce d e) (variables-right (grammarOf file) e tested (dimensions-in file accepted) (not-lexical h)))
+
+  -- a record has room for 12 variables
+  pub before-twelve : before 4 ≤ 12
+  before-twelve = go (decLt 0 n)
+    where
+      go : Dec (0 < n) → before 4 ≤ 12
+      go (yes h) = omega (arith, adds-up h, twelve (grammarOf file) e tested (dimensions-in file accepted))
+      go (no h) = omega (arith, before-lexical (omega arith) 4 (omega arith))
+
+  -- component k: the part of its length behind the components before it
+  pub component-at : (k : ℕ) → k < 4 → getD (rule .components) k [] ≡ map decoded (take (field e (7 + k)) (drop (before k) (fields e 11 12)))
+  component-at k b = go (decLt 0 n)
+    where
+      go : Dec (0 < n) → getD (rule .components) k [] ≡ map decoded (take (field e (7 + k)) (drop (before k) (fields e 11 12)))
+      go (yes h) =
+          ap (λ (t : Bool). getD (if t then sequences (lengthsOf d e) (fields e 11 12) else []) k []) (lt-ltb 0 n h)
+          ∙ sequence-at (lengthsOf d e) (fields e 11 12) k
+          ∙ ap₂ (λ (a l : ℕ). map decoded (take l (drop a (fields e 11 12)))) (before-is h k (omega arith)) (length-at h k b)
+      go (no h) =
+          ap (λ (t : Bool). getD (if t then sequences (lengthsOf d e) (fields e 11 12) else []) k []) (le-ltb 0 n (omega arith))
+          ∙ sym (ap (λ (l : ℕ). map decoded (take l (drop (before k) (fields e 11 12)))) (length-lexical (omega arith) k b))
+
+  -- a variable of the rule names one of its daughters
+  pub variable-daughter : (v : ℕ) → v < before 4 → field e (11 + v) / 4 < n
+  variable-daughter v b = go (decLt 0 n)
+    where
+      in-list : (l : List ℕ) (k : ℕ) → k < length l → List·Memᴰ (getD l k 0) l
+      in-list [] k c = absurd (omega arith)
+      in-list (x ∷ l) zero c = List·Memᴰ·head refl
+      in-list (x ∷ l) (suc k) c = List·Memᴰ·tail (in-list l k (omega arith))
+
+      named : (h : 0 < n) → List·Memᴰ (decoded (field e (11 + v))) (map decoded (fields e 11 (variables d e)))
+      named h =
+          let l = fields e 11 (variables d e) in
+          let c : v < variables d e = omega (arith, adds-up h) in
+          subst (λ (x : ℕ). List·Memᴰ (decoded x) (map decoded l)) (field-at (grammarOf file) e tested 11 (variables d e) v c)
+          (map-in decoded (in-list l v (omega (arith, field-length (grammarOf file) e tested 11 (variables d e) (omega (arith, twelve (grammarOf file) e tested (dimensions-in file accepted)))))))
+
+      go : Dec (0 < n) → field e (11 + v) / 4 < n
+      go (yes h) =
+          let w = dimensions-in file accepted in
+          let m = perm-mem (rule-right (grammarOf file) e tested w .complete (not-lexical h))
+          (subst (λ (l : List Variable). List·Memᴰ (decoded (field e (11 + v))) l) (sym (named-are (grammarOf file) e tested w (not-lexical h))) (named h)) in
+          let p = vars-out (grammarOf file) 0 (daughtersOf e) (decoded (field e (11 + v))) m in
+          omega (arith, p .daughter-is, p .in-range, daughters-length (grammarOf file) e tested)
+      go (no h) = absurd (omega (arith, before-lexical (omega arith) 4 (omega arith)))

@@ -1,0 +1,74 @@
+-- `recognizer::trace::run_trace` meets its contract.
+-- Assumes nothing.
+use mathlib.Core.Path.{sym, _∙_}
+use native.Mathlib.Omega.{arith}
+use lib.ListN.{length}
+use borrow.Author.Needs.{needs}
+use Rattle.model.specs.declared.Refusal.{Refusal}
+use Rattle.model.proofs.Tests.{none-some}
+use Rattle.model.proofs.Verdicts.{refused}
+use Rattle.recognizer.proofs.Checked.{start-small, trace-long, trace-empty, begin-runs, begin-verdict, begin-taken}
+use Rattle.recognizer.proofs.trace.run_trace.Statement.{statement}
+use Rattle.recognizer.proofs.trace.run_trace.Tie as tie
+
+returns : tie.Need-returns
+returns c =
+    let a = c .before .before .before .before .args in
+    let p = c .before .before .before .before .pre in
+    let e = trace-long (a .file .now) (a .sentence .now) (a .trace .now) (p .0) (c .if1 .taken) in
+    (refused _ (length (a .trace .now)) (Refusal.Analysis 12 0) e, λ z. none-some (sym e ∙ z))
+
+returns-2 : tie.Need-returns-2
+returns-2 c =
+    let a = c .before .before .before .before .before .args in
+    let p = c .before .before .before .before .before .pre in
+    let e = trace-empty (a .file .now) (a .sentence .now) (a .trace .now) (p .0) (c .if2 .taken) in
+    (refused _ (length (a .trace .now)) (Refusal.Analysis 17 0) e, λ z. none-some (sym e ∙ z))
+
+compile-requires : tie.Need-compile-requires
+compile-requires c κs = search needs
+
+start-requires : tie.Need-start-requires
+start-requires c κs = search needs
+
+first-row-requires : tie.Need-first-row-requires
+first-row-requires c κs =
+    let a = c .before .before .before .before .before .before .before .args in
+    let p = c .before .before .before .before .before .before .before .pre in
+    omega (arith, c .start .ensures, start-small (a .file .now) (a .sentence .now) (a .trace .now) (p .0))
+
+run-requires : tie.Need-run-requires
+run-requires c κs =
+    let a = c .before .before .before .before .before .before .before .before .before .before .before .args in
+    let p = c .before .before .before .before .before .before .before .before .before .before .before .pre in
+    let q = c .before .before .before .first-row in (
+      p .0,
+      c .before .before .before .before .before .compile .ensures (p .0),
+      q .ensures .0,
+      p .2,
+      omega arith,
+      p .1,
+      begin-runs (a .file .now) (a .sentence .now) (a .trace .now) (p .0) (c .before .before .before .before .before .before .before .if1 .left) (c .before .before .before .before .before .before .if2 .left) (q .result) (c .before .before .before .before .start .result .0) (c .before .before .before .before .start .ensures) (q .ensures .1),
+    )
+
+returns-3 : tie.Need-returns-3
+returns-3 c =
+    let a = c .before .before .before .before .before .before .before .before .before .before .before .before .args in
+    let p = c .before .before .before .before .before .before .before .before .before .before .before .before .pre in
+    let q = c .before .before .before .before .first-row in
+    let first = c .before .before .before .before .before .start in (
+      begin-verdict (a .file .now) (a .sentence .now) (a .trace .now) (p .0) (c .before .before .before .before .before .before .before .before .if1 .left) (c .before .before .before .before .before .before .before .if2 .left) (q .result) (first .result .0) (first .ensures) (q .ensures .1) (c .run .result) (c .run .ensures .0),
+      begin-taken (a .file .now) (a .sentence .now) (a .trace .now) (p .0) (c .before .before .before .before .before .before .before .before .if1 .left) (c .before .before .before .before .before .before .before .if2 .left) (q .result) (first .result .0) (first .ensures) (q .ensures .1) (a .taken .now) (c .run .last .1 .1 .1 .1 .1 .1 .1 .1 .1 .1 .1 .0) (p .2) (c .run .ensures .1),
+    )
+
+pub run-trace-spec : {M : Type 1} → statement M
+run-trace-spec =
+    tie.close
+    (tie.spec
+    returns
+    returns-2
+    compile-requires
+    start-requires
+    first-row-requires
+    run-requires
+    returns-3)

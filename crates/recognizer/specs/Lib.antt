@@ -1,0 +1,4 @@
+pub mod Row
+pub mod Table
+pub mod Expand
+pub mod Steps

@@ -1,0 +1,90 @@
+// One step: a rule number applied to the front of the row.
+ghost use mathlib.Core.Option.{none};
+ghost use mathlib.Core.Path.{_≡_};
+ghost use Prim.Native.Nat.{_+_, _-_, _≤_};
+ghost use lib.ListN.{length, drop};
+ghost use Rattle.model.specs.GrammarFile.{grammarRefusal, grammarOf};
+ghost use Rattle.model.specs.Rows.{stepRow};
+ghost use Rattle.model.specs.Step.{wordFits};
+ghost use Rattle.recognizer.specs.Row.{stateOf, Held};
+ghost use Rattle.recognizer.specs.Steps.{scanAnswer, Stands, Says};
+ghost use Rattle.recognizer.specs.Table.{Compiled};
+use crate::row::category as slot_category;
+use crate::row::expand;
+use crate::rules::category;
+use crate::rules::daughters;
+use crate::rules::place_of;
+use crate::rules::word;
+use grammar::rules;
+use model::RuleNumber;
+use model::Word;
+
+// What a step does: it halts by refusal 13, 14, 15 or 16; or its queue is longer than the steps left; or the head of the row goes and so many words
+// are read; or the next row, of so many slots, is written and so many predictions are made.
+pub enum Stepped {
+    Halts(u8),
+    Long,
+    Scanned(usize),
+    Expanded(usize, u16),
+}
+
+// Whether a rule's word takes a place of the sentence.
+pub fn fits(word: Word, place: u16) -> bool
+    ensures { λ b. ⌜ b ≡ wordFits (word .0) place ⌝ }
+{
+    word.0 == place
+}
+
+// A lexical step: the word must be the next one, and the empty word takes none.
+pub fn scan(word: Word, sentence: &[u16], read: usize) -> Stepped
+    ensures { λ s. ⌜ s ≡ scanAnswer (word .0) (now (sentence .entry)) read ⌝ }
+{
+    if word.0 == 65535 {
+        return Stepped::Scanned(read);
+    }
+    if sentence.len() <= read {
+        return Stepped::Halts(16);
+    }
+    if fits(word, sentence[read]) {
+        return Stepped::Scanned(read + 1);
+    }
+    Stepped::Halts(16)
+}
+
+// The step of rule r from the row q[from..to], with `left` steps after it. The next row is written to out.
+pub fn step(
+    file: &[u8],
+    t: &[u16; 8192],
+    sentence: &[u16],
+    read: usize,
+    q: &[u16; 384],
+    from: usize,
+    to: usize,
+    made: u16,
+    pending: usize,
+    left: usize,
+    r: RuleNumber,
+    out: &mut [u16; 384],
+) -> Stepped
+    requires { ⌜ (grammarRefusal (now file) ≡ none) × Compiled (grammarOf (now file)) (now t) × Held (now q) from to × (length (now out) ≡ 384) × (read ≤ length (now sentence)) × Stands (grammarOf (now file)) (stateOf (now q) from to made pending (drop read (now sentence))) left ⌝ }
+    ensures { λ s. ⌜ (length (now (out .exit)) ≡ 384) × Says (stepRow (grammarOf (now (file .entry))) (stateOf (now (q .entry)) from to made pending (drop read (now (sentence .entry)))) (r .0)) left from to (length (now (sentence .entry))) (λ n. stateOf (now (q .entry)) (from + 1) to made (pending - 1) (drop n (now (sentence .entry)))) (λ n d. stateOf (now (out .exit)) 0 n (made + d) (pending - 1 + d) (drop read (now (sentence .entry)))) s ⌝ }
+{
+    if rules(file) <= r.0 {
+        return Stepped::Halts(13);
+    }
+    if to <= from {
+        return Stepped::Halts(14);
+    }
+    let at = place_of(r);
+    if category(t, at).0 != slot_category(q[from]).0 {
+        return Stepped::Halts(15);
+    }
+    let d = daughters(t, at);
+    if d == 0 {
+        return scan(word(t, at), sentence, read);
+    }
+    if left < pending - 1 + d as usize {
+        return Stepped::Long;
+    }
+    Stepped::Expanded(expand(t, q, from, to, out, at, made), d)
+}

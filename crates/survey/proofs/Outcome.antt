@@ -1,0 +1,56 @@
+-- The outcome of the survey: refused for the grammar, refused for room, or with the figures.
+-- Assumes nothing.
+use mathlib.Core.Path.{_≡_, refl, sym, ap, ap₂, _∙_}
+use mathlib.Core.Option.{Option, none, some}
+use mathlib.Core.List.{List, [], _++_}
+use Prim.Native.Nat.{ℕ, _≤_}
+use native.Mathlib.Omega.{arith}
+use borrow.Author.Tests.{ltb-false}
+use lib.Dec.{ltb}
+use lib.ListN.{length, drop}
+use Rattle.model.specs.declared.Refusal.{Refusal}
+use Rattle.model.specs.declared.Verdict.{Verdict}
+use Rattle.model.specs.Base.{_orElse_}
+use Rattle.model.specs.Verdict.{verdict}
+use Rattle.model.specs.GrammarFile.{grammarRefusal, grammarOf, rulesOf, categoriesOf}
+use Rattle.model.specs.Survey.{Surveyed, survey}
+use Rattle.model.specs.Calls.{written, roomRefusal, surveyRefusal, SurveyOutcome}
+use Rattle.model.proofs.Tests.{none-some, no-refusal}
+use Rattle.model.proofs.FromFile.{categories-in, dimensions-length}
+use Rattle.model.proofs.SurveyTrees.{file-surveyed}
+use Rattle.model.proofs.Verdicts.{met, passed}
+
+module _ (file out : List ℕ) where
+  -- a refusal that is met leaves the output as it was
+  refused : (x : Refusal) (v : Verdict) → surveyRefusal file out ≡ some x → v ≡ Verdict.Refused x → SurveyOutcome file out v out
+  refused x v e f =
+      record {
+        figures = [];
+        figures-right = λ n. none-some (sym e ∙ n);
+        verdict-is = f ∙ sym (ap (λ (o : Option Refusal). verdict o (categoriesOf file)) e);
+        output-is = sym (ap (λ (o : Option Refusal). written o [] out) e);
+      }
+
+  pub refused-grammar : (v : Verdict) → v ≡ verdict (grammarRefusal file) (rulesOf file) → {x : Refusal} → v ≡ Verdict.Refused x → SurveyOutcome file out v out
+  refused-grammar v e {x} f = refused x v (ap (λ (o : Option Refusal). o orElse roomRefusal out) (met (grammarRefusal file) (rulesOf file) v e f)) f
+
+  pub refused-room : grammarRefusal file ≡ none → (v : Verdict) → v ≡ verdict (roomRefusal out) 0 → {x : Refusal} → v ≡ Verdict.Refused x → SurveyOutcome file out v out
+  refused-room a v e {x} f = refused x v (ap (λ (o : Option Refusal). o orElse roomRefusal out) a ∙ met (roomRefusal out) 0 v e f) f
+
+  pub room-long : roomRefusal out ≡ none → 96 ≤ length out
+  room-long e = ltb-false (length out) 96 (no-refusal (ltb (length out) 96) (Refusal.Desk 23 0) e)
+
+  pub surveyed-out : grammarRefusal file ≡ none → roomRefusal out ≡ none → (n : ℕ) (after : List ℕ) → n ≡ categoriesOf file → after ≡ survey (grammarOf file) ++ drop n out
+      → SurveyOutcome file out (Verdict.Accepted n) after
+  surveyed-out a r n after e f =
+      let s = file-surveyed file a in
+      let none-met : surveyRefusal file out ≡ none = ap (λ (o : Option Refusal). o orElse roomRefusal out) a ∙ r in
+      record {
+        figures = survey (grammarOf file);
+        figures-right = λ m. s;
+        verdict-is = ap Verdict.Accepted e ∙ sym (ap (λ (o : Option Refusal). verdict o (categoriesOf file)) none-met);
+        output-is = f ∙ ap (λ (k : ℕ). survey (grammarOf file) ++ drop k out) (e ∙ long s) ∙ sym (ap (λ (o : Option Refusal). written o (survey (grammarOf file)) out) none-met);
+      }
+    where
+      long : Surveyed (grammarOf file) (survey (grammarOf file)) → categoriesOf file ≡ length (survey (grammarOf file))
+      long s = sym (s .long ∙ dimensions-length file a)
