@@ -27,6 +27,12 @@ zero-first a b t = every-append (eqb 0) a b ∙ ap (λ (x : Bool). x && allZero 
 pub zero-rest : (a b : List ℕ) → allZero a ≡ true → allZero (a ++ b) ≡ allZero b
 zero-rest a b t = every-append (eqb 0) a b ∙ ap (λ (x : Bool). x && allZero b) t
 
+-- the bytes from place `from` + k on, up to `all` places, of which k are used
+pub zero-part : (e : List ℕ) (from all : ℕ) {n m k : ℕ} {r : Bool} → r ≡ allZero (fields e (from + n) m) → m ≡ all - n → n ≡ k
+    → allZero (fields e (from + k) (all - k)) ≡ r
+zero-part e from all {n} {m} {k} is left used =
+    sym (is ∙ ap (λ (x : ℕ). allZero (fields e (from + n) x)) left ∙ ap (λ (x : ℕ). allZero (fields e (from + x) (all - x))) used)
+
 module _ (dimensions e : List ℕ) where
   -- refusal 6
   pub category-wrong : leb (length dimensions) (field e 0) ≡ true → wrongCategory dimensions e ≡ true
