@@ -1,14 +1,14 @@
 -- What the reader's tests say of a record of a file that it accepts: 24 bytes, at most 3 daughters, and lengths that add up to at most 12.
 -- Assumes nothing.
-use mathlib.Core.Path.{_≡_, sym, ap, subst, _∙_}
-use mathlib.Core.Bool.{Bool, true, false, _&&_, _||_, not}
+use mathlib.Core.Path.{_≡_, subst}
+use mathlib.Core.Bool.{Bool, _&&_, _||_}
 use mathlib.Core.Option.{Option, none}
 use mathlib.Core.List.{List, [], _∷_, map}
-use Prim.Native.Nat.{ℕ, _+_, _-_, _*_, _/_, _%_, _<_, _≤_}
+use Prim.Native.Nat.{ℕ, _+_, _-_, _*_, _%_, _<_, _≤_}
 use native.Mathlib.Omega.{arith}
-use borrow.Author.Tests.{leb-false, ltb-false, lt-ltb}
-use lib.Dec.{T, leb, ltb, eqb, eqb→eq}
-use lib.ListN.{length, getD, length-take, length-drop}
+use borrow.Author.Tests.{ltb-false, lt-ltb}
+use lib.Dec.{leb, ltb, eqb, eqb→eq}
+use lib.ListN.{length, length-take, length-drop}
 use Rattle.model.specs.declared.Refusal.{Refusal}
 use Rattle.model.specs.Base.{_orElse_, every, anyBelow, total}
 use Rattle.model.specs.Verdict.{refuseIf}

@@ -10,7 +10,7 @@ use lib.ListN.{length, getD, take, drop, getElem?}
 use lib.Seq.{take-take, take-nil, drop-drop}
 use Rattle.model.specs.Base.{numbersFrom, total}
 use Rattle.model.specs.Grammar.{Variable, Rule, ruleAt, dimension}
-use Rattle.model.specs.GrammarFile.{fields, field, dimensionIn, dimensionsOf, recordOf, rulesOf, categoriesOf, lengthsOf, decoded, sequences, ruleOf, grammarOf, grammarRefusal}
+use Rattle.model.specs.GrammarFile.{fields, field, dimensionsOf, recordOf, rulesOf, categoriesOf, lengthsOf, decoded, sequences, ruleOf, grammarOf, grammarRefusal}
 use Rattle.grammar.proofs.Parts.{part-full, part-at}
 use Rattle.model.proofs.FromFile.{dimensions-four}
 use Rattle.grammar.proofs.Accepted.{file-length, categories-few, record-length, daughters-few, lengths-few}
