@@ -3,9 +3,8 @@
 use mathlib.Core.Path.{_≡_, ap}
 use Prim.Native.Nat.{ℕ, _≤_, _<_, _-_, _+_, _*_}
 use native.Mathlib.Nat.{mul-le-mul}
-use lib.ListN.{length, getD, drop}
+use lib.ListN.{length, getD, drop, length-take}
 use Rattle.model.specs.GrammarFile.{fields, weighted}
-use Rattle.grammar.proofs.Parts.{part-length}
 use Rattle.grammar.proofs.Walks.{weighted-more, weighted-end}
 use borrow.Author.Needs.{needs}
 use native.Mathlib.Omega.{arith}
@@ -26,8 +25,7 @@ fields-requires c κs = search needs
 
 loop-holds : tie.Need-loop-holds Inv-loop μ-loop
 loop-holds c =
-    let l = part-length (c .before .before .args .block .now) 0 508 in
-    let n = ap length (c .fields .ensures) in
+    let n = simp length-take at (ap length (c .fields .ensures)) in
     (omega arith, omega arith, omega arith, omega arith)
 
 cast-sum : tie.Need-cast-sum Inv-loop μ-loop

@@ -1,0 +1,100 @@
+#!/usr/bin/env python3
+"""Writes the grammar files of crates/grammar_demo/data: the copy grammar, the pair grammar, and one damaged file for each refusal 1 to 10.
+
+Usage: tools/demo_grammars.py (at the repository's root)
+"""
+import os
+
+
+def record(category, daughters=(), word=0, components=()):
+    """The 24 bytes of a rule. A variable is (daughter position, component)."""
+    lengths = [len(c) for c in components]
+    variables = [4 * j + k for c in components for j, k in c]
+    e = [category, len(daughters)] + list(daughters) + [0] * (3 - len(daughters))
+    e += [word % 256, word // 256]
+    e += lengths + [0] * (4 - len(lengths))
+    e += variables + [0] * (12 - len(variables))
+    return e + [0]
+
+
+def check(block):
+    """The block with its check over bytes 0 to 507."""
+    total = sum((i + 1) * x for i, x in enumerate(block[:508]))
+    return block[:508] + [total >> 8 * i & 255 for i in range(4)]
+
+
+def blocks(dimensions, start, words, records):
+    """The blocks of the file."""
+    heading = [0, 0, 1, len(dimensions), start, words % 256, words // 256, len(records) % 256, len(records) // 256]
+    heading += [0] * 7 + list(dimensions)
+    result = [heading]
+    for k in range(0, len(records), 21):
+        held = records[k:k + 21]
+        number = 1 + k // 21
+        result.append([number % 256, number // 256, 2, len(held)] + sum(held, []))
+    return [check(b + [0] * (512 - len(b))) for b in result]
+
+
+S, P, A, B = 0, 1, 2, 3
+COPY = [
+    record(S, [P], components=[[(0, 0), (0, 1)]]),
+    record(P, [A, P, A], components=[[(0, 0), (1, 0)], [(2, 0), (1, 1)]]),
+    record(P, [B, P, B], components=[[(0, 0), (1, 0)], [(2, 0), (1, 1)]]),
+    record(P, [A, A], components=[[(0, 0)], [(1, 0)]]),
+    record(P, [B, B], components=[[(0, 0)], [(1, 0)]]),
+    record(A, word=0),
+    record(B, word=1),
+]
+PAIR = [
+    record(S, [S, S], components=[[(0, 0), (1, 0)]]),
+    record(S, word=0),
+]
+
+
+def copy(records=COPY):
+    return blocks([1, 2, 1, 1], S, 2, records)
+
+
+def changed(rule, byte, value):
+    """The copy grammar with one byte of one record changed, and the check right again."""
+    records = [list(e) for e in COPY]
+    records[rule][byte] = value
+    return copy(records)
+
+
+def set_byte(block, byte, value):
+    """The copy grammar with one byte of one block changed, and the check right again."""
+    file = copy()
+    file[block][byte] = value
+    file[block] = check(file[block])
+    return file
+
+
+def wrong_check():
+    file = copy()
+    file[1][20] += 1
+    return file
+
+
+FILES = {
+    "copy": copy(),
+    "pair": blocks([1], S, 1, PAIR),
+    "wrong_length": copy()[:1] + [copy()[1][:511]],
+    "wrong_check": wrong_check(),
+    "wrong_kind": set_byte(1, 2, 1),
+    "wrong_start": set_byte(0, 4, P),
+    "wrong_blocks": copy()[:1],
+    "wrong_count": set_byte(1, 3, 8),
+    "wrong_daughter": changed(1, 3, 4),
+    "wrong_word": changed(6, 5, 2),
+    "variable_twice": changed(3, 12, 0),
+    "unused_byte": changed(4, 23, 1),
+    "rest_of_block": set_byte(1, 507, 1),
+    "repeated_rule": copy(COPY + [COPY[5]]),
+}
+
+folder = "crates/grammar_demo/data"
+os.makedirs(folder, exist_ok=True)
+for name, file in FILES.items():
+    with open(os.path.join(folder, name), "wb") as f:
+        f.write(bytes(sum(file, [])))
