@@ -3,7 +3,7 @@
 use mathlib.Core.Path.{_≡_, refl, sym, ap, ap₂, _∙_}
 use mathlib.Core.Bool.{Bool, true, false}
 use mathlib.Core.List.{List, [], _∷_, _++_, map, map-map}
-use Prim.Native.Nat.{ℕ, suc, _+_, _-_, _*_, _/_, _%_, _<_, _≤_}
+use Prim.Native.Nat.{ℕ, suc, _+_, _-_, _<_, _≤_}
 use native.Mathlib.Omega.{arith}
 use borrow.Author.Tests.{eq-eqb, ne-eqb}
 use lib.Dec.{eqb}
@@ -14,23 +14,23 @@ use Rattle.model.specs.Grammar.{Variable, Rule}
 use Rattle.model.specs.Rows.{Slot, varSlot, block, expandSlot, expandRow}
 use Rattle.model.proofs.Lists.{map-append}
 use Rattle.model.proofs.RowsCode.{each-take, each-fits}
-use Rattle.recognizer.specs.Row.{unpacked, rowOf}
+use Rattle.recognizer.specs.Row.{unpacked, raised, rowOf}
 use Rattle.recognizer.specs.Table.{begins, slots, CellsFit, RuleCells}
 use Rattle.recognizer.specs.Expand.{blockAt, nextSlots, nextRow}
-use Rattle.recognizer.proofs.Packing.{unpacked-raised}
+use Rattle.recognizer.proofs.Packing.{unpacked-raised, component-four}
 
 pub block-length : (t : List ℕ) (at made k : ℕ) → CellsFit t at → k < 4 → length (blockAt t at made k) ≡ begins t at (k + 1) - begins t at k
 block-length t at made k fit h =
-    length-map (slots t at k) (λ x. made * 256 + x)
+    length-map (slots t at k) (raised made)
     ∙ length-slice (begins t at k) (begins t at (k + 1)) t (omega (arith, fit .places (k + 1) (omega arith), fit .room, fit .long))
 
 -- what takes the place of one slot
 module _ (t : List ℕ) (at made front x : ℕ) where
-  pub next-front : x / 256 ≡ front → nextSlots t at made front x ≡ blockAt t at made (x % 4)
-  next-front e = rw (eq-eqb (x / 256) front e)
+  pub next-front : unpacked x .owner ≡ front → nextSlots t at made front x ≡ blockAt t at made (unpacked x .component)
+  next-front e = rw (eq-eqb (unpacked x .owner) front e)
 
-  pub next-other : (x / 256 ≡ front → ⊥) → nextSlots t at made front x ≡ x ∷ []
-  next-other e = rw (ne-eqb (x / 256) front e)
+  pub next-other : (unpacked x .owner ≡ front → ⊥) → nextSlots t at made front x ≡ x ∷ []
+  next-other e = rw (ne-eqb (unpacked x .owner) front e)
 
 -- a loop over the row q[from..to] that has come to place i
 module _ (f : ℕ → List ℕ) (q : List ℕ) (from to i : ℕ) (within : to ≤ length q) where
@@ -82,7 +82,7 @@ raise-variable rule made v =
 module _ (rule : Rule) (t : List ℕ) (at made : ℕ) (cells : RuleCells rule t at) where
   block-is : (k : ℕ) → k < 4 → map unpacked (blockAt t at made k) ≡ block rule made k
   block-is k h =
-      map-map unpacked (λ x. made * 256 + x) (slots t at k)
+      map-map unpacked (raised made) (slots t at k)
       ∙ ap (λ (f : ℕ → Slot). map f (slots t at k)) (λ i x. unpacked-raised made x i)
       ∙ sym (map-map (raise made) unpacked (slots t at k))
       ∙ ap (map (raise made)) (cells .components k h)
@@ -90,10 +90,10 @@ module _ (rule : Rule) (t : List ℕ) (at made : ℕ) (cells : RuleCells rule t 
       ∙ ap (λ (f : Variable → Slot). map f (getD (rule .components) k [])) (λ i v. raise-variable rule made v i)
 
   slot-becomes : (front x : ℕ) → map unpacked (nextSlots t at made front x) ≡ expandSlot rule made front (unpacked x)
-  slot-becomes front x = go (eqb (x / 256) front)
+  slot-becomes front x = go (eqb (unpacked x .owner) front)
     where
-      go : (b : Bool) → map unpacked (if b then blockAt t at made (x % 4) else x ∷ []) ≡ (if b then block rule made (x % 4) else unpacked x ∷ [])
-      go true = block-is (x % 4) (omega arith)
+      go : (b : Bool) → map unpacked (if b then blockAt t at made (unpacked x .component) else x ∷ []) ≡ (if b then block rule made (unpacked x .component) else unpacked x ∷ [])
+      go true = block-is (unpacked x .component) (component-four x)
       go false = refl
 
   row-becomes : (front : ℕ) (row : List ℕ) → map unpacked (each (nextSlots t at made front) row) ≡ expandRow rule made front (map unpacked row)
@@ -103,9 +103,9 @@ module _ (rule : Rule) (t : List ℕ) (at made : ℕ) (cells : RuleCells rule t 
       ∙ ap₂ (λ (a b : List Slot). a ++ b) (slot-becomes front x) (row-becomes front row)
 
   -- what `expand` writes
-  pub expanded : (q : List ℕ) (from to : ℕ) → map unpacked (nextRow t at made q from to) ≡ expandRow rule made (getD q from 0 / 256) (rowOf q from to)
-  expanded q from to = row-becomes (getD q from 0 / 256) (slice from to q)
+  pub expanded : (q : List ℕ) (from to : ℕ) → map unpacked (nextRow t at made q from to) ≡ expandRow rule made (unpacked (getD q from 0) .owner) (rowOf q from to)
+  expanded q from to = row-becomes (unpacked (getD q from 0) .owner) (slice from to q)
 
   -- and it is as long
-  pub expanded-length : (q : List ℕ) (from to : ℕ) → length (nextRow t at made q from to) ≡ length (expandRow rule made (getD q from 0 / 256) (rowOf q from to))
+  pub expanded-length : (q : List ℕ) (from to : ℕ) → length (nextRow t at made q from to) ≡ length (expandRow rule made (unpacked (getD q from 0) .owner) (rowOf q from to))
   expanded-length q from to = sym (length-map (nextRow t at made q from to) unpacked) ∙ ap length (expanded q from to)

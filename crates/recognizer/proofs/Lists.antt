@@ -81,9 +81,8 @@ slice-more (suc f) (suc t) [] h k = absurd (omega arith)
 slice-more (suc f) (suc t) (x ∷ l) h k = slice-more f t l (omega arith) (omega arith)
 
 -- f of each element of a part of t, written behind l: one store further
-pub written-more : (f : ℕ → ℕ) (l out t : List ℕ) (a i m : ℕ) → take m out ≡ l ++ map f (slice a i t) → m < length out → a ≤ i → i < length t
-    → take (suc m) (set out m (f (getD t i 0))) ≡ l ++ map f (slice a (suc i) t)
-written-more f l out t a i m h n b c =
-    let x = f (getD t i 0) in
-    take-suc-set out m x n ∙ ap (λ (o : List ℕ). o ++ (x ∷ [])) h ∙ append-assoc l (map f (slice a i t)) (x ∷ [])
+pub written-more : (f : ℕ → ℕ) (l out t : List ℕ) (a i m x : ℕ) → x ≡ f (getD t i 0) → take m out ≡ l ++ map f (slice a i t) → m < length out → a ≤ i → i < length t
+    → take (suc m) (set out m x) ≡ l ++ map f (slice a (suc i) t)
+written-more f l out t a i m x e h n b c =
+    take-suc-set out m x n ∙ ap₂ (λ (o : List ℕ) (y : ℕ). o ++ (y ∷ [])) h e ∙ append-assoc l (map f (slice a i t)) (f (getD t i 0) ∷ [])
     ∙ sym (ap (λ (s : List ℕ). l ++ s) (ap (map f) (slice-more a i t b c) ∙ map-append f (slice a i t) (getD t i 0 ∷ [])))

@@ -1,11 +1,11 @@
 -- A slot as a number and back.
 -- Assumes nothing.
 use mathlib.Core.Path.{_≡_}
-use Prim.Native.Nat.{ℕ, _+_, _*_, _/_, _%_}
+use Prim.Native.Nat.{ℕ, _+_, _*_, _/_, _%_, _<_}
 use native.Mathlib.Omega.{arith}
 use Rattle.model.specs.Rows.{Slot, packed}
 use Rattle.model.proofs.RowsCode.{Fits, packed-owner, packed-cat, packed-comp}
-use Rattle.recognizer.specs.Row.{unpacked}
+use Rattle.recognizer.specs.Row.{unpacked, raised}
 
 pub packed-unpacked : (x : ℕ) → packed (unpacked x) ≡ x
 packed-unpacked x = omega arith
@@ -19,9 +19,12 @@ unpacked-packed s h =
     λ i. record { owner = a i; category = b i; component = c i }
 
 -- the slot with other daughters before it
-pub unpacked-raised : (made x : ℕ) → unpacked (made * 256 + x) ≡ record { owner = made + unpacked x .owner; category = unpacked x .category; component = unpacked x .component }
+pub unpacked-raised : (made x : ℕ) → unpacked (raised made x) ≡ record { owner = made + unpacked x .owner; category = unpacked x .category; component = unpacked x .component }
 unpacked-raised made x =
     let a : (made * 256 + x) / 256 ≡ made + x / 256 = omega arith in
     let b : (made * 256 + x) / 4 % 64 ≡ x / 4 % 64 = omega arith in
     let c : (made * 256 + x) % 4 ≡ x % 4 = omega arith in
     λ i. record { owner = a i; category = b i; component = c i }
+
+pub component-four : (x : ℕ) → unpacked x .component < 4
+component-four x = omega arith

@@ -20,7 +20,8 @@ use Rattle.model.specs.Rows.{RowState, RowOutcome, halts, moves, stepRow, steps
 use Rattle.model.specs.WellFormed.{Right}
 use Rattle.model.proofs.RowsNamed.{frontOwner}
 use Rattle.model.proofs.RowsBounds.{reached-step, made-bound}
-use Rattle.recognizer.specs.Steps.{Stands, Goes, Runs, takenRow}
+use Rattle.recognizer.specs.Steps.{Stands, Goes}
+use Rattle.recognizer.specs.Traces.{Runs, takenRow}
 
 module _ (g : Grammar) (sentence trace : List ℕ) (k : ℕ) (S : RowState) where
   abbrev refusal : Option Refusal

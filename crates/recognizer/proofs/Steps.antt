@@ -4,7 +4,7 @@ use mathlib.Core.Path.{_≡_, refl, sym, ap, ap₂, subst, _∙_}
 use mathlib.Core.Bool.{Bool, true, false}
 use mathlib.Core.Option.{Option, none, some}
 use mathlib.Core.List.{List, [], _∷_, map}
-use Prim.Native.Nat.{ℕ, zero, suc, _+_, _-_, _*_, _/_, _%_, _<_, _≤_}
+use Prim.Native.Nat.{ℕ, zero, suc, _+_, _-_, _*_, _<_, _≤_}
 use native.Mathlib.Omega.{arith}
 use native.Mathlib.Numerals.{add-one}
 use borrow.Author.Tests.{ltb-true, ltb-false, ne-eqb}
@@ -123,13 +123,13 @@ module _ (file t q : List ℕ) (from to made pending left r : ℕ) (words : List
       head : rowOf q from to ≡ unpacked x ∷ rowOf q (from + 1) to
       head = row-head q from to held fronted
 
-      pub wrong-category : (getD t (32 * r + 7) 0 ≡ x / 4 % 64 → ⊥) → stepRow g S r ≡ halts 15
+      pub wrong-category : (getD t (32 * r + 7) 0 ≡ unpacked x .category → ⊥) → stepRow g S r ≡ halts 15
       wrong-category h =
           ap₂ (λ (o : Option Rule) (l : List Slot). applyRow o l made pending words) known head
-          ∙ ap (λ (b : Bool). if b then (if isLexical rule then scanRow (rule .word) (rowOf q (from + 1) to) made (pending - 1) words else moves (predictRow rule (x / 256) (unpacked x ∷ rowOf q (from + 1) to) made pending words)) else halts 15)
-          (ne-eqb (rule .category) (x / 4 % 64) (λ e. h (cells .category ∙ e)))
+          ∙ ap (λ (b : Bool). if b then (if isLexical rule then scanRow (rule .word) (rowOf q (from + 1) to) made (pending - 1) words else moves (predictRow rule (unpacked x .owner) (unpacked x ∷ rowOf q (from + 1) to) made pending words)) else halts 15)
+          (ne-eqb (rule .category) (unpacked x .category) (λ e. h (cells .category ∙ e)))
 
-      module _ (category : getD t (32 * r + 7) 0 ≡ x / 4 % 64) where
+      module _ (category : getD t (32 * r + 7) 0 ≡ unpacked x .category) where
         abbrev d : ℕ
         d = getD t (32 * r) 0
 
@@ -139,12 +139,12 @@ module _ (file t q : List ℕ) (from to made pending left r : ℕ) (words : List
             ∙ ap (λ (w : ℕ). scanRow w (rowOf q (from + 1) to) made (pending - 1) words) (sym (cells .word))
 
         abbrev next : RowState
-        next = record { row = expandRow rule made (x / 256) (rowOf q from to); made = made + d; pending = pending - 1 + d; words = words }
+        next = record { row = expandRow rule made (unpacked x .owner) (rowOf q from to); made = made + d; pending = pending - 1 + d; words = words }
 
         predicts : 0 < d → stepRow g S r ≡ moves next
         predicts h =
             step-predicts g S r rule (unpacked x) (rowOf q (from + 1) to) known head (sym (cells .category) ∙ category) (lexical-some rule (omega (arith, cells .daughters)))
-            ∙ ap₂ (λ (l : List Slot) (n : ℕ). moves (record { row = expandRow rule made (x / 256) l; made = made + n; pending = pending - 1 + n; words = words })) (sym head) (sym (cells .daughters))
+            ∙ ap₂ (λ (l : List Slot) (n : ℕ). moves (record { row = expandRow rule made (unpacked x .owner) l; made = made + n; pending = pending - 1 + n; words = words })) (sym head) (sym (cells .daughters))
 
         pub too-long : 0 < d → left < pending - 1 + d → (s : RowState) × (stepRow g S r ≡ moves s) × (left < s .pending)
         too-long h l = (next, predicts h, l)

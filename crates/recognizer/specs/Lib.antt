@@ -2,3 +2,4 @@ pub mod Row
 pub mod Table
 pub mod Expand
 pub mod Steps
+pub mod Traces

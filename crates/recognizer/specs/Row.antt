@@ -2,7 +2,7 @@
 -- Assumes nothing.
 use mathlib.Core.Path.{_≡_}
 use mathlib.Core.List.{List, map}
-use Prim.Native.Nat.{ℕ, _/_, _%_, _≤_}
+use Prim.Native.Nat.{ℕ, _+_, _*_, _/_, _%_, _≤_}
 use lib.ListN.{length}
 use lib.Seq.{slice}
 use Rattle.model.specs.Rows.{Slot, RowState}
@@ -10,6 +10,10 @@ use Rattle.model.specs.Rows.{Slot, RowState}
 -- a number as a slot: `packed` of Rows the other way
 abbrev pub unpacked : ℕ → Slot
 unpacked x = record { owner = x / 256; category = x / 4 % 64; component = x % 4 }
+
+-- the slot with `made` predictions before the one that it belonged to
+abbrev pub raised : ℕ → ℕ → ℕ
+raised made x = made * 256 + x
 
 -- the row from place `from` on, up to `to`
 abbrev pub rowOf : List ℕ → ℕ → ℕ → List Slot

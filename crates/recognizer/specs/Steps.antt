@@ -1,16 +1,16 @@
--- What code says of one step, against the step of Rows; and the numbers of the predictions that the steps of a trace take.
+-- What code says of one step, against the step of Rows.
 -- Assumes nothing.
 use mathlib.Core.Path.{_≡_}
-use mathlib.Core.List.{List, [], _∷_}
-use Prim.Native.Nat.{ℕ, _+_, _<_, _≤_}
+use mathlib.Core.List.{List}
+use Prim.Native.Nat.{ℕ, _+_, _-_, _<_, _≤_}
 use lib.Dec.{ltb, eqb}
-use lib.ListN.{length, getD}
+use lib.ListN.{length, getD, drop}
 use Rattle.model.specs.Base.{if_then_else_}
 use Rattle.model.specs.Grammar.{Grammar, emptyWord}
 use Rattle.model.specs.Step.{wordFits}
 use Rattle.model.specs.Rows.{RowState, RowOutcome, halts, moves, stepRow}
 use Rattle.model.proofs.RowsBounds.{Reached}
-use Rattle.model.proofs.RowsNamed.{frontOwner}
+use Rattle.recognizer.specs.Row.{stateOf}
 use Rattle.recognizer.specs.declared.step.Stepped.{Stepped}
 use Rattle.recognizer.specs.declared.step.Stepped.the-variants.{Halts, Long, Scanned, Expanded}
 
@@ -43,14 +43,10 @@ Says o left from to words scanned expanded Long = (s : RowState) × (o ≡ moves
 Says o left from to words scanned expanded (Scanned n) = Goes o (scanned n) left from to × (n ≤ words)
 Says o left from to words scanned expanded (Expanded n d) = Goes o (expanded n d) left from to × (n ≤ 384) × (d ≤ 3)
 
--- a run of n steps stands at step k: no more predictions are made than the steps taken and the queue, and the queue is no longer than the steps left
-pub record Runs (g : Grammar) (s : RowState) (k n : ℕ) : Type 0 where
-  pub reached : Reached g s
-  pub counted : s .made ≤ k + s .pending
-  pub short : k + s .pending ≤ n
-  pub few : n ≤ 96
-
--- the number of the prediction that each step takes, as far as the steps go
-abbrev pub takenRow : Grammar → RowState → List ℕ → List ℕ
-takenRow g s [] = []
-takenRow g s (r ∷ rs) = elim (stepRow g s r) [ halts n ↦ [] | moves s′ ↦ frontOwner (s .row) ∷ takenRow g s′ rs ]
+-- what the step of rule r says from the row q[from..to], with so many words of the sentence read: out keeps its room, and the answer is right
+pub record StepSays (g : Grammar) (q out sentence : List ℕ) (from to made pending read left r : ℕ) (answer : Stepped) : Type 0 where
+  pub kept : length out ≡ 384
+  pub says
+      : Says (stepRow g (stateOf q from to made pending (drop read sentence)) r) left from to (length sentence)
+      (λ n. stateOf q (from + 1) to made (pending - 1) (drop n sentence))
+      (λ n d. stateOf out 0 n (made + d) (pending - 1 + d) (drop read sentence)) answer

@@ -10,7 +10,7 @@ use lib.Seq.{slice}
 use Rattle.model.specs.Base.{if_then_else_, sumBelow}
 use Rattle.model.specs.Grammar.{Rule, Grammar, ruleAt}
 use Rattle.model.specs.GrammarFile.{field, wordOf}
-use Rattle.model.specs.Rows.{block}
+use Rattle.model.specs.Rows.{block, packed}
 use Rattle.recognizer.specs.Row.{unpacked}
 
 -- where component k begins, counted from the rule's first cell: behind the 8 cells of its other numbers
@@ -19,7 +19,7 @@ startCell e k = 8 + sumBelow (λ j. field e (7 + j)) k
 
 -- variable v as a slot, with the rule's daughters numbered from 0
 abbrev pub slotCell : List ℕ → ℕ → ℕ
-slotCell e v = (field e (11 + v) / 4 * 64 + field e (2 + field e (11 + v) / 4)) * 4 + field e (11 + v) % 4
+slotCell e v = packed (record { owner = field e (11 + v) / 4; category = field e (2 + field e (11 + v) / 4); component = field e (11 + v) % 4 })
 
 -- cell i of the rule of record e: 0 how many daughters, 1 the word, 2 to 6 where the components begin and the last ends, 7 the category, 8 to 19 the
 -- variables

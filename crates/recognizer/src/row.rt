@@ -2,9 +2,10 @@
 // A row is the part from..to of an array.
 ghost use mathlib.Core.List.{[], _∷_};
 ghost use mathlib.Core.Path.{_≡_};
-ghost use Prim.Native.Nat.{_+_, _/_, _%_, _<_, _≤_};
+ghost use Prim.Native.Nat.{_+_, _<_, _≤_};
 ghost use lib.ListN.{length};
-ghost use Rattle.recognizer.specs.Row.{unpacked, rowOf, Held};
+ghost use Rattle.model.specs.Rows.{packed};
+ghost use Rattle.recognizer.specs.Row.{unpacked, raised, rowOf, Held};
 ghost use Rattle.recognizer.specs.Table.{CellsFit};
 ghost use Rattle.recognizer.specs.Expand.{blockAt, nextSlots, nextRow, Appended};
 use crate::rules::begins;
@@ -31,13 +32,29 @@ pub fn component(x: u16) -> usize
     (x % 4) as usize
 }
 
+// Component `component` of the prediction of this number and category, as a slot.
+pub fn slot(owner: u16, a: Category, component: u16) -> u16
+    requires { ⌜ packed (record { owner = owner; category = a .0; component = component }) < 65536 ⌝ }
+    ensures { λ x. ⌜ x ≡ packed (record { owner = owner; category = a .0; component = component }) ⌝ }
+{
+    (owner * 64 + a.0 as u16) * 4 + component
+}
+
+// The slot with `made` predictions before the one that it belonged to.
+fn raised(made: u16, x: u16) -> u16
+    requires { ⌜ raised made x < 65536 ⌝ }
+    ensures { λ y. ⌜ y ≡ raised made x ⌝ }
+{
+    made * 256 + x
+}
+
 // The first row, q[0..1]: the only component of prediction 0, which is of category a.
 pub fn first_row(a: Category) -> [u16; 384]
     requires { ⌜ a .0 < 64 ⌝ }
     ensures { λ q. ⌜ Held q 0 1 × (rowOf q 0 1 ≡ record { owner = 0; category = a .0; component = 0 } ∷ []) ⌝ }
 {
     let mut q = [0u16; 384];
-    q[0] = a.0 as u16 * 4;
+    q[0] = slot(0, a, 0);
     q
 }
 
@@ -57,7 +74,7 @@ fn put_block(
     let end = begins(t, at, k + 1);
     let mut m = n;
     while v < end {
-        out[m] = made * 256 + t[v];
+        out[m] = raised(made, t[v]);
         m += 1;
         v += 1;
     }

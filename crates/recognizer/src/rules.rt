@@ -5,6 +5,7 @@ ghost use Prim.Native.Nat.{_+_, _*_, _<_, _≤_};
 ghost use lib.ListN.{getD};
 ghost use Rattle.model.specs.GrammarFile.{rulesOf, recordOf, grammarRefusal, grammarOf};
 ghost use Rattle.recognizer.specs.Table.{startCell, slotCell, cellOf, begins, Compiled};
+use crate::row::slot;
 use grammar::category_of;
 use grammar::component_length;
 use grammar::daughter;
@@ -42,7 +43,7 @@ fn slot_cell(file: &[u8], r: RuleNumber, v: usize) -> u16
 {
     let j = variable_daughter(file, r, v);
     let a = daughter(file, r, j as usize);
-    (j as u16 * 64 + a.0 as u16) * 4 + variable_component(file, r, v) as u16
+    slot(j as u16, a, variable_component(file, r, v) as u16)
 }
 
 // Cell i of the rule.
@@ -88,7 +89,7 @@ pub fn place_of(r: RuleNumber) -> usize
     32 * r.0 as usize
 }
 
-// The fields of the rule whose cells begin at `at`: how many daughters it has, its word and its category.
+// How many daughters the rule has whose cells begin at `at`.
 pub fn daughters(t: &[u16; 8192], at: usize) -> u16
     requires { ⌜ at + 32 ≤ 8192 ⌝ }
     ensures { λ n. ⌜ n ≡ getD (now (t .entry)) at 0 ⌝ }
@@ -96,6 +97,7 @@ pub fn daughters(t: &[u16; 8192], at: usize) -> u16
     t[at]
 }
 
+// Its word.
 pub fn word(t: &[u16; 8192], at: usize) -> Word
     requires { ⌜ at + 32 ≤ 8192 ⌝ }
     ensures { λ w. ⌜ w .0 ≡ getD (now (t .entry)) (at + 1) 0 ⌝ }
@@ -103,6 +105,7 @@ pub fn word(t: &[u16; 8192], at: usize) -> Word
     Word(t[at + 1])
 }
 
+// Its category.
 pub fn category(t: &[u16; 8192], at: usize) -> Category
     requires { ⌜ (at + 32 ≤ 8192) × (getD (now t) (at + 7) 0 < 64) ⌝ }
     ensures { λ a. ⌜ a .0 ≡ getD (now (t .entry)) (at + 7) 0 ⌝ }

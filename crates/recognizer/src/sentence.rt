@@ -7,6 +7,7 @@ use grammar::words;
 use model::Refusal;
 use model::Verdict;
 
+// The refusal, or Accepted(0).
 pub fn sentence_refusal(file: &[u8], sentence: &[u16]) -> Verdict
     ensures { λ v. ⌜ v ≡ verdict (sentenceRefusal (grammarOf (now (file .entry))) (now (sentence .entry))) 0 ⌝ }
 {

@@ -1,13 +1,12 @@
 // One step: a rule number applied to the front of the row.
 ghost use mathlib.Core.Option.{none};
 ghost use mathlib.Core.Path.{_≡_};
-ghost use Prim.Native.Nat.{_+_, _-_, _≤_};
+ghost use Prim.Native.Nat.{_≤_};
 ghost use lib.ListN.{length, drop};
 ghost use Rattle.model.specs.GrammarFile.{grammarRefusal, grammarOf};
-ghost use Rattle.model.specs.Rows.{stepRow};
 ghost use Rattle.model.specs.Step.{wordFits};
 ghost use Rattle.recognizer.specs.Row.{stateOf, Held};
-ghost use Rattle.recognizer.specs.Steps.{scanAnswer, Stands, Says};
+ghost use Rattle.recognizer.specs.Steps.{scanAnswer, Stands, StepSays};
 ghost use Rattle.recognizer.specs.Table.{Compiled};
 use crate::row::category as slot_category;
 use crate::row::expand;
@@ -67,7 +66,7 @@ pub fn step(
     out: &mut [u16; 384],
 ) -> Stepped
     requires { ⌜ (grammarRefusal (now file) ≡ none) × Compiled (grammarOf (now file)) (now t) × Held (now q) from to × (length (now out) ≡ 384) × (read ≤ length (now sentence)) × Stands (grammarOf (now file)) (stateOf (now q) from to made pending (drop read (now sentence))) left ⌝ }
-    ensures { λ s. ⌜ (length (now (out .exit)) ≡ 384) × Says (stepRow (grammarOf (now (file .entry))) (stateOf (now (q .entry)) from to made pending (drop read (now (sentence .entry)))) (r .0)) left from to (length (now (sentence .entry))) (λ n. stateOf (now (q .entry)) (from + 1) to made (pending - 1) (drop n (now (sentence .entry)))) (λ n d. stateOf (now (out .exit)) 0 n (made + d) (pending - 1 + d) (drop read (now (sentence .entry)))) s ⌝ }
+    ensures { λ s. ⌜ StepSays (grammarOf (now (file .entry))) (now (q .entry)) (now (out .exit)) (now (sentence .entry)) from to made pending read left (r .0) s ⌝ }
 {
     if rules(file) <= r.0 {
         return Stepped::Halts(13);

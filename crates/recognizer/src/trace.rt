@@ -2,15 +2,11 @@
 ghost use mathlib.Core.Option.{none};
 ghost use mathlib.Core.Path.{_≡_};
 ghost use Prim.Native.Nat.{_≤_};
-ghost use lib.ListN.{length, drop, take};
-ghost use lib.Seq.{sets};
+ghost use lib.ListN.{length, drop};
 ghost use Rattle.model.specs.Calls.{checkTraceVerdict};
 ghost use Rattle.model.specs.GrammarFile.{grammarRefusal, grammarOf};
-ghost use Rattle.model.specs.Rows.{beginRow, stepsRefusalRow};
-ghost use Rattle.model.specs.Trace.{traceRefusal};
-ghost use Rattle.model.specs.Verdict.{verdict};
 ghost use Rattle.recognizer.specs.Row.{stateOf, Held};
-ghost use Rattle.recognizer.specs.Steps.{Runs, takenRow};
+ghost use Rattle.recognizer.specs.Traces.{Runs, RunSays, TraceSays};
 ghost use Rattle.recognizer.specs.Table.{Compiled};
 use crate::row::first_row;
 use crate::row::owner;
@@ -41,7 +37,7 @@ pub fn run(
     taken: &mut [u16; 96],
 ) -> Verdict
     requires { ⌜ (grammarRefusal (now file) ≡ none) × Compiled (grammarOf (now file)) (now t) × Held (now q) from to × (length (now taken) ≡ 96) × (read ≤ length (now sentence)) × (length (now sentence) ≤ 96) × Runs (grammarOf (now file)) (stateOf (now q) from to made pending (drop read (now sentence))) k (length (now trace)) ⌝ }
-    ensures { λ v. ⌜ (v ≡ verdict (stepsRefusalRow (grammarOf (now (file .entry))) (now (sentence .entry)) k (stateOf (now (q .entry)) from to made pending (drop read (now (sentence .entry)))) (drop k (now (trace .entry)))) (length (now (trace .entry)))) × (stepsRefusalRow (grammarOf (now (file .entry))) (now (sentence .entry)) k (stateOf (now (q .entry)) from to made pending (drop read (now (sentence .entry)))) (drop k (now (trace .entry))) ≡ none → now (taken .exit) ≡ sets (now (taken .entry)) k (takenRow (grammarOf (now (file .entry))) (stateOf (now (q .entry)) from to made pending (drop read (now (sentence .entry)))) (drop k (now (trace .entry))))) ⌝ }
+    ensures { λ v. ⌜ RunSays (grammarOf (now (file .entry))) (now (sentence .entry)) (now (trace .entry)) k (stateOf (now (q .entry)) from to made pending (drop read (now (sentence .entry)))) (now (taken .entry)) (now (taken .exit)) v ⌝ }
 {
     if trace.len() <= k {
         if read < sentence.len() {
@@ -109,7 +105,7 @@ pub fn run(
 // A trace's verdict, for a grammar file and a sentence that are accepted, and for each step the number of the prediction that it takes.
 pub fn run_trace(file: &[u8], sentence: &[u16], trace: &[u16], taken: &mut [u16; 96]) -> Verdict
     requires { ⌜ (grammarRefusal (now file) ≡ none) × (length (now sentence) ≤ 96) × (length (now taken) ≡ 96) ⌝ }
-    ensures { λ v. ⌜ (v ≡ verdict (traceRefusal (grammarOf (now (file .entry))) (now (sentence .entry)) (now (trace .entry))) (length (now (trace .entry)))) × (traceRefusal (grammarOf (now (file .entry))) (now (sentence .entry)) (now (trace .entry)) ≡ none → take (length (now (trace .entry))) (now (taken .exit)) ≡ takenRow (grammarOf (now (file .entry))) (beginRow (grammarOf (now (file .entry))) (now (sentence .entry))) (now (trace .entry))) ⌝ }
+    ensures { λ v. ⌜ TraceSays (grammarOf (now (file .entry))) (now (sentence .entry)) (now (trace .entry)) (now (taken .exit)) v ⌝ }
 {
     if 96 < trace.len() {
         return Verdict::Refused(Refusal::Analysis(12, 0));

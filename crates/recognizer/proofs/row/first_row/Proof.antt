@@ -1,18 +1,17 @@
 -- `recognizer::row::first_row` meets its contract.
 -- Assumes nothing.
-use mathlib.Core.Path.{_≡_, refl}
+use mathlib.Core.Path.{_≡_, refl, ap, _∙_}
 use mathlib.Core.List.{[], _∷_}
-use Prim.Native.Nat.{_*_, _/_, _%_}
 use native.Mathlib.Omega.{arith}
 use borrow.Author.Needs.{needs}
+use Rattle.model.specs.Rows.{Slot}
+use Rattle.recognizer.specs.Row.{unpacked}
+use Rattle.recognizer.proofs.Packing.{unpacked-packed}
 use Rattle.recognizer.proofs.row.first_row.Statement.{statement}
 use Rattle.recognizer.proofs.row.first_row.Tie as tie
 
-cast-q : tie.Need-cast-q
-cast-q c = search needs
-
-mul-q : tie.Need-mul-q
-mul-q c = search needs
+slot-requires : tie.Need-slot-requires
+slot-requires c κs = search needs
 
 array-write-q : tie.Need-array-write-q
 array-write-q c = search needs
@@ -20,10 +19,8 @@ array-write-q c = search needs
 returns : tie.Need-returns
 returns c =
     let a = c .before .args .a .0 in
-    let x : a * 4 / 256 ≡ 0 = omega arith in
-    let y : a * 4 / 4 % 64 ≡ a = omega arith in
-    let z : a * 4 % 4 ≡ 0 = omega arith in
-    (record { long = refl {a = 384}; ordered = omega arith; within = omega arith }, λ i. record { owner = x i; category = y i; component = z i } ∷ [])
+    let e : unpacked (c .slot .result) ≡ record { owner = 0; category = a; component = 0 } = ap unpacked (c .slot .ensures) ∙ unpacked-packed (record { owner = 0; category = a; component = 0 }) (c .before .pre, omega arith) in
+    (record { long = refl {a = 384}; ordered = omega arith; within = omega arith }, ap (λ (x : Slot). x ∷ []) e)
 
 pub first-row-spec : {M : Type 1} → statement M
-first-row-spec = tie.close (tie.spec cast-q mul-q array-write-q returns)
+first-row-spec = tie.close (tie.spec slot-requires array-write-q returns)

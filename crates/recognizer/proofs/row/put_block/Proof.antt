@@ -2,11 +2,12 @@
 -- Assumes nothing.
 use mathlib.Core.Path.{_≡_, sym, ap, _∙_}
 use mathlib.Core.List.{List, [], _++_, map, append-nil}
-use Prim.Native.Nat.{ℕ, suc, _+_, _*_, _-_, _≤_}
+use Prim.Native.Nat.{ℕ, suc, _+_, _-_, _≤_}
 use native.Mathlib.Omega.{arith}
 use lib.ListN.{length, getD, take, set, length-set}
 use lib.Seq.{slice, slice-empty}
 use borrow.Author.Needs.{needs}
+use Rattle.recognizer.specs.Row.{raised}
 use Rattle.recognizer.specs.Table.{begins}
 use Rattle.recognizer.proofs.Expand.{block-length}
 use Rattle.recognizer.proofs.Lists.{written-more}
@@ -14,7 +15,7 @@ use Rattle.recognizer.proofs.row.put_block.Statement.{statement}
 use Rattle.recognizer.proofs.row.put_block.Tie as tie
 
 abbrev Inv-loop : tie.InvT-loop
-Inv-loop t at k made out₀ n v₀ end m₀ out v m = (v ≤ end) × (end ≤ at + 20) × (at + 8 ≤ v) × (m + (end - v) ≤ 384) × (begins t at k ≤ v) × (m ≡ n + (v - begins t at k)) × (end ≡ begins t at (k + 1)) × (length out ≡ 384) × (take m out ≡ take n out₀ ++ map (λ x. made * 256 + x) (slice (begins t at k) v t))
+Inv-loop t at k made out₀ n v₀ end m₀ out v m = (v ≤ end) × (end ≤ at + 20) × (at + 8 ≤ v) × (m + (end - v) ≤ 384) × (begins t at k ≤ v) × (m ≡ n + (v - begins t at k)) × (end ≡ begins t at (k + 1)) × (length out ≡ 384) × (take m out ≡ take n out₀ ++ map (raised made) (slice (begins t at k) v t))
 
 abbrev μ-loop : tie.MeasureT-loop
 μ-loop t at k made out₀ n v₀ end m₀ out v m = end - v
@@ -47,27 +48,24 @@ loop-holds c =
       omega arith,
       c .begins2 .ensures,
       p .3,
-      sym (ap (λ (s : List ℕ). take (a .n) (a .out .now) ++ map (λ x. a .made * 256 + x) s) nothing ∙ append-nil (take (a .n) (a .out .now))),
+      sym (ap (λ (s : List ℕ). take (a .n) (a .out .now) ++ map (raised (a .made)) s) nothing ∙ append-nil (take (a .n) (a .out .now))),
     )
 
-mul-out : tie.Need-mul-out Inv-loop μ-loop
-mul-out c = search needs
+mul-raised : tie.Need-mul-raised Inv-loop μ-loop
+mul-raised c = search needs
 
-mul-out-2 : tie.Need-mul-out-2 Inv-loop μ-loop
-mul-out-2 c = search needs
+element-copy-out-raised : tie.Need-element-copy-out-raised Inv-loop μ-loop
+element-copy-out-raised c = search needs
 
-element-copy-out-out : tie.Need-element-copy-out-out Inv-loop μ-loop
-element-copy-out-out c = search needs
-
-add-out : tie.Need-add-out Inv-loop μ-loop
-add-out c =
+raised-requires : tie.Need-raised-requires Inv-loop μ-loop
+raised-requires c κs =
     let i = c .before .before .loop in
     let s = c .before .before .before .before .before in
     let z : s .args .at + 8 + (i .v - (s .args .at + 8)) ≡ i .v = omega arith in
-    omega (arith, s .pre .0 .small (i .v - (s .args .at + 8)) (omega arith), ap (λ (j : ℕ). getD (s .args .t .now) j 0) z)
+    omega (arith, s .pre .0 .small (i .v - (s .args .at + 8)) (omega arith), ap (λ (j : ℕ). getD (s .args .t .now) j 0) z, s .pre .2)
 
-mul-out-3 : tie.Need-mul-out-3 Inv-loop μ-loop
-mul-out-3 c = search needs
+mul-out : tie.Need-mul-out Inv-loop μ-loop
+mul-out c = search needs
 
 element-write-out : tie.Need-element-write-out Inv-loop μ-loop
 element-write-out c = search needs
@@ -83,14 +81,14 @@ loop-less c = search needs
 
 loop-again : tie.Need-loop-again Inv-loop μ-loop
 loop-again c =
-    let i = c .before .before .loop in
-    let a = c .before .before .before .before .before .args in
-    let p = c .before .before .before .before .before .pre in
-    let f : ℕ → ℕ = λ x. a .made * 256 + x in
+    let i = c .before .before .before .loop in
+    let a = c .before .before .before .before .before .before .args in
+    let p = c .before .before .before .before .before .before .pre in
+    let x = c .raised .result in
     let y : i .v + 1 ≡ suc (i .v) = omega arith in
     let z : i .m + 1 ≡ suc (i .m) = omega arith in
-    let w : take (suc (i .m)) (set (i .out) (i .m) (f (getD (a .t .now) (i .v) 0))) ≡ take (a .n) (a .out .now) ++ map f (slice (begins (a .t .now) (a .at) (a .k)) (suc (i .v)) (a .t .now))
-    = written-more f (take (a .n) (a .out .now)) (i .out) (a .t .now) (begins (a .t .now) (a .at) (a .k)) (i .v) (i .m) (i .inv .8) (omega arith) (i .inv .4) (omega (arith, p .0 .long, p .0 .room)) in (
+    let w : take (suc (i .m)) (set (i .out) (i .m) x) ≡ take (a .n) (a .out .now) ++ map (raised (a .made)) (slice (begins (a .t .now) (a .at) (a .k)) (suc (i .v)) (a .t .now))
+    = written-more (raised (a .made)) (take (a .n) (a .out .now)) (i .out) (a .t .now) (begins (a .t .now) (a .at) (a .k)) (i .v) (i .m) x (c .raised .ensures) (i .inv .8) (omega arith) (i .inv .4) (omega (arith, p .0 .long, p .0 .room)) in (
       omega arith,
       omega arith,
       omega arith,
@@ -98,7 +96,7 @@ loop-again c =
       omega arith,
       omega arith,
       i .inv .6,
-      length-set (i .out) (i .m) (f (getD (a .t .now) (i .v) 0)) ∙ i .inv .7,
+      length-set (i .out) (i .m) x ∙ i .inv .7,
       rw (y, z) w,
     )
 
@@ -112,7 +110,7 @@ returns c =
     record {
       kept = omega arith;
       place = omega arith;
-      written = i .inv .8 ∙ ap (λ (j : ℕ). take (a .n) (a .out .now) ++ map (λ x. a .made * 256 + x) (slice (begins (a .t .now) (a .at) (a .k)) j (a .t .now))) e;
+      written = i .inv .8 ∙ ap (λ (j : ℕ). take (a .n) (a .out .now) ++ map (raised (a .made)) (slice (begins (a .t .now) (a .at) (a .k)) j (a .t .now))) e;
     }
 
 pub put-block-spec : {M : Type 1} → statement M
@@ -125,11 +123,10 @@ put-block-spec =
     add-begins
     begins-requires-2
     loop-holds
+    mul-raised
+    element-copy-out-raised
+    raised-requires
     mul-out
-    mul-out-2
-    element-copy-out-out
-    add-out
-    mul-out-3
     element-write-out
     add-m
     add-v

@@ -1,13 +1,13 @@
 -- `recognizer::step::step` meets its contract.
 -- Assumes nothing.
 use mathlib.Core.Path.{_≡_, sym, ap, subst, _∙_}
-use Prim.Native.Nat.{ℕ, _+_, _-_, _*_, _/_, _%_, _<_, _≤_}
+use Prim.Native.Nat.{ℕ, _+_, _-_, _*_, _<_, _≤_}
 use native.Mathlib.Omega.{arith}
 use lib.ListN.{length, getD, drop}
 use borrow.Author.Needs.{needs}
 use Rattle.model.specs.GrammarFile.{rulesOf, grammarOf}
 use Rattle.model.specs.Rows.{stepRow, scanRow}
-use Rattle.recognizer.specs.Row.{rowOf, stateOf}
+use Rattle.recognizer.specs.Row.{unpacked, rowOf, stateOf}
 use Rattle.recognizer.specs.Table.{CellsFit}
 use Rattle.recognizer.specs.Expand.{nextRow, Appended}
 use Rattle.recognizer.proofs.Steps.{no-rule, cells-fit, no-queue, pending-some, wrong-category, scans, too-long, room, expands, scan-says}
@@ -30,7 +30,7 @@ module _ (c : tie.After-place-of) where
 
 -- after the test 15
 module _ (c : tie.Else3) where
-  same : getD (c .before .before .before .before .before .before .before .before .before .before .before .before .before .args .t .now) (32 * c .before .before .before .before .before .before .before .before .before .before .before .before .before .args .r .0 + 7) 0 ≡ getD (c .before .before .before .before .before .before .before .before .before .before .before .before .before .args .q .now) (c .before .before .before .before .before .before .before .before .before .before .before .before .before .args .from) 0 / 4 % 64
+  same : getD (c .before .before .before .before .before .before .before .before .before .before .before .before .before .args .t .now) (32 * c .before .before .before .before .before .before .before .before .before .before .before .before .before .args .r .0 + 7) 0 ≡ unpacked (getD (c .before .before .before .before .before .before .before .before .before .before .before .before .before .args .q .now) (c .before .before .before .before .before .before .before .before .before .before .before .before .before .args .from) 0) .category
   same =
       let a = c .before .before .before .before .before .before .before .before .before .before .before .before .before .args in
       ap (λ (i : ℕ). getD (a .t .now) (i + 7) 0) (sym (c .before .before .before .before .before .before .place-of .ensures)) ∙ sym (c .before .before .before .before .before .category .ensures) ∙ c .if3 .left ∙ c .before .before .before .category2 .ensures
@@ -45,13 +45,13 @@ returns : tie.Need-returns
 returns c =
     let a = c .before .before .before .before .before .args in
     let p = c .before .before .before .before .before .pre in
-    (p .3, no-rule (a .file .now) (a .t .now) (a .q .now) (a .from) (a .to) (a .made) (a .pending) (a .left) (a .r .0) (drop (a .read) (a .sentence .now)) (p .0) (p .1) (p .2) (p .5) (omega (arith, c .before .before .rules .ensures, c .if1 .taken)))
+    record { kept = p .3; says = no-rule (a .file .now) (a .t .now) (a .q .now) (a .from) (a .to) (a .made) (a .pending) (a .left) (a .r .0) (drop (a .read) (a .sentence .now)) (p .0) (p .1) (p .2) (p .5) (omega (arith, c .before .before .rules .ensures, c .if1 .taken)) }
 
 returns-2 : tie.Need-returns-2
 returns-2 c =
     let a = c .before .before .before .before .before .before .args in
     let p = c .before .before .before .before .before .before .pre in
-    (p .3, no-queue (a .file .now) (a .t .now) (a .q .now) (a .from) (a .to) (a .made) (a .pending) (a .left) (a .r .0) (drop (a .read) (a .sentence .now)) (p .0) (p .1) (p .2) (p .5) (omega (arith, c .before .before .before .rules .ensures, c .before .if1 .left)) (c .if2 .taken))
+    record { kept = p .3; says = no-queue (a .file .now) (a .t .now) (a .q .now) (a .from) (a .to) (a .made) (a .pending) (a .left) (a .r .0) (drop (a .read) (a .sentence .now)) (p .0) (p .1) (p .2) (p .5) (omega (arith, c .before .before .before .rules .ensures, c .before .if1 .left)) (c .if2 .taken) }
 
 place-of-requires : tie.Need-place-of-requires
 place-of-requires c κs = search needs
@@ -74,7 +74,7 @@ returns-3 c =
     let p = c .before .before .before .before .before .before .before .before .before .before .before .before .before .pre in
     let k = c .before .before .before .before .before .before in
     let e = ap (λ (i : ℕ). getD (a .t .now) (i + 7) 0) (k .place-of .ensures) in
-    (p .3, wrong-category (a .file .now) (a .t .now) (a .q .now) (a .from) (a .to) (a .made) (a .pending) (a .left) (a .r .0) (drop (a .read) (a .sentence .now)) (p .0) (p .1) (p .2) (p .5) (here k) (fronted k) (λ f. c .if3 .taken (c .before .before .before .before .before .category .ensures ∙ e ∙ f ∙ sym (c .before .before .before .category2 .ensures))))
+    record { kept = p .3; says = wrong-category (a .file .now) (a .t .now) (a .q .now) (a .from) (a .to) (a .made) (a .pending) (a .left) (a .r .0) (drop (a .read) (a .sentence .now)) (p .0) (p .1) (p .2) (p .5) (here k) (fronted k) (λ f. c .if3 .taken (c .before .before .before .before .before .category .ensures ∙ e ∙ f ∙ sym (c .before .before .before .category2 .ensures))) }
 
 daughters-requires : tie.Need-daughters-requires
 daughters-requires c κs = fit (c .before .before .before .before .before .before) .room
@@ -90,15 +90,17 @@ returns-4 c =
     let a = c .before .before .before .before .before .before .before .before .before .before .before .before .before .before .before .before .before .args in
     let p = c .before .before .before .before .before .before .before .before .before .before .before .before .before .before .before .before .before .pre in
     let k = c .before .before .before .before .before .before .before .before .before .before in
-    let w : c .before .word .result .0 ≡ getD (a .t .now) (32 * a .r .0 + 1) 0 = c .before .word .ensures ∙ ap (λ (i : ℕ). getD (a .t .now) (i + 1) 0) (k .place-of .ensures) in (
-      p .3,
-      scan-says (c .before .word .result .0) (rowOf (a .q .now) (a .from + 1) (a .to)) (a .made) (a .pending - 1) (a .sentence .now) (a .read) (a .left) (a .from) (a .to) (p .4) (omega (arith, p .5 .short)) (fronted k)
+    let w : c .before .word .result .0 ≡ getD (a .t .now) (32 * a .r .0 + 1) 0 = c .before .word .ensures ∙ ap (λ (i : ℕ). getD (a .t .now) (i + 1) 0) (k .place-of .ensures) in
+    record {
+      kept = p .3;
+      says =
+          scan-says (c .before .word .result .0) (rowOf (a .q .now) (a .from + 1) (a .to)) (a .made) (a .pending - 1) (a .sentence .now) (a .read) (a .left) (a .from) (a .to) (p .4) (omega (arith, p .5 .short)) (fronted k)
           (λ n d. stateOf (a .out .now) 0 n (a .made + d) (a .pending - 1 + d) (drop (a .read) (a .sentence .now)))
           (stepRow (grammarOf (a .file .now)) (stateOf (a .q .now) (a .from) (a .to) (a .made) (a .pending) (drop (a .read) (a .sentence .now))) (a .r .0)) (c .scan .result)
           (scans (a .file .now) (a .t .now) (a .q .now) (a .from) (a .to) (a .made) (a .pending) (a .left) (a .r .0) (drop (a .read) (a .sentence .now)) (p .0) (p .1) (p .2) (p .5) (here k) (fronted k) (same (c .before .before .before .before)) (sym (count (c .before .before .before)) ∙ c .before .before .if4 .taken)
           ∙ ap (λ (x : ℕ). scanRow x (rowOf (a .q .now) (a .from + 1) (a .to)) (a .made) (a .pending - 1) (drop (a .read) (a .sentence .now))) (sym w))
-          (c .scan .ensures),
-    )
+          (c .scan .ensures);
+    }
 
 sub-if5 : tie.Need-sub-if5
 sub-if5 c =
@@ -118,7 +120,7 @@ returns-5 c =
     let p = c .before .before .before .before .before .before .before .before .before .before .before .before .before .before .before .before .pre in
     let k = c .before .before .before .before .before .before .before .before .before in
     let d = count (c .before .before) in
-    (p .3, too-long (a .file .now) (a .t .now) (a .q .now) (a .from) (a .to) (a .made) (a .pending) (a .left) (a .r .0) (drop (a .read) (a .sentence .now)) (p .0) (p .1) (p .2) (p .5) (here k) (fronted k) (same (c .before .before .before)) (omega arith) (omega arith))
+    record { kept = p .3; says = too-long (a .file .now) (a .t .now) (a .q .now) (a .from) (a .to) (a .made) (a .pending) (a .left) (a .r .0) (drop (a .read) (a .sentence .now)) (p .0) (p .1) (p .2) (p .5) (here k) (fronted k) (same (c .before .before .before)) (omega arith) (omega arith) }
 
 expand-requires : tie.Need-expand-requires
 expand-requires c κs =
@@ -137,7 +139,7 @@ returns-6 c =
     let k = c .before .before .before .before .before .before .before .before .before .before .before in
     let d = count (c .before .before .before .before) in
     let e = subst (λ (i : ℕ). Appended (a .out .now) (c .expand .last .1 .1 .1 .1 .0) 0 (nextRow (a .t .now) i (a .made) (a .q .now) (a .from) (a .to)) (c .expand .result)) (k .place-of .ensures) (c .expand .ensures) in
-    (e .kept ∙ p .3, expands (a .file .now) (a .t .now) (a .q .now) (a .from) (a .to) (a .made) (a .pending) (a .left) (a .r .0) (drop (a .read) (a .sentence .now)) (p .0) (p .1) (p .2) (p .5) (here k) (fronted k) (same (c .before .before .before .before .before)) (c .before .before .before .before .daughters .result) d (omega arith) (omega arith) (a .out .now) (c .expand .last .1 .1 .1 .1 .0) (c .expand .result) e)
+    record { kept = e .kept ∙ p .3; says = expands (a .file .now) (a .t .now) (a .q .now) (a .from) (a .to) (a .made) (a .pending) (a .left) (a .r .0) (drop (a .read) (a .sentence .now)) (p .0) (p .1) (p .2) (p .5) (here k) (fronted k) (same (c .before .before .before .before .before)) (c .before .before .before .before .daughters .result) d (omega arith) (omega arith) (a .out .now) (c .expand .last .1 .1 .1 .1 .0) (c .expand .result) e }
 
 pub step-spec : {M : Type 1} → statement M
 step-spec =

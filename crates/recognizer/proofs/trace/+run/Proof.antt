@@ -46,7 +46,7 @@ scan-goes : (t : ℕ) (c : run-lts.After-known-told2 (calls t) (run-at t) run.Po
     let n = c .before .s2 .given .0 .0 in
     Goes (stepRow (grammarOf (a .file .now)) (stateOf (a .q .now) (a .from) (a .to) (a .made) (a .pending) (drop (a .read) (a .sentence .now))) (getD (a .trace .now) (a .k) 0)) (stateOf (a .q .now) (a .from + 1) (a .to) (a .made) (a .pending - 1) (drop n (a .sentence .now))) (length (a .trace .now) - a .k - 1) (a .from) (a .to)
     × (n ≤ length (a .sentence .now))
-scan-goes t c = rw (c .before .s2 .given .1) at (c .before .before .before .step .ensures .1)
+scan-goes t c = rw (c .before .s2 .given .1) at (c .before .before .before .step .ensures .says)
 
 -- where a nonlexical step leads
 row-goes : (t : ℕ) (c : run-lts.After-known-told3 (calls t) (run-at t) run.Post)
@@ -55,7 +55,7 @@ row-goes : (t : ℕ) (c : run-lts.After-known-told3 (calls t) (run-at t) run.Pos
     let d = c .before .s3 .given .0 .1 .0 in
     Goes (stepRow (grammarOf (a .file .now)) (stateOf (a .q .now) (a .from) (a .to) (a .made) (a .pending) (drop (a .read) (a .sentence .now))) (getD (a .trace .now) (a .k) 0)) (stateOf (c .before .before .before .step .last .1 .1 .1 .1 .1 .1 .1 .1 .1 .1 .1 .0) 0 n (a .made + d) (a .pending - 1 + d) (drop (a .read) (a .sentence .now))) (length (a .trace .now) - a .k - 1) (a .from) (a .to)
     × (n ≤ 384) × (d ≤ 3)
-row-goes t c = rw (c .before .s3 .given .1) at (c .before .before .before .step .ensures .1)
+row-goes t c = rw (c .before .s3 .given .1) at (c .before .before .before .step .ensures .says)
 
 run-cast-t25 : (t : ℕ) → run-lts.Need-cast-t25 (calls t) (run-at t) run.Post
 run-cast-t25 t c = search needs
@@ -65,16 +65,17 @@ run-returns t c =
     let a = c .before .before .before .before .before .args in
     let p = c .before .before .before .before .before .pre .1 in
     let e = words-left (grammarOf (a .file .now)) (a .sentence .now) (a .trace .now) (a .k) (stateOf (a .q .now) (a .from) (a .to) (a .made) (a .pending) (drop (a .read) (a .sentence .now))) (a .read) (c .before .if1 .taken) refl (c .if2 .taken) in
-    (refused _ (length (a .trace .now)) (Refusal.Analysis 18 (a .read)) e, λ z. none-some (sym e ∙ z))
+    record { answer = refused _ (length (a .trace .now)) (Refusal.Analysis 18 (a .read)) e; taken = λ z. none-some (sym e ∙ z) }
 
 run-returns-2 : (t : ℕ) → run-lts.Need-returns-2 (calls t) (run-at t) run.Post
 run-returns-2 t c =
     let a = c .before .before .before .before .before .args in
     let p = c .before .before .before .before .before .pre .1 in
-    let e = all-read (grammarOf (a .file .now)) (a .sentence .now) (a .trace .now) (a .k) (stateOf (a .q .now) (a .from) (a .to) (a .made) (a .pending) (drop (a .read) (a .sentence .now))) (a .read) (c .before .if1 .taken) refl (c .if2 .left) in (
-      accepted _ (length (a .trace .now)) (a .k) e (omega (arith, p .6 .short)),
-      λ z. sym (ap (sets (a .taken .now) (a .k)) (none-taken (grammarOf (a .file .now)) (a .sentence .now) (a .trace .now) (a .k) (stateOf (a .q .now) (a .from) (a .to) (a .made) (a .pending) (drop (a .read) (a .sentence .now))) (a .read) (c .before .if1 .taken) refl)),
-    )
+    let e = all-read (grammarOf (a .file .now)) (a .sentence .now) (a .trace .now) (a .k) (stateOf (a .q .now) (a .from) (a .to) (a .made) (a .pending) (drop (a .read) (a .sentence .now))) (a .read) (c .before .if1 .taken) refl (c .if2 .left) in
+    record {
+      answer = accepted _ (length (a .trace .now)) (a .k) e (omega (arith, p .6 .short));
+      taken = λ z. sym (ap (sets (a .taken .now) (a .k)) (none-taken (grammarOf (a .file .now)) (a .sentence .now) (a .trace .now) (a .k) (stateOf (a .q .now) (a .from) (a .to) (a .made) (a .pending) (drop (a .read) (a .sentence .now))) (a .read) (c .before .if1 .taken) refl));
+    }
 
 run-mul-t21 : (t : ℕ) → run-lts.Need-mul-t21 (calls t) (run-at t) run.Post
 run-mul-t21 t c = search needs
@@ -210,7 +211,7 @@ run-run-requires-2 t c κs =
       (
         p .0,
         p .1,
-        record { long = c .before .before .before .before .before .before .before .step .ensures .0; ordered = omega arith; within = goes .1 },
+        record { long = c .before .before .before .before .before .before .before .step .ensures .kept; ordered = omega arith; within = goes .1 },
         length-set (a .taken .now) (a .k) (c .before .before .owner2 .result) ∙ p .3,
         p .4,
         p .5,
@@ -222,36 +223,38 @@ run-returns-3 : (t : ℕ) → run-lts.Need-returns-3 (calls t) (run-at t) run.Po
 run-returns-3 t c =
     let a = c .before .before .before .before .before .before .before .before .before .before .args in
     let p = c .before .before .before .before .before .before .before .before .before .before .pre .1 in
-    let e = halted (grammarOf (a .file .now)) (a .sentence .now) (a .trace .now) (a .k) (stateOf (a .q .now) (a .from) (a .to) (a .made) (a .pending) (drop (a .read) (a .sentence .now))) (c .before .before .before .before .before .before .if1 .left) (c .before .s .given .0 .0) (rw (c .before .s .given .1) at (c .before .before .before .step .ensures .1)) in
-    (refused _ (length (a .trace .now)) (Refusal.Analysis (c .before .s .given .0 .0) (a .k)) e, λ z. none-some (sym e ∙ z))
+    let e = halted (grammarOf (a .file .now)) (a .sentence .now) (a .trace .now) (a .k) (stateOf (a .q .now) (a .from) (a .to) (a .made) (a .pending) (drop (a .read) (a .sentence .now))) (c .before .before .before .before .before .before .if1 .left) (c .before .s .given .0 .0) (rw (c .before .s .given .1) at (c .before .before .before .step .ensures .says)) in
+    record { answer = refused _ (length (a .trace .now)) (Refusal.Analysis (c .before .s .given .0 .0) (a .k)) e; taken = λ z. none-some (sym e ∙ z) }
 
 run-returns-4 : (t : ℕ) → run-lts.Need-returns-4 (calls t) (run-at t) run.Post
 run-returns-4 t c =
     let a = c .before .before .before .before .before .before .before .before .before .args in
     let p = c .before .before .before .before .before .before .before .before .before .pre .1 in
-    let l : (s : RowState) × (stepRow (grammarOf (a .file .now)) (stateOf (a .q .now) (a .from) (a .to) (a .made) (a .pending) (drop (a .read) (a .sentence .now))) (getD (a .trace .now) (a .k) 0) ≡ moves s) × (length (a .trace .now) - a .k - 1 < s .pending) = rw (c .enum-told .given .1) at (c .before .before .step .ensures .1) in
+    let l : (s : RowState) × (stepRow (grammarOf (a .file .now)) (stateOf (a .q .now) (a .from) (a .to) (a .made) (a .pending) (drop (a .read) (a .sentence .now))) (getD (a .trace .now) (a .k) 0) ≡ moves s) × (length (a .trace .now) - a .k - 1 < s .pending) = rw (c .enum-told .given .1) at (c .before .before .step .ensures .says) in
     let e = longer (grammarOf (a .file .now)) (a .sentence .now) (a .trace .now) (a .k) (stateOf (a .q .now) (a .from) (a .to) (a .made) (a .pending) (drop (a .read) (a .sentence .now))) (c .before .before .before .before .before .if1 .left) (l .0) (l .1) (l .2) in
-    (refused _ (length (a .trace .now)) (Refusal.Analysis 17 (a .k + 1)) e, λ z. none-some (sym e ∙ z))
+    record { answer = refused _ (length (a .trace .now)) (Refusal.Analysis 17 (a .k + 1)) e; taken = λ z. none-some (sym e ∙ z) }
 
 run-returns-5 : (t : ℕ) → run-lts.Need-returns-5 (calls t) (run-at t) run.Post
 run-returns-5 t c =
     let a = c .before .before .before .before .before .before .before .before .before .before .before .before .before .before .args in
     let p = c .before .before .before .before .before .before .before .before .before .before .before .before .before .before .pre .1 in
     let goes = scan-goes t (c .before .before .before .before) .0 in
-    let h = c .before .before .before .before .before .before .before .before .before .before .if1 .left in (
-      verdict-further (grammarOf (a .file .now)) (a .sentence .now) (a .trace .now) (a .k) (stateOf (a .q .now) (a .from) (a .to) (a .made) (a .pending) (drop (a .read) (a .sentence .now))) h _ (a .from) (a .to) goes (c .run .result) (c .run .ensures .0),
-      taken-further (grammarOf (a .file .now)) (a .sentence .now) (a .trace .now) (a .k) (stateOf (a .q .now) (a .from) (a .to) (a .made) (a .pending) (drop (a .read) (a .sentence .now))) h _ (a .from) (a .to) goes (a .taken .now) (c .run .last .1 .1 .1 .1 .1 .1 .1 .1 .1 .1 .1 .0) (c .before .before .owner .result) (c .before .before .owner .ensures ∙ sym (ap frontOwner (row-head (a .q .now) (a .from) (a .to) (p .2) (goes .fronted)))) (c .run .ensures .1),
-    )
+    let h = c .before .before .before .before .before .before .before .before .before .before .if1 .left in
+    record {
+      answer = verdict-further (grammarOf (a .file .now)) (a .sentence .now) (a .trace .now) (a .k) (stateOf (a .q .now) (a .from) (a .to) (a .made) (a .pending) (drop (a .read) (a .sentence .now))) h _ (a .from) (a .to) goes (c .run .result) (c .run .ensures .answer);
+      taken = taken-further (grammarOf (a .file .now)) (a .sentence .now) (a .trace .now) (a .k) (stateOf (a .q .now) (a .from) (a .to) (a .made) (a .pending) (drop (a .read) (a .sentence .now))) h _ (a .from) (a .to) goes (a .taken .now) (c .run .last .1 .1 .1 .1 .1 .1 .1 .1 .1 .1 .1 .0) (c .before .before .owner .result) (c .before .before .owner .ensures ∙ sym (ap frontOwner (row-head (a .q .now) (a .from) (a .to) (p .2) (goes .fronted)))) (c .run .ensures .taken);
+    }
 
 run-returns-6 : (t : ℕ) → run-lts.Need-returns-6 (calls t) (run-at t) run.Post
 run-returns-6 t c =
     let a = c .before .before .before .before .before .before .before .before .before .before .before .before .before .before .before .args in
     let p = c .before .before .before .before .before .before .before .before .before .before .before .before .before .before .before .pre .1 in
     let goes = row-goes t (c .before .before .before .before .before) .0 in
-    let h = c .before .before .before .before .before .before .before .before .before .before .before .if1 .left in (
-      verdict-further (grammarOf (a .file .now)) (a .sentence .now) (a .trace .now) (a .k) (stateOf (a .q .now) (a .from) (a .to) (a .made) (a .pending) (drop (a .read) (a .sentence .now))) h _ (a .from) (a .to) goes (c .run2 .result) (c .run2 .ensures .0),
-      taken-further (grammarOf (a .file .now)) (a .sentence .now) (a .trace .now) (a .k) (stateOf (a .q .now) (a .from) (a .to) (a .made) (a .pending) (drop (a .read) (a .sentence .now))) h _ (a .from) (a .to) goes (a .taken .now) (c .run2 .last .1 .1 .1 .1 .1 .1 .1 .1 .1 .1 .1 .0) (c .before .before .before .owner2 .result) (c .before .before .before .owner2 .ensures ∙ sym (ap frontOwner (row-head (a .q .now) (a .from) (a .to) (p .2) (goes .fronted)))) (c .run2 .ensures .1),
-    )
+    let h = c .before .before .before .before .before .before .before .before .before .before .before .if1 .left in
+    record {
+      answer = verdict-further (grammarOf (a .file .now)) (a .sentence .now) (a .trace .now) (a .k) (stateOf (a .q .now) (a .from) (a .to) (a .made) (a .pending) (drop (a .read) (a .sentence .now))) h _ (a .from) (a .to) goes (c .run2 .result) (c .run2 .ensures .answer);
+      taken = taken-further (grammarOf (a .file .now)) (a .sentence .now) (a .trace .now) (a .k) (stateOf (a .q .now) (a .from) (a .to) (a .made) (a .pending) (drop (a .read) (a .sentence .now))) h _ (a .from) (a .to) goes (a .taken .now) (c .run2 .last .1 .1 .1 .1 .1 .1 .1 .1 .1 .1 .1 .0) (c .before .before .before .owner2 .result) (c .before .before .before .owner2 .ensures ∙ sym (ap frontOwner (row-head (a .q .now) (a .from) (a .to) (p .2) (goes .fronted)))) (c .run2 .ensures .taken);
+    }
 
 pub +run-spec : {M : Type 1} → statement M
 +run-spec = close μ-run λ t. run-lts.spec (calls t)

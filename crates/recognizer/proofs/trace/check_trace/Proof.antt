@@ -68,7 +68,7 @@ returns-3 c =
     let R = traceRefusal g (a .sentence .now) (a .trace .now) in
     let n = length (a .trace .now) in
     after-pass G (W orElse R) n (c .run-trace .result) (passed G (rulesOf (a .file .now)) (c .before .before .before .before .before .before .before .read-grammar .result) (c .before .before .before .before .before .before .before .read-grammar .ensures) (c .before .before .before .before .before .enum-told .given .1))
-    (after-pass W R n (c .run-trace .result) (passed W 0 (c .before .before .before .before .sentence-refusal .result) (c .before .before .before .before .sentence-refusal .ensures) (c .before .before .enum-told3 .given .1)) (c .run-trace .ensures .0))
+    (after-pass W R n (c .run-trace .result) (passed W 0 (c .before .before .before .before .sentence-refusal .result) (c .before .before .before .before .sentence-refusal .ensures) (c .before .before .enum-told3 .given .1)) (c .run-trace .ensures .answer))
 
 pub check-trace-spec : {M : Type 1} → statement M
 check-trace-spec =

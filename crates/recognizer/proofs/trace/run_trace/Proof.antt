@@ -16,14 +16,14 @@ returns c =
     let a = c .before .before .before .before .args in
     let p = c .before .before .before .before .pre in
     let e = trace-long (a .file .now) (a .sentence .now) (a .trace .now) (p .0) (c .if1 .taken) in
-    (refused _ (length (a .trace .now)) (Refusal.Analysis 12 0) e, λ z. none-some (sym e ∙ z))
+    record { answer = refused _ (length (a .trace .now)) (Refusal.Analysis 12 0) e; taken = λ z. none-some (sym e ∙ z) }
 
 returns-2 : tie.Need-returns-2
 returns-2 c =
     let a = c .before .before .before .before .before .args in
     let p = c .before .before .before .before .before .pre in
     let e = trace-empty (a .file .now) (a .sentence .now) (a .trace .now) (p .0) (c .if2 .taken) in
-    (refused _ (length (a .trace .now)) (Refusal.Analysis 17 0) e, λ z. none-some (sym e ∙ z))
+    record { answer = refused _ (length (a .trace .now)) (Refusal.Analysis 17 0) e; taken = λ z. none-some (sym e ∙ z) }
 
 compile-requires : tie.Need-compile-requires
 compile-requires c κs = search needs
@@ -56,10 +56,11 @@ returns-3 c =
     let a = c .before .before .before .before .before .before .before .before .before .before .before .before .args in
     let p = c .before .before .before .before .before .before .before .before .before .before .before .before .pre in
     let q = c .before .before .before .before .first-row in
-    let first = c .before .before .before .before .before .start in (
-      begin-verdict (a .file .now) (a .sentence .now) (a .trace .now) (p .0) (c .before .before .before .before .before .before .before .before .if1 .left) (c .before .before .before .before .before .before .before .if2 .left) (q .result) (first .result .0) (first .ensures) (q .ensures .1) (c .run .result) (c .run .ensures .0),
-      begin-taken (a .file .now) (a .sentence .now) (a .trace .now) (p .0) (c .before .before .before .before .before .before .before .before .if1 .left) (c .before .before .before .before .before .before .before .if2 .left) (q .result) (first .result .0) (first .ensures) (q .ensures .1) (a .taken .now) (c .run .last .1 .1 .1 .1 .1 .1 .1 .1 .1 .1 .1 .0) (p .2) (c .run .ensures .1),
-    )
+    let first = c .before .before .before .before .before .start in
+    record {
+      answer = begin-verdict (a .file .now) (a .sentence .now) (a .trace .now) (p .0) (c .before .before .before .before .before .before .before .before .if1 .left) (c .before .before .before .before .before .before .before .if2 .left) (q .result) (first .result .0) (first .ensures) (q .ensures .1) (c .run .result) (c .run .ensures .answer);
+      taken = begin-taken (a .file .now) (a .sentence .now) (a .trace .now) (p .0) (c .before .before .before .before .before .before .before .before .if1 .left) (c .before .before .before .before .before .before .before .if2 .left) (q .result) (first .result .0) (first .ensures) (q .ensures .1) (a .taken .now) (c .run .last .1 .1 .1 .1 .1 .1 .1 .1 .1 .1 .1 .0) (p .2) (c .run .ensures .taken);
+    }
 
 pub run-trace-spec : {M : Type 1} → statement M
 run-trace-spec =
