@@ -1,4 +1,6 @@
-// The count of analyses, entry m, and the listing (document 01, "Counting and listing").
+// The count of analyses (document 01, "Counting and listing").
 mod calls;
 mod chain;
 mod search;
+
+pub use calls::count;
