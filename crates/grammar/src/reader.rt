@@ -51,10 +51,10 @@ fn read_blocks(file: &[u8], n: u16) -> Verdict
     ensures { λ v. ⌜ v ≡ verdict (fromBlocks (now (file .entry))) (rulesOf (now (file .entry))) ⌝ }
 {
     let checks = check_refusal(file, n);
+    let kinds = block_refusal(file, n);
     let Verdict::Accepted(_) = checks else {
         return checks;
     };
-    let kinds = block_refusal(file, n);
     let Verdict::Accepted(_) = kinds else {
         return kinds;
     };

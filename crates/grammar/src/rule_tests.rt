@@ -14,21 +14,21 @@ use model::Refusal;
 use model::RuleNumber;
 use model::Verdict;
 
-// Refusals 6 to 9 of record e at place i.
-pub fn record_refusal(dimensions: &[u8], words: u16, e: &[u8], i: u16) -> Verdict
-    ensures { λ r. ⌜ r ≡ tested (recordTests (now (dimensions .entry)) words (now (e .entry)) i) ⌝ }
+// Refusals 6 to 9 of record e, which is that of rule r.
+pub fn record_refusal(dimensions: &[u8], words: u16, e: &[u8], r: RuleNumber) -> Verdict
+    ensures { λ v. ⌜ v ≡ tested (recordTests (now (dimensions .entry)) words (now (e .entry)) (r .0)) ⌝ }
 {
     if wrong_category(dimensions, e) {
-        return Verdict::Refused(Refusal::Grammar(6, i));
+        return Verdict::Refused(Refusal::Grammar(6, r.0));
     }
     if wrong_word(dimensions, e, words) {
-        return Verdict::Refused(Refusal::Grammar(7, i));
+        return Verdict::Refused(Refusal::Grammar(7, r.0));
     }
     if wrong_variables(dimensions, e) {
-        return Verdict::Refused(Refusal::Grammar(8, i));
+        return Verdict::Refused(Refusal::Grammar(8, r.0));
     }
     if unused_set(dimensions, e) {
-        return Verdict::Refused(Refusal::Grammar(9, i));
+        return Verdict::Refused(Refusal::Grammar(9, r.0));
     }
     Verdict::Accepted(0)
 }
@@ -53,7 +53,7 @@ fn repeated_rule(file: &[u8], r: RuleNumber) -> bool
 fn rule_refusal(file: &[u8], r: RuleNumber) -> Verdict
     ensures { λ v. ⌜ v ≡ tested (ruleRefusal (now (file .entry)) (r .0)) ⌝ }
 {
-    let v = record_refusal(dimensions(file), words(file), record_of(file, r), r.0);
+    let v = record_refusal(dimensions(file), words(file), record_of(file, r), r);
     let Verdict::Accepted(_) = v else {
         return v;
     };

@@ -15,6 +15,9 @@ use Rattle.grammar.proofs.reader.read_blocks.Tie as tie
 check-refusal-requires : tie.Need-check-refusal-requires
 check-refusal-requires c κs = search needs
 
+block-refusal-requires : tie.Need-block-refusal-requires
+block-refusal-requires c κs = search needs
+
 enum-told : tie.Need-enum-told
 enum-told c = search needs
 
@@ -23,16 +26,13 @@ enum-told-2 c = search needs
 
 returns : tie.Need-returns
 returns c =
-    let file = c .before .before .before .before .args .file .now in
+    let file = c .before .before .before .before .before .args .file .now in
     let rules = rulesOf file in
     let checks = checkRefusal file (blocks file) in
     let kinds = blockRefusal file (blocks file) in
     let heading = refuseIf (wrongHeading file) (Refusal.Grammar 4 0) in
-    let u = c .before .before .check-refusal .ensures ∙ ap (λ (k : ℕ). tested (checkRefusal file k)) (c .before .before .before .before .pre) in
+    let u = c .before .before .before .check-refusal .ensures ∙ ap (λ (k : ℕ). tested (checkRefusal file k)) (c .before .before .before .before .before .pre) in
     c .enum-told2 .given .1 ∙ sym (join-stop checks (kinds orElse heading orElse fromCounts file) rules (some-by checks (sym u ∙ c .enum-told2 .given .1)))
-
-block-refusal-requires : tie.Need-block-refusal-requires
-block-refusal-requires c κs = search needs
 
 enum-told-3 : tie.Need-enum-told-3
 enum-told-3 c = search needs
@@ -48,8 +48,8 @@ returns-2 c =
     let kinds = blockRefusal file (blocks file) in
     let heading = refuseIf (wrongHeading file) (Refusal.Grammar 4 0) in
     let u = c .before .before .before .before .before .check-refusal .ensures ∙ ap (λ (k : ℕ). tested (checkRefusal file k)) (c .before .before .before .before .before .before .before .pre) in
-    let one = join-pass checks (kinds orElse heading orElse fromCounts file) rules (none-by checks (sym u ∙ c .before .before .before .enum-told .given .1)) in
-    let v = c .before .before .block-refusal .ensures ∙ ap (λ (k : ℕ). tested (blockRefusal file k)) (c .before .before .before .before .before .before .before .pre) in
+    let one = join-pass checks (kinds orElse heading orElse fromCounts file) rules (none-by checks (sym u ∙ c .before .before .enum-told .given .1)) in
+    let v = c .before .before .before .before .block-refusal .ensures ∙ ap (λ (k : ℕ). tested (blockRefusal file k)) (c .before .before .before .before .before .before .before .pre) in
     c .enum-told4 .given .1 ∙ sym (one ∙ join-stop kinds (heading orElse fromCounts file) rules (some-by kinds (sym v ∙ c .enum-told4 .given .1)))
 
 wrong-heading-requires : tie.Need-wrong-heading-requires
@@ -63,8 +63,8 @@ returns-3 c =
     let kinds = blockRefusal file (blocks file) in
     let heading = refuseIf (wrongHeading file) (Refusal.Grammar 4 0) in
     let u = c .before .before .before .before .before .before .before .check-refusal .ensures ∙ ap (λ (k : ℕ). tested (checkRefusal file k)) (c .before .before .before .before .before .before .before .before .before .pre) in
-    let one = join-pass checks (kinds orElse heading orElse fromCounts file) rules (none-by checks (sym u ∙ c .before .before .before .before .before .enum-told .given .1)) in
-    let v = c .before .before .before .before .block-refusal .ensures ∙ ap (λ (k : ℕ). tested (blockRefusal file k)) (c .before .before .before .before .before .before .before .before .before .pre) in
+    let one = join-pass checks (kinds orElse heading orElse fromCounts file) rules (none-by checks (sym u ∙ c .before .before .before .before .enum-told .given .1)) in
+    let v = c .before .before .before .before .before .before .block-refusal .ensures ∙ ap (λ (k : ℕ). tested (blockRefusal file k)) (c .before .before .before .before .before .before .before .before .before .pre) in
     let two = join-pass kinds (heading orElse fromCounts file) rules (none-by kinds (sym v ∙ c .before .before .enum-told3 .given .1)) in
     let wrong = refuse-on (wrongHeading file) (Refusal.Grammar 4 0) (sym (c .before .wrong-heading .ensures) ∙ c .if1 .taken) in
     sym (one ∙ two ∙ join-stop heading (fromCounts file) rules wrong)
@@ -80,8 +80,8 @@ returns-4 c =
     let kinds = blockRefusal file (blocks file) in
     let heading = refuseIf (wrongHeading file) (Refusal.Grammar 4 0) in
     let u = c .before .before .before .before .before .before .before .before .check-refusal .ensures ∙ ap (λ (k : ℕ). tested (checkRefusal file k)) (c .before .before .before .before .before .before .before .before .before .before .pre) in
-    let one = join-pass checks (kinds orElse heading orElse fromCounts file) rules (none-by checks (sym u ∙ c .before .before .before .before .before .before .enum-told .given .1)) in
-    let v = c .before .before .before .before .before .block-refusal .ensures ∙ ap (λ (k : ℕ). tested (blockRefusal file k)) (c .before .before .before .before .before .before .before .before .before .before .pre) in
+    let one = join-pass checks (kinds orElse heading orElse fromCounts file) rules (none-by checks (sym u ∙ c .before .before .before .before .before .enum-told .given .1)) in
+    let v = c .before .before .before .before .before .before .before .block-refusal .ensures ∙ ap (λ (k : ℕ). tested (blockRefusal file k)) (c .before .before .before .before .before .before .before .before .before .before .pre) in
     let two = join-pass kinds (heading orElse fromCounts file) rules (none-by kinds (sym v ∙ c .before .before .before .enum-told3 .given .1)) in
     let right = refuse-off (wrongHeading file) (Refusal.Grammar 4 0) (sym (c .before .before .wrong-heading .ensures) ∙ c .before .if1 .left) in
     c .read-counts .ensures ∙ sym (one ∙ two ∙ join-pass heading (fromCounts file) rules right)
@@ -91,10 +91,10 @@ read-blocks-spec =
     tie.close
     (tie.spec
     check-refusal-requires
+    block-refusal-requires
     enum-told
     enum-told-2
     returns
-    block-refusal-requires
     enum-told-3
     enum-told-4
     returns-2

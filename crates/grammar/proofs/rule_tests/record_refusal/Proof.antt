@@ -1,8 +1,6 @@
 -- `grammar::record_refusal` meets its contract.
 -- Assumes nothing.
-use mathlib.Core.Path.{_≡_, sym}
-use mathlib.Core.Bool.{true, false}
-use Rattle.model.specs.GrammarFile.{wrongCategory, wrongWord, wrongVariables, unusedSet}
+use mathlib.Core.Path.{sym, _∙_}
 use borrow.Author.Needs.{needs}
 use Rattle.grammar.proofs.rule_tests.record_refusal.Statement.{statement}
 use Rattle.grammar.proofs.rule_tests.record_refusal.Tie as tie
@@ -12,9 +10,7 @@ wrong-category-requires c κs = search needs
 
 returns : tie.Need-returns
 returns c =
-    let d = c .before .before .before .before .args .dimensions .now in
-    let e = c .before .before .before .before .args .e .now in
-    let category : wrongCategory d e ≡ true = cc in
+    let category = sym (c .before .wrong-category .ensures) ∙ c .if1 .taken in
     sym (rw (category))
 
 wrong-word-requires : tie.Need-wrong-word-requires
@@ -22,10 +18,8 @@ wrong-word-requires c κs = search needs
 
 returns-2 : tie.Need-returns-2
 returns-2 c =
-    let d = c .before .before .before .before .before .before .args .dimensions .now in
-    let e = c .before .before .before .before .before .before .args .e .now in
-    let category : wrongCategory d e ≡ false = cc in
-    let word : wrongWord d e (c .before .before .before .before .before .before .args .words) ≡ true = cc in
+    let category = sym (c .before .before .before .wrong-category .ensures) ∙ c .before .before .if1 .left in
+    let word = sym (c .before .wrong-word .ensures) ∙ c .if2 .taken in
     sym (rw (category, word))
 
 wrong-variables-requires : tie.Need-wrong-variables-requires
@@ -33,11 +27,9 @@ wrong-variables-requires c κs = search needs
 
 returns-3 : tie.Need-returns-3
 returns-3 c =
-    let d = c .before .before .before .before .before .before .before .before .args .dimensions .now in
-    let e = c .before .before .before .before .before .before .before .before .args .e .now in
-    let category : wrongCategory d e ≡ false = cc in
-    let word : wrongWord d e (c .before .before .before .before .before .before .before .before .args .words) ≡ false = cc in
-    let variables : wrongVariables d e ≡ true = cc in
+    let category = sym (c .before .before .before .before .before .wrong-category .ensures) ∙ c .before .before .before .before .if1 .left in
+    let word = sym (c .before .before .before .wrong-word .ensures) ∙ c .before .before .if2 .left in
+    let variables = sym (c .before .wrong-variables .ensures) ∙ c .if3 .taken in
     sym (rw (category, word, variables))
 
 unused-set-requires : tie.Need-unused-set-requires
@@ -45,22 +37,18 @@ unused-set-requires c κs = search needs
 
 returns-4 : tie.Need-returns-4
 returns-4 c =
-    let d = c .before .before .before .before .before .before .before .before .before .before .args .dimensions .now in
-    let e = c .before .before .before .before .before .before .before .before .before .before .args .e .now in
-    let category : wrongCategory d e ≡ false = cc in
-    let word : wrongWord d e (c .before .before .before .before .before .before .before .before .before .before .args .words) ≡ false = cc in
-    let variables : wrongVariables d e ≡ false = cc in
-    let unused : unusedSet d e ≡ true = cc in
+    let category = sym (c .before .before .before .before .before .before .before .wrong-category .ensures) ∙ c .before .before .before .before .before .before .if1 .left in
+    let word = sym (c .before .before .before .before .before .wrong-word .ensures) ∙ c .before .before .before .before .if2 .left in
+    let variables = sym (c .before .before .before .wrong-variables .ensures) ∙ c .before .before .if3 .left in
+    let unused = sym (c .before .unused-set .ensures) ∙ c .if4 .taken in
     sym (rw (category, word, variables, unused))
 
 returns-5 : tie.Need-returns-5
 returns-5 c =
-    let d = c .before .before .before .before .before .before .before .before .before .before .args .dimensions .now in
-    let e = c .before .before .before .before .before .before .before .before .before .before .args .e .now in
-    let category : wrongCategory d e ≡ false = cc in
-    let word : wrongWord d e (c .before .before .before .before .before .before .before .before .before .before .args .words) ≡ false = cc in
-    let variables : wrongVariables d e ≡ false = cc in
-    let unused : unusedSet d e ≡ false = cc in
+    let category = sym (c .before .before .before .before .before .before .before .wrong-category .ensures) ∙ c .before .before .before .before .before .before .if1 .left in
+    let word = sym (c .before .before .before .before .before .wrong-word .ensures) ∙ c .before .before .before .before .if2 .left in
+    let variables = sym (c .before .before .before .wrong-variables .ensures) ∙ c .before .before .if3 .left in
+    let unused = sym (c .before .unused-set .ensures) ∙ c .if4 .left in
     sym (rw (category, word, variables, unused))
 
 pub record-refusal-spec : {M : Type 1} → statement M
