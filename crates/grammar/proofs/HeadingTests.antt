@@ -1,14 +1,14 @@
 -- The tests of the heading one by one.
 -- Assumes nothing.
-use mathlib.Core.Path.{_≡_, refl, sym, ap, ap₂, _∙_}
+use mathlib.Core.Path.{_≡_, sym, ap, _∙_}
 use mathlib.Core.Bool.{Bool, true, false, _&&_, not}
 use mathlib.Core.List.{List}
-use Prim.Native.Nat.{ℕ, _+_, _-_, _<_, _≤_}
+use Prim.Native.Nat.{ℕ, _<_, _≤_}
 use native.Mathlib.Omega.{arith}
 use borrow.Author.Tests.{lt-ltb, le-ltb}
 use lib.Dec.{eqb}
 use Rattle.model.specs.Base.{every}
-use Rattle.model.specs.GrammarFile.{within, allZero, fields, categoriesOf, startOf, wordsOf, rulesOf, dimensionsOf, dimensionIn, wrongHeading}
+use Rattle.model.specs.GrammarFile.{within, categoriesOf, startOf, dimensionsOf, dimensionIn, wrongHeading}
 use Rattle.grammar.specs.Reading.{numbersRight, startRight, unusedRight}
 
 -- joined tests: the first that fails, or the rest

@@ -1,7 +1,7 @@
 -- The part of a list from a place on: where it ends early, and what stands in it.
 -- Assumes nothing.
-use mathlib.Core.Path.{_≡_, refl, sym, ap, _∙_}
-use mathlib.Core.List.{List, [], _∷_}
+use mathlib.Core.Path.{_≡_, sym, ap, _∙_}
+use mathlib.Core.List.{List}
 use Prim.Native.Nat.{ℕ, _+_, _-_, _*_, _<_, _≤_}
 use native.Mathlib.Omega.{arith}
 use lib.ListN.{length, getD, take, drop, length-drop, length-take, drop-of-length-le, List·getD-eq-default}
@@ -22,6 +22,9 @@ module _ (bytes : List ℕ) (i n : ℕ) where
 
   pub part-length : length (fields bytes i n) ≤ n
   part-length = simp length-take (omega arith)
+
+  pub part-full : i + n ≤ length bytes → length (fields bytes i n) ≡ n
+  part-full h = simp (length-take, length-drop) (omega arith)
 
   pub part-at : (j : ℕ) → j < n → getD (fields bytes i n) j 0 ≡ getD bytes (i + j) 0
   part-at j h = rw (getD-take, getD-drop)

@@ -1,12 +1,12 @@
 -- The tests of one record one by one: refusals 6 to 9.
 -- Assumes nothing.
 use mathlib.Core.Path.{_≡_, refl, sym, ap, _∙_}
-use mathlib.Core.Bool.{Bool, true, false, _&&_, _||_, not}
+use mathlib.Core.Bool.{Bool, true, false, _&&_, not}
 use mathlib.Core.List.{List, [], _∷_, _++_}
 use Prim.Native.Nat.{ℕ, _+_, _-_, _<_, _≤_}
 use native.Mathlib.Omega.{arith}
 use borrow.Author.Tests.{lt-ltb, le-ltb, lt-leb, le-leb, eq-eqb, ne-eqb}
-use lib.Dec.{eqb, ltb, leb}
+use lib.Dec.{eqb, leb}
 use lib.ListN.{length}
 use Rattle.model.specs.Base.{every, anyBelow, total}
 use Rattle.model.specs.GrammarFile.{allZero, fields, field, wordOf, dimensionIn, lengthsOf, variables, wrongCategory, wrongWord, eachOnce, wrongVariables, unusedSet}
@@ -26,6 +26,12 @@ zero-first a b t = every-append (eqb 0) a b ∙ ap (λ (x : Bool). x && allZero 
 
 pub zero-rest : (a b : List ℕ) → allZero a ≡ true → allZero (a ++ b) ≡ allZero b
 zero-rest a b t = every-append (eqb 0) a b ∙ ap (λ (x : Bool). x && allZero b) t
+
+-- the bytes from place `from` + k on, up to `all` places, of which k are used
+pub zero-part : (e : List ℕ) (from all : ℕ) {n m k : ℕ} {r : Bool} → r ≡ allZero (fields e (from + n) m) → m ≡ all - n → n ≡ k
+    → allZero (fields e (from + k) (all - k)) ≡ r
+zero-part e from all {n} {m} {k} is left used =
+    sym (is ∙ ap (λ (x : ℕ). allZero (fields e (from + n) x)) left ∙ ap (λ (x : ℕ). allZero (fields e (from + x) (all - x))) used)
 
 module _ (dimensions e : List ℕ) where
   -- refusal 6

@@ -1,15 +1,13 @@
 -- Refusals 6 to 9 of a record, and with refusal 10 those of a rule.
 -- Assumes nothing.
 use mathlib.Core.Path.{_≡_, refl, sym, ap, _∙_}
-use mathlib.Core.Bool.{Bool, true, false}
 use mathlib.Core.List.{List}
 use mathlib.Core.Option.{Option, none, some}
 use Prim.Native.Nat.{ℕ}
 use Rattle.model.specs.declared.Refusal.{Refusal}
-use Rattle.model.specs.declared.Verdict.{Verdict}
 use Rattle.model.specs.declared.Verdict.the-variants.{Accepted, Refused}
 use Rattle.model.specs.Base.{_orElse_}
-use Rattle.model.specs.Verdict.{refuseIf, verdict}
+use Rattle.model.specs.Verdict.{refuseIf}
 use Rattle.model.specs.GrammarFile.{dimensionsOf, wordsOf, recordOf, wrongCategory, wrongWord, wrongVariables, unusedSet, repeated, ruleRefusal}
 use Rattle.grammar.specs.Reading.{tested, recordTests}
 use Rattle.grammar.proofs.Answers.{none-by, some-by, join-stop, join-pass}

@@ -1,8 +1,8 @@
 // Where things stand in a grammar file, and its fields, read where they lie. Each is the field of the list of bytes, whatever the list; for a file that
-// the reader accepts it is the part of the grammar (proofs/Fields).
+// the reader accepts it is the part of the grammar (proofs/OfGrammar).
 ghost use mathlib.Core.Path.{_≡_};
-ghost use Prim.Native.Nat.{_+_, _*_, _/_, _%_};
-ghost use Rattle.model.specs.GrammarFile.{categoriesOf, startOf, wordsOf, rulesOf, dimensionsOf, dimensionIn, recordPlace, recordOf, field, wordOf};
+ghost use Prim.Native.Nat.{_+_};
+ghost use Rattle.model.specs.GrammarFile.{categoriesOf, startOf, wordsOf, rulesOf, dimensionsOf, dimensionIn, recordPlace, recordOf, field};
 use crate::bytes::byte;
 use crate::bytes::fields;
 use crate::bytes::two_bytes;

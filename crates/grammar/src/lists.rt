@@ -1,6 +1,6 @@
 // Tests and sums over a whole list of bytes.
 ghost use mathlib.Core.Path.{_≡_};
-ghost use Prim.Native.Nat.{_<_, _≤_};
+ghost use Prim.Native.Nat.{_<_};
 ghost use lib.ListN.{length};
 ghost use Rattle.model.specs.Base.{occurrences, total};
 ghost use Rattle.model.specs.GrammarFile.{allZero, fields, weighted, sameRecord};

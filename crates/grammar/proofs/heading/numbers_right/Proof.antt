@@ -1,10 +1,8 @@
 -- `grammar::numbers_right` meets its contract.
 -- Assumes nothing.
 use mathlib.Core.Path.{sym, ap, _∙_}
-use mathlib.Core.Bool.{_&&_}
 use borrow.Author.Tests.{not-true, not-false}
-use Rattle.model.specs.GrammarFile.{within, categoriesOf, wordsOf, rulesOf}
-use Rattle.grammar.proofs.HeadingTests.{and-first, and-rest}
+use Rattle.model.specs.GrammarFile.{within}
 use borrow.Author.Needs.{needs}
 use Rattle.grammar.proofs.heading.numbers_right.Statement.{statement}
 use Rattle.grammar.proofs.heading.numbers_right.Tie as tie

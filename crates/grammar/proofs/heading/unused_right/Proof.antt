@@ -1,8 +1,8 @@
 -- `grammar::unused_right` meets its contract.
 -- Assumes nothing.
-use mathlib.Core.Path.{sym, _∙_}
+use mathlib.Core.Path.{sym, ap, _∙_}
 use borrow.Author.Tests.{not-true, not-false}
-use Prim.Native.Nat.{_+_, _-_}
+use Prim.Native.Nat.{ℕ, _+_, _-_}
 use Rattle.model.specs.GrammarFile.{allZero, fields, categoriesOf}
 use Rattle.grammar.proofs.HeadingTests.{and-first, and-rest}
 use borrow.Author.Needs.{needs}
@@ -37,8 +37,9 @@ returns-2 : tie.Need-returns-2
 returns-2 c =
     let file = c .before .before .before .before .before .before .args .file .now in
     let low = sym (c .before .before .before .before .zeros .ensures) ∙ not-false (c .before .before .before .before .zeros .result) (c .before .before .before .if1 .left) in
-    let all = and-rest (allZero (fields file 9 7)) (allZero (fields file (16 + categoriesOf file) (508 - (16 + categoriesOf file)))) low in
-    cc
+    c .zeros2 .ensures ∙ ap (λ (n : ℕ). allZero (fields file (16 + c .before .before .categories .result) n)) (c .before .less .ensures)
+    ∙ ap (λ (n : ℕ). allZero (fields file (16 + n) (508 - (16 + n)))) (c .before .before .categories .ensures)
+    ∙ sym (and-rest (allZero (fields file 9 7)) (allZero (fields file (16 + categoriesOf file) (508 - (16 + categoriesOf file)))) low)
 
 pub unused-right-spec : {M : Type 1} → statement M
 unused-right-spec =

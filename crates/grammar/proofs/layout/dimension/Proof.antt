@@ -1,6 +1,6 @@
 -- `grammar::dimension` meets its contract.
 -- Assumes nothing.
-use mathlib.Core.Path.{_≡_, sym, _∙_}
+use mathlib.Core.Path.{sym, _∙_}
 use Rattle.model.specs.GrammarFile.{categoriesOf}
 use Rattle.grammar.proofs.Parts.{part-at, part-past}
 use native.Mathlib.Omega.{arith}

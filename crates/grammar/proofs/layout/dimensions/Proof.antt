@@ -1,7 +1,6 @@
 -- `grammar::dimensions` meets its contract.
 -- Assumes nothing.
-use mathlib.Core.Path.{_≡_, ap, _∙_}
-use Prim.Native.Nat.{ℕ}
+use mathlib.Core.Path.{ap, _∙_}
 use Rattle.model.specs.GrammarFile.{fields}
 use borrow.Author.Needs.{needs}
 use Rattle.grammar.proofs.layout.dimensions.Statement.{statement}

@@ -2,7 +2,7 @@
 -- Assumes nothing.
 use Prim.Native.Nat.{ℕ, _+_}
 use lib.ListN.{getD}
-use mathlib.Core.Path.{_≡_, sym, ap, _∙_}
+use mathlib.Core.Path.{sym, ap, _∙_}
 use Rattle.model.specs.GrammarFile.{recordPlace}
 use Rattle.grammar.proofs.Parts.{part-at, part-past}
 use native.Mathlib.Omega.{arith}

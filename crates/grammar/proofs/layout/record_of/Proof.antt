@@ -1,6 +1,6 @@
 -- `grammar::record_of` meets its contract.
 -- Assumes nothing.
-use mathlib.Core.Path.{_≡_, ap, _∙_}
+use mathlib.Core.Path.{ap, _∙_}
 use Prim.Native.Nat.{ℕ}
 use Rattle.model.specs.GrammarFile.{fields}
 use borrow.Author.Needs.{needs}

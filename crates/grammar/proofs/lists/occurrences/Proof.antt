@@ -1,8 +1,8 @@
 -- `grammar::occurrences` meets its contract. The loop keeps: what is found so far and what is from place i on are all.
 -- Assumes nothing.
-use mathlib.Core.Path.{_≡_, refl, sym, _∙_}
+use mathlib.Core.Path.{_≡_}
 use mathlib.Core.Logic.{⊎-elim}
-use Prim.Native.Nat.{_≤_, _<_, _-_, _+_, _*_}
+use Prim.Native.Nat.{_≤_, _-_, _+_}
 use lib.ListN.{length, drop}
 use Rattle.grammar.proofs.Walks.{found-here, found-later, found-end}
 use borrow.Author.Needs.{needs}

@@ -1,7 +1,7 @@
 -- `grammar::same_record` meets its contract. The loop keeps: the records are the same if they are from byte i on.
 -- Assumes nothing.
 use mathlib.Core.Path.{_≡_, refl, sym, _∙_}
-use Prim.Native.Nat.{_≤_, _<_, _-_, _+_, _*_}
+use Prim.Native.Nat.{_≤_, _-_}
 use lib.ListN.{length, drop}
 use Rattle.model.specs.Base.{sameList}
 use Rattle.grammar.proofs.Walks.{same-here, differs-here, same-end, same-length}

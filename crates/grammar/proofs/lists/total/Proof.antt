@@ -1,6 +1,6 @@
 -- `grammar::total` meets its contract. The loop keeps: the sum so far and the sum from place i on are the whole.
 -- Assumes nothing.
-use mathlib.Core.Path.{_≡_, refl, sym, _∙_}
+use mathlib.Core.Path.{_≡_}
 use Prim.Native.Nat.{_≤_, _<_, _-_, _+_, _*_}
 use lib.ListN.{length, drop}
 use Rattle.grammar.proofs.Walks.{total-more, total-end}

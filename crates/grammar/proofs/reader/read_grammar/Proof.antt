@@ -1,6 +1,6 @@
 -- `grammar::read_grammar` meets its contract.
 -- Assumes nothing.
-use mathlib.Core.Path.{_≡_, sym, _∙_}
+use mathlib.Core.Path.{sym, _∙_}
 use Rattle.model.specs.declared.Refusal.{Refusal}
 use Rattle.model.specs.Verdict.{refuseIf}
 use Rattle.model.specs.GrammarFile.{rulesOf, wrongLength}

@@ -1,6 +1,6 @@
 -- `grammar::read_rules` meets its contract.
 -- Assumes nothing.
-use mathlib.Core.Path.{_≡_, sym, ap, _∙_}
+use mathlib.Core.Path.{sym, ap, _∙_}
 use mathlib.Core.Option.{Option}
 use Rattle.model.specs.declared.Verdict.{Verdict}
 use Prim.Native.Nat.{ℕ}

@@ -1,10 +1,9 @@
 -- `grammar::nonlexical_unused` meets its contract.
 -- Assumes nothing.
-use mathlib.Core.Path.{_≡_, sym, _∙_}
-use mathlib.Core.Bool.{true, false}
+use mathlib.Core.Path.{sym, ap, _∙_}
 use borrow.Author.Tests.{not-true, not-false}
-use Rattle.model.specs.GrammarFile.{allZero}
-use Rattle.grammar.proofs.RecordTests.{daughterPart, wordPart, lengthPart, variablePart, daughters-set, word-set, lengths-set, variables-left}
+use Rattle.model.specs.GrammarFile.{dimensionIn}
+use Rattle.grammar.proofs.RecordTests.{zero-part, daughters-set, word-set, lengths-set, variables-left}
 use borrow.Author.Needs.{needs}
 use Rattle.grammar.proofs.record_tests.nonlexical_unused.Statement.{statement}
 use Rattle.grammar.proofs.record_tests.nonlexical_unused.Tie as tie
@@ -28,8 +27,7 @@ returns : tie.Need-returns
 returns c =
     let e = c .before .before .before .before .before .before .args .e .now in
     let dims = c .before .before .before .before .before .before .args .dimensions .now in
-    let t1 = not-true (c .before .zeros .result) (c .if1 .taken) in
-    let d : allZero (daughterPart dims e) ≡ false = cc in
+    let d = zero-part e 2 3 (c .before .zeros .ensures) (c .before .before .less .ensures) (c .before .before .before .record-daughters .ensures) ∙ not-true (c .before .zeros .result) (c .if1 .taken) in
     sym (daughters-set dims e d)
 
 zeros-requires-2 : tie.Need-zeros-requires-2
@@ -39,10 +37,8 @@ returns-2 : tie.Need-returns-2
 returns-2 c =
     let e = c .before .before .before .before .before .before .before .before .args .e .now in
     let dims = c .before .before .before .before .before .before .before .before .args .dimensions .now in
-    let t1 = not-false (c .before .before .before .zeros .result) (c .before .before .if1 .left) in
-    let d : allZero (daughterPart dims e) ≡ true = cc in
-    let t2 = not-true (c .before .zeros2 .result) (c .if2 .taken) in
-    let w : allZero (wordPart dims e) ≡ false = cc in
+    let d = zero-part e 2 3 (c .before .before .before .zeros .ensures) (c .before .before .before .before .less .ensures) (c .before .before .before .before .before .record-daughters .ensures) ∙ not-false (c .before .before .before .zeros .result) (c .before .before .if1 .left) in
+    let w = sym (c .before .zeros2 .ensures) ∙ not-true (c .before .zeros2 .result) (c .if2 .taken) in
     sym (word-set dims e d w)
 
 record-category-requires : tie.Need-record-category-requires
@@ -67,12 +63,9 @@ returns-3 : tie.Need-returns-3
 returns-3 c =
     let e = c .before .before .before .before .before .before .before .before .before .before .before .before .before .args .e .now in
     let dims = c .before .before .before .before .before .before .before .before .before .before .before .before .before .args .dimensions .now in
-    let t1 = not-false (c .before .before .before .before .before .before .before .before .zeros .result) (c .before .before .before .before .before .before .before .if1 .left) in
-    let d : allZero (daughterPart dims e) ≡ true = cc in
-    let t2 = not-false (c .before .before .before .before .before .before .zeros2 .result) (c .before .before .before .before .before .if2 .left) in
-    let w : allZero (wordPart dims e) ≡ true = cc in
-    let t3 = not-true (c .before .zeros3 .result) (c .if3 .taken) in
-    let l : allZero (lengthPart dims e) ≡ false = cc in
+    let d = zero-part e 2 3 (c .before .before .before .before .before .before .before .before .zeros .ensures) (c .before .before .before .before .before .before .before .before .before .less .ensures) (c .before .before .before .before .before .before .before .before .before .before .record-daughters .ensures) ∙ not-false (c .before .before .before .before .before .before .before .before .zeros .result) (c .before .before .before .before .before .before .before .if1 .left) in
+    let w = sym (c .before .before .before .before .before .before .zeros2 .ensures) ∙ not-false (c .before .before .before .before .before .before .zeros2 .result) (c .before .before .before .before .before .if2 .left) in
+    let l = zero-part e 7 4 (c .before .zeros3 .ensures) (c .before .before .less2 .ensures) (c .before .before .before .dimension-in .ensures ∙ ap (dimensionIn dims) (c .before .before .before .before .record-category .ensures)) ∙ not-true (c .before .zeros3 .result) (c .if3 .taken) in
     sym (lengths-set dims e d w l)
 
 variables-requires : tie.Need-variables-requires
@@ -94,14 +87,10 @@ returns-4 : tie.Need-returns-4
 returns-4 c =
     let e = c .before .before .before .before .before .before .before .before .before .before .before .before .before .before .before .before .args .e .now in
     let dims = c .before .before .before .before .before .before .before .before .before .before .before .before .before .before .before .before .args .dimensions .now in
-    let t1 = not-false (c .before .before .before .before .before .before .before .before .before .before .before .zeros .result) (c .before .before .before .before .before .before .before .before .before .before .if1 .left) in
-    let d : allZero (daughterPart dims e) ≡ true = cc in
-    let t2 = not-false (c .before .before .before .before .before .before .before .before .before .zeros2 .result) (c .before .before .before .before .before .before .before .before .if2 .left) in
-    let w : allZero (wordPart dims e) ≡ true = cc in
-    let t3 = not-false (c .before .before .before .before .zeros3 .result) (c .before .before .before .if3 .left) in
-    let l : allZero (lengthPart dims e) ≡ true = cc in
-    let last : c .zeros4 .result ≡ allZero (variablePart dims e) = cc in
-    last ∙ sym (variables-left dims e d w l)
+    let d = zero-part e 2 3 (c .before .before .before .before .before .before .before .before .before .before .before .zeros .ensures) (c .before .before .before .before .before .before .before .before .before .before .before .before .less .ensures) (c .before .before .before .before .before .before .before .before .before .before .before .before .before .record-daughters .ensures) ∙ not-false (c .before .before .before .before .before .before .before .before .before .before .before .zeros .result) (c .before .before .before .before .before .before .before .before .before .before .if1 .left) in
+    let w = sym (c .before .before .before .before .before .before .before .before .before .zeros2 .ensures) ∙ not-false (c .before .before .before .before .before .before .before .before .before .zeros2 .result) (c .before .before .before .before .before .before .before .before .if2 .left) in
+    let l = zero-part e 7 4 (c .before .before .before .before .zeros3 .ensures) (c .before .before .before .before .before .less2 .ensures) (c .before .before .before .before .before .before .dimension-in .ensures ∙ ap (dimensionIn dims) (c .before .before .before .before .before .before .before .record-category .ensures)) ∙ not-false (c .before .before .before .before .zeros3 .result) (c .before .before .before .if3 .left) in
+    sym (variables-left dims e d w l ∙ zero-part e 11 13 (c .zeros4 .ensures) (c .before .less3 .ensures) (c .before .before .variables .ensures))
 
 pub nonlexical-unused-spec : {M : Type 1} → statement M
 nonlexical-unused-spec =

@@ -1,7 +1,7 @@
 -- `grammar::wrong_daughter` meets its contract. The loop keeps: the daughters before j are categories.
 -- Assumes nothing.
 use mathlib.Core.Path.{_≡_, refl, sym, ap, _∙_}
-use mathlib.Core.Bool.{Bool, true, false}
+use mathlib.Core.Bool.{false}
 use Prim.Native.Nat.{ℕ, _≤_, _-_, _+_}
 use lib.Dec.{leb}
 use lib.ListN.{length}

@@ -1,10 +1,10 @@
 -- `grammar::wrong_variables` meets its contract.
 -- Assumes nothing.
-use mathlib.Core.Path.{_≡_, sym, ap, _∙_}
+use mathlib.Core.Path.{sym, ap, _∙_}
 use mathlib.Core.Bool.{not}
 use lib.ListN.{length}
 use Rattle.model.specs.Base.{total}
-use Rattle.model.specs.GrammarFile.{lengthsOf}
+use Rattle.model.specs.GrammarFile.{fields, dimensionIn}
 use Rattle.grammar.proofs.Parts.{part-length}
 use Rattle.grammar.proofs.RecordTests.{variables-lacking, lengths-wrong, once-left}
 use native.Mathlib.Omega.{arith}
@@ -43,7 +43,8 @@ returns-2 : tie.Need-returns-2
 returns-2 c =
     let dims = c .before .before .before .before .before .before .before .before .before .before .args .dimensions .now in
     let e = c .before .before .before .before .before .before .before .before .before .before .args .e .now in
-    let sum : c .before .before .total .result ≡ total (lengthsOf dims e) = cc in
+    let d = c .before .before .before .before .dimension-in .ensures ∙ ap (dimensionIn dims) (c .before .before .before .before .before .record-category .ensures) in
+    let sum = c .before .before .total .ensures ∙ ap total (c .before .before .before .fields .ensures ∙ ap (fields e 7) d) in
     sym (lengths-wrong dims e (λ z. c .before .before .before .before .before .before .if1 .left (c .before .before .before .before .before .before .before .record-daughters .ensures ∙ z)) (λ q. c .if2 .taken (sum ∙ q ∙ sym (c .before .variables .ensures))))
 
 each-once-requires : tie.Need-each-once-requires
@@ -53,7 +54,8 @@ returns-3 : tie.Need-returns-3
 returns-3 c =
     let dims = c .before .before .before .before .before .before .before .before .before .before .before .args .dimensions .now in
     let e = c .before .before .before .before .before .before .before .before .before .before .before .args .e .now in
-    let sum : c .before .before .before .total .result ≡ total (lengthsOf dims e) = cc in
+    let d = c .before .before .before .before .before .dimension-in .ensures ∙ ap (dimensionIn dims) (c .before .before .before .before .before .before .record-category .ensures) in
+    let sum = c .before .before .before .total .ensures ∙ ap total (c .before .before .before .before .fields .ensures ∙ ap (fields e 7) d) in
     ap not (c .each-once .ensures)
     ∙ sym (once-left dims e (λ z. c .before .before .before .before .before .before .before .if1 .left (c .before .before .before .before .before .before .before .before .record-daughters .ensures ∙ z)) (sym sum ∙ c .before .if2 .left ∙ c .before .before .variables .ensures))
 
