@@ -1,16 +1,16 @@
 -- The checks put into a buffer block by block, and the file that comes out.
 -- Assumes nothing.
 use mathlib.Core.Path.{_≡_, refl, sym, ap, _∙_}
-use mathlib.Core.List.{List, [], _∷_, _++_}
+use mathlib.Core.List.{List, [], _∷_}
 use Prim.Native.Nat.{ℕ, zero, suc, _+_, _-_, _*_, _/_, _%_, _<_, _≤_}
 use native.Mathlib.Omega.{arith}
 use native.Mathlib.Decide.{decLt, ℕ-discrete}
 use lib.ListN.{length, getD, set}
 use lib.Seq.{sets, length-sets, getD-set-same, getD-set-other}
-use Rattle.model.specs.GrammarFile.{fields, weighted, byteOf, checkOf, blocksFor}
+use Rattle.model.specs.GrammarFile.{weighted, byteOf, checkOf, blocksFor}
 use Rattle.model.specs.Writer.{Heading, little4, fileOf}
 use Rattle.model.proofs.ByteLists.{fields-same}
-use Rattle.model.proofs.WriterFile.{Written, file-written, same-file}
+use Rattle.model.proofs.WriterFile.{file-written, same-file}
 use Rattle.writer.specs.Writing.{Filled, Checked}
 
 -- four stores one after the other

@@ -2,11 +2,11 @@
 -- Assumes nothing.
 use mathlib.Core.Path.{_≡_, refl, sym, ap, _∙_}
 use mathlib.Core.List.{List, [], _∷_, _++_}
-use Prim.Native.Nat.{ℕ, zero, suc, _+_, _-_, _*_, _/_, _%_, _<_, _≤_}
+use Prim.Native.Nat.{ℕ, zero, suc, _+_, _-_, _*_, _<_, _≤_}
 use native.Mathlib.Omega.{arith}
 use native.Mathlib.Decide.{decLt, ℕ-discrete}
 use lib.Dec.{ltb}
-use lib.ListN.{length, getD, set, replicate, length-set, List·getD-append, List·getD-eq-default}
+use lib.ListN.{length, getD, set, replicate, List·getD-append, List·getD-eq-default}
 use lib.Seq.{getD-set-same, getD-set-other}
 use borrow.Author.Tests.{ltb-false}
 use mathlib.Core.Bool.{Bool, true, false}
@@ -14,7 +14,6 @@ use Rattle.model.specs.Base.{if_then_else_}
 use Rattle.model.specs.GrammarFile.{fields, recordsIn}
 use Rattle.model.specs.Writer.{Heading, little2, padded}
 use Rattle.model.proofs.ByteLists.{fields-at, after-front, padded-length, padded-at}
-use Rattle.model.proofs.WriterFile.{contentOf}
 use Rattle.grammar.proofs.Parts.{part-past}
 use Rattle.writer.specs.Writing.{ruleContent, contentAt}
 

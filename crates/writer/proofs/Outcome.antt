@@ -5,7 +5,6 @@ use mathlib.Core.Bool.{Bool, true, false, _&&_, not}
 use mathlib.Core.Option.{Option, none, some}
 use mathlib.Core.List.{List, _++_}
 use Prim.Native.Nat.{ℕ, _<_, _≤_, _*_}
-use native.Mathlib.Omega.{arith}
 use borrow.Author.Tests.{lt-ltb, le-ltb}
 use lib.Dec.{T, ltb, eqb, lt→ltb}
 use lib.ListN.{length, getD, drop}
@@ -17,7 +16,7 @@ use Rattle.model.specs.GrammarFile.{fields, blocksFor}
 use Rattle.model.specs.Writer.{Heading, allBytes, fitsFields, fileOf, writerRefusal}
 use Rattle.model.specs.Calls.{written, writeRefusal, writeVerdict, writeOutput}
 use Rattle.model.proofs.Tests.{every-by, and-both}
-use Rattle.model.proofs.Verdicts.{met, passed}
+use Rattle.model.proofs.Verdicts.{met}
 use Rattle.model.proofs.WriterFile.{file-length}
 use Rattle.model.proofs.WriterHeading.{wrongNumbers, writer-refusal}
 use Rattle.grammar.specs.Reading.{tested}

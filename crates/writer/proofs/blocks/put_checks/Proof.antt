@@ -1,8 +1,7 @@
 -- `writer::put_checks` meets its contract.
 -- Assumes nothing.
 use mathlib.Core.Path.{_≡_}
-use mathlib.Core.List.{List}
-use Prim.Native.Nat.{ℕ, _+_, _-_, _≤_}
+use Prim.Native.Nat.{_-_, _≤_}
 use native.Mathlib.Omega.{arith}
 use Rattle.writer.specs.Writing.{Checked}
 use Rattle.writer.proofs.Checks.{no-checks, checked-more}
