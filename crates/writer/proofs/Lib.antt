@@ -1,0 +1,4 @@
+pub mod Content
+pub mod Checks
+pub mod Tests
+pub mod Outcome

@@ -1,0 +1,76 @@
+// The writer: all tests in their order, and then the file.
+ghost use mathlib.Core.Path.{_≡_};
+ghost use Rattle.model.specs.Calls.{writeVerdict, writeOutput};
+ghost use Rattle.model.specs.Writer.{writerRefusal};
+ghost use Rattle.grammar.specs.Reading.{tested};
+ghost use Rattle.writer.specs.Writing.{heading};
+use crate::blocks::put_file;
+use crate::heading::wrong_numbers;
+use crate::records::records_refusal;
+use grammar::blocks_for;
+use grammar::fields;
+use model::Refusal;
+use model::Verdict;
+
+// Refusals 4 to 10 of what is given.
+fn given_refusal(
+    categories: u8,
+    start: u8,
+    words: u16,
+    rules: u16,
+    dimensions: &[u8],
+    records: &[u8],
+) -> Verdict
+    ensures { λ v. ⌜ v ≡ tested (writerRefusal (heading categories start words rules (now (dimensions .entry))) (now (records .entry))) ⌝ }
+{
+    if dimensions.len() != 64 {
+        return Verdict::Refused(Refusal::Grammar(4, 0));
+    }
+    if 256 < rules {
+        return Verdict::Refused(Refusal::Grammar(4, 0));
+    }
+    if wrong_numbers(categories, start, words, rules, dimensions) {
+        return Verdict::Refused(Refusal::Grammar(4, 0));
+    }
+    if records.len() != 24 * (rules as usize) {
+        return Verdict::Refused(Refusal::Grammar(5, 0));
+    }
+    records_refusal(
+        fields(dimensions, 0, categories as usize),
+        words,
+        records,
+        rules,
+    )
+}
+
+// The writer: refusals 4 to 10, 23; else the file's length, with the file at the front of the output.
+pub fn write_grammar(
+    categories: u8,
+    start: u8,
+    words: u16,
+    rules: u16,
+    dimensions: &[u8],
+    records: &[u8],
+    out: &mut [u8],
+) -> Verdict
+    ensures { λ v. ⌜ (v ≡ writeVerdict (heading categories start words rules (now (dimensions .entry))) (now (records .entry)) (now (out .entry))) × (now (out .exit) ≡ writeOutput (heading categories start words rules (now (dimensions .entry))) (now (records .entry)) (now (out .entry))) ⌝ }
+{
+    let given = given_refusal(categories, start, words, rules, dimensions, records);
+    let Verdict::Accepted(_) = given else {
+        return given;
+    };
+    let n = 512 * blocks_for(rules);
+    if out.len() < n {
+        return Verdict::Refused(Refusal::Desk(23, 0));
+    }
+    put_file(
+        categories,
+        start,
+        words,
+        rules,
+        dimensions,
+        records,
+        &mut out[0..n],
+    );
+    Verdict::Accepted(n as u64)
+}
