@@ -7,6 +7,7 @@ use grammar::fields;
 use grammar::record_refusal;
 use grammar::same_record;
 use model::Refusal;
+use model::RuleNumber;
 use model::Verdict;
 
 // Record i.
@@ -35,7 +36,7 @@ fn repeated_record(records: &[u8], i: u16) -> bool
 fn one_refusal(dimensions: &[u8], words: u16, records: &[u8], i: u16) -> Verdict
     ensures { λ v. ⌜ v ≡ tested (recordRefusal (now (dimensions .entry)) words (recordAt (now (records .entry))) i) ⌝ }
 {
-    let v = record_refusal(dimensions, words, record_at(records, i), i);
+    let v = record_refusal(dimensions, words, record_at(records, i), RuleNumber(i));
     let Verdict::Accepted(_) = v else {
         return v;
     };
