@@ -1,13 +1,25 @@
--- What the count tests before it searches, in its order.
+-- What the count and the call for an entry test before and after the search, in their order; and the numbers of an entry as the output holds them.
 -- Assumes nothing.
-use mathlib.Core.List.{List}
+use mathlib.Core.List.{List, map}
 use mathlib.Core.Option.{Option}
-use Prim.Native.Nat.{ℕ}
+use Prim.Native.Nat.{ℕ, _%_}
 use Rattle.model.specs.declared.Refusal.{Refusal}
 use Rattle.model.specs.Base.{_orElse_}
 use Rattle.model.specs.GrammarFile.{grammarRefusal, grammarOf}
 use Rattle.model.specs.Trace.{sentenceRefusal}
-use Rattle.model.specs.Counting.{limitsRefusal}
+use Rattle.model.specs.Counting.{limitsRefusal, effortRefusal, entryRefusal}
+use Rattle.model.specs.Calls.{roomRefusal}
 
 abbrev pub beforeSearch : List ℕ → List ℕ → ℕ → ℕ → Option Refusal
 beforeSearch file sentence n limit = grammarRefusal file orElse limitsRefusal n limit orElse sentenceRefusal (grammarOf file) sentence
+
+abbrev pub beforeEntry : List ℕ → List ℕ → ℕ → ℕ → List ℕ → Option Refusal
+beforeEntry file sentence n limit out =
+    grammarRefusal file orElse roomRefusal out orElse limitsRefusal n limit orElse sentenceRefusal (grammarOf file) sentence
+
+abbrev pub afterSearch : List ℕ → List ℕ → ℕ → ℕ → ℕ → Option Refusal
+afterSearch file sentence n limit m = effortRefusal (grammarOf file) sentence n limit orElse entryRefusal (grammarOf file) sentence n m
+
+-- 64-bit cells as 16-bit numbers
+abbrev pub lowWords : List ℕ → List ℕ
+lowWords l = map (λ x. x % 65536) l

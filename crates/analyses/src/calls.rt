@@ -2,15 +2,18 @@
 ghost use mathlib.Core.Option.{none};
 ghost use mathlib.Core.Path.{_≡_};
 ghost use Prim.Native.Nat.{_+_, _-_, _≤_};
-ghost use lib.ListN.{length, getD};
-ghost use Rattle.model.specs.Calls.{countCall};
-ghost use Rattle.model.specs.Counting.{limitsRefusal, effortRefusal, listing, count, effort};
+ghost use lib.ListN.{length, getD, drop};
+ghost use lib.Seq.{slice};
+ghost use mathlib.Core.List.{_++_};
+ghost use Rattle.model.specs.Calls.{countCall, entryVerdict, entryOutput, written};
+ghost use Rattle.model.specs.Counting.{limitsRefusal, effortRefusal, listing, count, effort, entry};
 ghost use Rattle.model.specs.GrammarFile.{grammarRefusal, grammarOf};
 ghost use Rattle.model.specs.Verdict.{verdict, countVerdict};
-ghost use Rattle.analyses.specs.Tests.{beforeSearch};
+ghost use Rattle.analyses.specs.Tests.{beforeSearch, beforeEntry, afterSearch, lowWords};
 ghost use Rattle.analyses.specs.Tally.{Searched};
 use crate::chain::chain_rules;
 use crate::search::search;
+use buffers::room_refusal;
 use grammar::read_grammar;
 use grammar::start;
 use model::CountVerdict;
@@ -97,4 +100,72 @@ pub fn count(file: &[u8], sentence: &[u16], n: u64, limit: u64) -> CountVerdict
         Verdict::Accepted(_) => counted(file, sentence, n, limit),
         Verdict::Refused(r) => CountVerdict::NotCounted(r),
     }
+}
+
+// Copies so many numbers of the sheet, from a cell on, to the front of the output.
+fn copy_entry(sheet: &[u64; 100], from: usize, steps: usize, out: &mut [u16])
+    requires { ⌜ (from + steps ≤ 100) × (steps ≤ length (now out)) × (length (now sheet) ≡ 100) ⌝ }
+    ensures { λ r. ⌜ now (out .exit) ≡ lowWords (slice from (from + steps) (now (sheet .entry))) ++ drop steps (now (out .entry)) ⌝ }
+{
+    let mut i: usize = 0;
+    while i < steps {
+        out[i] = (sheet[from + i] % 65536) as u16;
+        i += 1;
+    }
+}
+
+// Entry m of an accepted file and sentence, with limits in range and room in the output: refusals 25 and 26, or its steps.
+fn found_entry(
+    file: &[u8],
+    sentence: &[u16],
+    n: u64,
+    limit: u64,
+    m: u64,
+    out: &mut [u16],
+) -> Verdict
+    requires { ⌜ (grammarRefusal (now file) ≡ none) × (limitsRefusal n limit ≡ none) × (96 ≤ length (now out)) ⌝ }
+    ensures { λ v. ⌜ (v ≡ verdict (afterSearch (now (file .entry)) (now (sentence .entry)) n limit m) (length (entry (grammarOf (now (file .entry))) (now (sentence .entry)) n m))) × (now (out .exit) ≡ written (afterSearch (now (file .entry)) (now (sentence .entry)) n limit m) (entry (grammarOf (now (file .entry))) (now (sentence .entry)) n m) (now (out .entry))) ⌝ }
+{
+    let mut sheet = sheet_for(limit, m);
+    if search_all(file, sentence, n as usize, &mut sheet) {
+        if sheet[0] <= m {
+            return Verdict::Refused(Refusal::Desk(26, 0));
+        }
+        let place = 96 - n as usize;
+        let steps = sheet[99] as usize - place;
+        copy_entry(&sheet, 3 + place, steps, out);
+        Verdict::Accepted(steps as u64)
+    } else {
+        Verdict::Refused(Refusal::Desk(25, 0))
+    }
+}
+
+// Entry m of the listing under node limit n: refusals 1 to 10, 23, 24, 11, 25, 26; else its steps, at the front of the output. One search.
+pub fn entry(file: &[u8], sentence: &[u16], n: u64, limit: u64, m: u64, out: &mut [u16]) -> Verdict
+    ensures { λ v. ⌜ (v ≡ entryVerdict (now (file .entry)) (now (sentence .entry)) n limit m (now (out .entry))) × (now (out .exit) ≡ entryOutput (now (file .entry)) (now (sentence .entry)) n limit m (now (out .entry))) ⌝ }
+{
+    let tests = entry_tests(file, sentence, n, limit, out);
+    match tests {
+        Verdict::Accepted(_) => found_entry(file, sentence, n, limit, m, out),
+        Verdict::Refused(_) => tests,
+    }
+}
+
+// What the call for an entry tests before it searches: the grammar, 23, 24, 11.
+fn entry_tests(file: &[u8], sentence: &[u16], n: u64, limit: u64, out: &[u16]) -> Verdict
+    ensures { λ v. ⌜ v ≡ verdict (beforeEntry (now (file .entry)) (now (sentence .entry)) n limit (now (out .entry))) 0 ⌝ }
+{
+    let read = read_grammar(file);
+    let Verdict::Accepted(_) = read else {
+        return read;
+    };
+    let room = room_refusal(out);
+    let Verdict::Accepted(_) = room else {
+        return room;
+    };
+    let limits = limits_refusal(n, limit);
+    let Verdict::Accepted(_) = limits else {
+        return limits;
+    };
+    sentence_refusal(file, sentence)
 }

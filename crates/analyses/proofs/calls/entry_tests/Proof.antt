@@ -1,0 +1,126 @@
+-- `analyses::calls::entry_tests` meets its contract.
+-- Assumes nothing.
+use Rattle.model.specs.Base.{_orElse_}
+use Rattle.model.specs.GrammarFile.{grammarRefusal, grammarOf, rulesOf}
+use Rattle.model.specs.Trace.{sentenceRefusal}
+use Rattle.model.specs.Counting.{limitsRefusal}
+use Rattle.model.specs.Calls.{roomRefusal}
+use Rattle.model.proofs.Verdicts.{passed, stopped, after-pass}
+use borrow.Author.Needs.{needs}
+use Rattle.analyses.proofs.calls.entry_tests.Statement.{statement}
+use Rattle.analyses.proofs.calls.entry_tests.Tie as tie
+use Rattle.analyses.proofs.calls.entry_tests.Reads as reads
+use Rattle.analyses.proofs.calls.entry_tests.Lts as lts
+use Rattle.analyses.proofs.calls.limits_refusal.Reads as limits-refusal-reads
+use Rattle.buffers.proofs.room_refusal.Reads as room-refusal-reads
+use Rattle.grammar.proofs.read_grammar.Reads as read-grammar-reads
+use Rattle.recognizer.proofs.sentence_refusal.Reads as sentence-refusal-reads
+
+-- src/calls.rt:158:9
+read-grammar-requires : tie.Need-read-grammar-requires
+read-grammar-requires c κs = search needs
+
+enum-told : tie.Need-enum-told
+enum-told c = search needs
+
+-- src/calls.rt:160:9
+enum-told-2 : tie.Need-enum-told-2
+enum-told-2 c = search needs
+
+-- src/calls.rt:160:9
+returns : tie.Need-returns
+returns c =
+    let a = c .before .before .before .before .before .before .args in
+    let G = grammarRefusal (a .file .now) in
+    let O = roomRefusal (a .out .now) in
+    let L = limitsRefusal (a .n) (a .limit) in
+    let W = sentenceRefusal (grammarOf (a .file .now)) (a .sentence .now) in
+    let k = c .before .before .read-grammar in
+    stopped G (rulesOf (a .file .now)) (k .result) (k .ensures) (O orElse L orElse W) 0 (c .enum-told2 .given .1)
+
+-- src/calls.rt:162:9
+room-refusal-requires : tie.Need-room-refusal-requires
+room-refusal-requires c κs = search needs
+
+enum-told-3 : tie.Need-enum-told-3
+enum-told-3 c = search needs
+
+-- src/calls.rt:164:9
+enum-told-4 : tie.Need-enum-told-4
+enum-told-4 c = search needs
+
+-- src/calls.rt:164:9
+returns-2 : tie.Need-returns-2
+returns-2 c =
+    let a = c .before .before .before .before .before .before .before .before .before .args in
+    let G = grammarRefusal (a .file .now) in
+    let O = roomRefusal (a .out .now) in
+    let L = limitsRefusal (a .n) (a .limit) in
+    let W = sentenceRefusal (grammarOf (a .file .now)) (a .sentence .now) in
+    let g = c .before .before .before .before .before .read-grammar in
+    let k = c .before .before .room-refusal in
+    after-pass G (O orElse L orElse W) 0 (k .result) (passed G (rulesOf (a .file .now)) (g .result) (g .ensures) (c .before .before .before .enum-told .given .1)) (stopped O 0 (k .result) (k .ensures) (L orElse W) 0 (c .enum-told4 .given .1))
+
+-- src/calls.rt:166:9
+limits-refusal-requires : tie.Need-limits-refusal-requires
+limits-refusal-requires c κs = search needs
+
+enum-told-5 : tie.Need-enum-told-5
+enum-told-5 c = search needs
+
+-- src/calls.rt:168:9
+enum-told-6 : tie.Need-enum-told-6
+enum-told-6 c = search needs
+
+-- src/calls.rt:168:9
+returns-3 : tie.Need-returns-3
+returns-3 c =
+    let a = c .before .before .before .before .before .before .before .before .before .before .before .before .args in
+    let G = grammarRefusal (a .file .now) in
+    let O = roomRefusal (a .out .now) in
+    let L = limitsRefusal (a .n) (a .limit) in
+    let W = sentenceRefusal (grammarOf (a .file .now)) (a .sentence .now) in
+    let g = c .before .before .before .before .before .before .before .before .read-grammar in
+    let o = c .before .before .before .before .before .room-refusal in
+    let k = c .before .before .limits-refusal in
+    after-pass G (O orElse L orElse W) 0 (k .result) (passed G (rulesOf (a .file .now)) (g .result) (g .ensures) (c .before .before .before .before .before .before .enum-told .given .1))
+    (after-pass O (L orElse W) 0 (k .result) (passed O 0 (o .result) (o .ensures) (c .before .before .before .enum-told3 .given .1)) (stopped L 0 (k .result) (k .ensures) W 0 (c .enum-told6 .given .1)))
+
+-- src/calls.rt:170:5
+sentence-refusal-requires : tie.Need-sentence-refusal-requires
+sentence-refusal-requires c κs = search needs
+
+-- src/calls.rt:155:1
+returns-4 : tie.Need-returns-4
+returns-4 c =
+    let a = c .before .before .before .before .before .before .before .before .before .before .before .before .before .args in
+    let G = grammarRefusal (a .file .now) in
+    let O = roomRefusal (a .out .now) in
+    let L = limitsRefusal (a .n) (a .limit) in
+    let W = sentenceRefusal (grammarOf (a .file .now)) (a .sentence .now) in
+    let g = c .before .before .before .before .before .before .before .before .before .read-grammar in
+    let o = c .before .before .before .before .before .before .room-refusal in
+    let l = c .before .before .before .limits-refusal in
+    let k = c .sentence-refusal in
+    after-pass G (O orElse L orElse W) 0 (k .result) (passed G (rulesOf (a .file .now)) (g .result) (g .ensures) (c .before .before .before .before .before .before .before .enum-told .given .1))
+    (after-pass O (L orElse W) 0 (k .result) (passed O 0 (o .result) (o .ensures) (c .before .before .before .before .enum-told3 .given .1))
+    (after-pass L W 0 (k .result) (passed L 0 (l .result) (l .ensures) (c .before .enum-told5 .given .1)) (k .ensures)))
+
+pub entry-tests-spec : {M : Type 1} → statement M
+entry-tests-spec =
+    tie.close
+    (tie.spec
+    read-grammar-requires
+    enum-told
+    enum-told-2
+    returns
+    room-refusal-requires
+    enum-told-3
+    enum-told-4
+    returns-2
+    limits-refusal-requires
+    enum-told-5
+    enum-told-6
+    returns-3
+    sentence-refusal-requires
+    returns-4)
