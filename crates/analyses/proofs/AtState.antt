@@ -23,12 +23,9 @@ use Rattle.analyses.specs.Chain.{isBy, isOf, firstRule}
 use Rattle.analyses.specs.Tally.{effortBelow, countBelow, Searched, spentOne, completed}
 use Rattle.analyses.specs.Search.{standing, Ready, SearchedAt, under, upTo, SearchedRules}
 use Rattle.analyses.proofs.Rules.{upTo-next}
-use Rattle.analyses.proofs.Searches.{searched-as, searched-joined, searched-spent, searched-complete}
+use Rattle.analyses.proofs.Searches.{not-both, searched-as, searched-joined, searched-spent, searched-complete}
 use Rattle.analyses.proofs.Walks.{walk-empty, walk-length, each-few, count-few}
 use Rattle.analyses.proofs.Turns.{row-some}
-
-not-both : {A : Type 0} → true ≡ false → A
-not-both e = let z : _≡_ {A = ℕ} 0 1 = cc in absurd (omega arith)
 
 pub not-none : (n : ℕ) → (n ≡ 0 → ⊥) → 1 ≤ n
 not-none zero h = absurd (h refl)

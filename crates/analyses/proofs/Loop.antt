@@ -22,13 +22,10 @@ use Rattle.recognizer.specs.Row.{unpacked, rowOf}
 use Rattle.analyses.specs.Chain.{isBy, isOf, firstRule}
 use Rattle.analyses.specs.Tally.{effortBelow, countBelow, Searched, spentOne, completed}
 use Rattle.analyses.specs.Search.{standing, Ready, under, upTo, SearchedUnder, SearchedRules, Fronted, done, CameTo}
-use Rattle.analyses.proofs.Rules.{upTo-next, upTo-skip, upTo-more, other-rule, first-passes, first-found, first-later}
-use Rattle.analyses.proofs.Searches.{found-none, searched-as, searched-joined}
+use Rattle.analyses.proofs.Rules.{upTo-next, upTo-more, other-rule, first-later, done-here, done-all, skipped, here-found}
+use Rattle.analyses.proofs.Searches.{not-both, found-none, searched-as, searched-joined}
 use Rattle.analyses.proofs.Walks.{walk-empty, walk-length, each-few, count-few}
 use Rattle.analyses.proofs.Turns.{row-some}
-
-not-both : {A : Type 0} → true ≡ false → A
-not-both e = let z : _≡_ {A = ℕ} 0 1 = cc in absurd (omega arith)
 
 module _ (file table chain sentence : List ℕ) (read : ℕ) (q : List ℕ) (from to pending made fuel : ℕ) (sheet : List ℕ)
     (ready : Ready file table chain sentence read q from to pending made fuel sheet) (predicted : 1 ≤ pending) where
@@ -57,43 +54,18 @@ module _ (file table chain sentence : List ℕ) (read : ℕ) (q : List ℕ) (fro
   head =
       ap (map unpacked) (slice-cons from to q 0 (row-some file table chain sentence read q from to pending made fuel sheet ready predicted) (omega (arith, ready .held .long, ready .held .within)))
 
-  done-here : (r : ℕ) → r < R → done R r ≡ r
-  done-here r h = ap (λ (b : Bool). if b then r else R) (lt-ltb r R h)
-
-  done-all : (r : ℕ) → R ≤ r → done R r ≡ R
-  done-all r h = ap (λ (b : Bool). if b then r else R) (le-ltb r R h)
-
-  done-least : (r k : ℕ) → k ≤ r → k ≤ R → (k ≤ done R r) × (done R r ≤ R) × (done R r ≤ r)
-  done-least r k h l = go (decLt r R)
-    where
-      go : Dec (r < R) → (k ≤ done R r) × (done R r ≤ R) × (done R r ≤ r)
-      go (yes m) = omega (arith, done-here r m)
-      go (no m) = omega (arith, done-all r (omega arith))
-
   abbrev At : List ℕ → ℕ → Type 0
   At now r = CameTo g fuel S a sheet now r
 
   others : (leaf : RowState → List (List ℕ)) (i : ℕ) → isOf g a i ≡ false → under g leaf (fuel - 1) S i ≡ []
   others leaf i e = other-rule g S (unpacked (getD q from 0)) (rowOf q (suc from) to) head i e (λ u. walkRow g leaf (fuel - 1) u) (fuel - 1)
 
-  -- from rule k on to the first of the front's category
-  skipped : (leaf : RowState → List (List ℕ)) (k : ℕ) → k ≤ R
-      → upTo (λ i. under g leaf (fuel - 1) S i) (done R (firstRule g a k (R - k))) ≡ upTo (λ i. under g leaf (fuel - 1) S i) k
-  skipped leaf k h =
-      let later = first-later g a k (R - k) (omega (arith, rules-few)) in
-      let b = done-least (firstRule g a k (R - k)) k later h in
-      upTo-skip (λ i. under g leaf (fuel - 1) S i) k (done R (firstRule g a k (R - k))) (b .0)
-      (λ i l m. others leaf i (first-passes g a k (R - k) i l (omega (arith, b .1)) (omega (arith, b .2))))
-
-  here-found : (k : ℕ) → k ≤ R → firstRule g a k (R - k) < 256 → (firstRule g a k (R - k) < R) × (isOf g a (firstRule g a k (R - k)) ≡ true)
-  here-found k h l = let f = first-found g a k (R - k) (omega (arith, rules-few)) l in (omega (arith, f .1), f .2)
-
   came : (now : List ℕ) (k : ℕ) → k ≤ R → Searched sheet (upTo found k) (length (upTo live k)) (96 - fuel) true now → At now (firstRule g a k (R - k))
   came now k h w =
       record {
         so-far = searched-as sheet now (upTo found k) (upTo found (done R (firstRule g a k (R - k)))) (length (upTo live k)) (length (upTo live (done R (firstRule g a k (R - k))))) (96 - fuel) true
-            (sym (skipped (endRow g) k h)) (ap (λ (l : List (List ℕ)). length l) (sym (skipped (anyRow g) k h))) w;
-        rule-here = here-found k h;
+            (sym (skipped g a rules-few found (others (endRow g)) k h)) (ap (λ (l : List (List ℕ)). length l) (sym (skipped g a rules-few live (others (anyRow g)) k h))) w;
+        rule-here = here-found g a rules-few k h;
       }
 
   pub came-first : (r : ℕ) → r ≡ getD chain a 0 → At sheet r
@@ -127,7 +99,7 @@ module _ (file table chain sentence : List ℕ) (read : ℕ) (q : List ℕ) (fro
         }
 
     here : done R r ≡ r
-    here = done-here r (at .rule-here below .0)
+    here = done-here g a rules-few r (at .rule-here below .0)
 
     together : (b : Bool) (after : List ℕ) → SearchedUnder g fuel S r now b after
         → Searched sheet (upTo found (suc r)) (length (upTo live (suc r))) (96 - fuel) b after
@@ -166,6 +138,6 @@ module _ (file table chain sentence : List ℕ) (read : ℕ) (q : List ℕ) (fro
 
   pub came-last : (now : List ℕ) (r : ℕ) → At now r → 256 ≤ r → SearchedRules g fuel S sheet true now
   came-last now r at h =
-      let d = done-all r (omega (arith, rules-few)) in
+      let d = done-all g a rules-few r (omega (arith, rules-few)) in
       searched-as sheet now (upTo found (done R r)) (upTo found R) (length (upTo live (done R r))) (length (upTo live R)) (96 - fuel) true
       (ap (upTo found) d) (ap (λ (k : ℕ). length (upTo live k)) d) (at .so-far)

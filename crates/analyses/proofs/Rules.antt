@@ -3,10 +3,11 @@
 use mathlib.Core.Path.{_≡_, refl, sym, ap, subst, _∙_}
 use mathlib.Core.Bool.{Bool, true, false}
 use mathlib.Core.Option.{Option, none, some}
-use mathlib.Core.List.{List, [], _∷_, _++_, append-nil}
+use mathlib.Core.List.{List, [], _∷_, _++_, append-nil, append-assoc}
 use Prim.Native.Nat.{ℕ, zero, suc, _+_, _-_, _<_, _≤_}
 use native.Mathlib.Omega.{arith}
-use native.Mathlib.Decide.{ℕ-discrete}
+use native.Mathlib.Decide.{ℕ-discrete, decLt}
+use borrow.Author.Tests.{lt-ltb, le-ltb}
 use lib.Dec.{eqb}
 use lib.ListN.{length, length-append}
 use Rattle.model.specs.Base.{if_then_else_, each, numbersFrom}
@@ -14,7 +15,7 @@ use Rattle.model.specs.Grammar.{Rule, Grammar, ruleAt, isLexical}
 use Rattle.model.specs.Rows.{Slot, RowState, RowOutcome, halts, moves, scanRow, predictRow, applyRow, stepRow, extendByRow, extendRow, walkRow}
 use Rattle.model.proofs.Lists.{each-append}
 use Rattle.analyses.specs.Chain.{isBy, isOf, firstRule}
-use Rattle.analyses.specs.Search.{upTo}
+use Rattle.analyses.specs.Search.{upTo, done}
 
 -- numbers from `from` on, one more
 numbers-last : (from n : ℕ) → numbersFrom from (suc n) ≡ numbersFrom from n ++ ((from + n) ∷ [])
@@ -47,6 +48,17 @@ module _ (f : ℕ → List (List ℕ)) where
       go : Dec (r ≡ suc n) → (r ≤ n → length (upTo f r) ≤ length (upTo f n)) → length (upTo f r) ≤ length (upTo f (suc n))
       go (yes z) ih = subst (λ (k : ℕ). length (upTo f k) ≤ length (upTo f (suc n))) (sym z) (omega arith)
       go (no z) ih = omega (arith, ap length (upTo-next n), length-append (upTo f n) (f n), ih (omega arith))
+
+  -- the rules before rule r, and those from it on
+  pub upTo-split : (r n : ℕ) → r ≤ n → (rest : List (List ℕ)) × (upTo f n ≡ upTo f r ++ rest)
+  upTo-split r zero h = let z : r ≡ 0 = omega arith in ([], ap (upTo f) (sym z) ∙ sym (append-nil (upTo f r)))
+  upTo-split r (suc n) h = go (ℕ-discrete r (suc n)) (λ l. upTo-split r n l)
+    where
+      go : Dec (r ≡ suc n) → (r ≤ n → (rest : List (List ℕ)) × (upTo f n ≡ upTo f r ++ rest)) → (rest : List (List ℕ)) × (upTo f (suc n) ≡ upTo f r ++ rest)
+      go (yes z) ih = ([], ap (upTo f) (sym z) ∙ sym (append-nil (upTo f r)))
+      go (no z) ih =
+          let s = ih (omega arith) in
+          (s .0 ++ f n, upTo-next n ∙ ap (λ (l : List (List ℕ)). l ++ f n) (s .1) ∙ append-assoc (upTo f r) (s .0) (f n))
 
 -- a rule of another category than the front's does not apply
 module _ (g : Grammar) (t : RowState) (s : Slot) (row : List Slot) (head : t .row ≡ s ∷ row) where
@@ -92,3 +104,33 @@ first-later g a r (suc n) h = go (isOf g a r) (first-later g a (suc r) n (omega 
     go : (b : Bool) → suc r ≤ firstRule g a (suc r) n → r ≤ (if b then r else firstRule g a (suc r) n)
     go true ih = omega arith
     go false ih = omega arith
+
+-- what a loop over the rules of category a has done when it comes to a rule
+module _ (g : Grammar) (a : ℕ) (few : length (g .rules) ≤ 256) where
+  abbrev R : ℕ
+  R = length (g .rules)
+
+  pub done-here : (r : ℕ) → r < R → done R r ≡ r
+  done-here r h = ap (λ (b : Bool). if b then r else R) (lt-ltb r R h)
+
+  pub done-all : (r : ℕ) → R ≤ r → done R r ≡ R
+  done-all r h = ap (λ (b : Bool). if b then r else R) (le-ltb r R h)
+
+  done-least : (r k : ℕ) → k ≤ r → k ≤ R → (k ≤ done R r) × (done R r ≤ R) × (done R r ≤ r)
+  done-least r k h l = go (decLt r R)
+    where
+      go : Dec (r < R) → (k ≤ done R r) × (done R r ≤ R) × (done R r ≤ r)
+      go (yes m) = omega (arith, done-here r m)
+      go (no m) = omega (arith, done-all r (omega arith))
+
+  -- from rule k on to the first of the category, where rules of another give nothing
+  pub skipped : (f : ℕ → List (List ℕ)) → ((i : ℕ) → isOf g a i ≡ false → f i ≡ []) → (k : ℕ) → k ≤ R
+      → upTo f (done R (firstRule g a k (R - k))) ≡ upTo f k
+  skipped f others k h =
+      let later = first-later g a k (R - k) (omega arith) in
+      let b = done-least (firstRule g a k (R - k)) k later h in
+      upTo-skip f k (done R (firstRule g a k (R - k))) (b .0)
+      (λ i l m. others i (first-passes g a k (R - k) i l (omega (arith, b .1)) (omega (arith, b .2))))
+
+  pub here-found : (k : ℕ) → k ≤ R → firstRule g a k (R - k) < 256 → (firstRule g a k (R - k) < R) × (isOf g a (firstRule g a k (R - k)) ≡ true)
+  here-found k h l = let f = first-found g a k (R - k) (omega arith) l in (omega (arith, f .1), f .2)

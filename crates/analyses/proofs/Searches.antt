@@ -14,7 +14,7 @@ use Rattle.model.specs.Base.{if_then_else_}
 use Rattle.analyses.specs.Tally.{among, kept, keptEntry, Searched, spentOne, completed, noted}
 use Rattle.analyses.proofs.Kept.{entry-in, entry-before, entry-after, kept-joined, kept-under}
 
-not-both : {A : Type 0} → true ≡ false → A
+pub not-both : {A : Type 0} → true ≡ false → A
 not-both e = let z : _≡_ {A = ℕ} 0 1 = cc in absurd (omega arith)
 
 nothing : (first m place : ℕ) (cells : List ℕ) → keptEntry [] first m place cells ≡ cells

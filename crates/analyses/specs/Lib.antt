@@ -2,3 +2,4 @@ pub mod Chain
 pub mod Tally
 pub mod Search
 pub mod Tests
+pub mod Look

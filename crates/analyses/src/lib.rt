@@ -1,6 +1,7 @@
 // The count of analyses, and entry m of the listing (document 01, "Counting and listing").
 mod calls;
 mod chain;
+mod look;
 mod search;
 
 pub use calls::count;
