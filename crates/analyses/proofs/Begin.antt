@@ -19,21 +19,21 @@ use Rattle.recognizer.specs.Table.{Compiled}
 use Rattle.analyses.specs.Chain.{Chained}
 use Rattle.analyses.specs.Tally.{effortBelow, Searched}
 use Rattle.analyses.specs.Search.{standing, Ready, SearchedAt}
+use Rattle.analyses.specs.Look.{Stood}
 use Rattle.analyses.proofs.Searches.{searched-as}
 
-module _ (file : List ℕ) (accepted : grammarRefusal file ≡ none) (sentence table chain q : List ℕ) (a n : ℕ) (sheet : List ℕ)
+module _ (file : List ℕ) (accepted : grammarRefusal file ≡ none) (sentence table chain q : List ℕ) (a n : ℕ)
     (start : a ≡ startOf file) (first : rowOf q 0 1 ≡ record { owner = 0; category = a; component = 0 } ∷ []) (some : 1 ≤ n) (few : n ≤ 96) where
   abbrev g : Grammar
   g = grammarOf file
 
-  begins : standing sentence 0 q 0 1 1 1 ≡ beginRow g sentence
+  pub begins : standing sentence 0 q 0 1 1 1 ≡ beginRow g sentence
   begins =
       ap (λ (row : List Slot). record { row = row; made = 1; pending = 1; words = sentence })
       (first ∙ ap (λ (x : ℕ). record { owner = 0; category = x; component = 0 } ∷ []) start)
 
-  pub start-ready : Compiled g table → Chained g chain → Held q 0 1 → length sheet ≡ 100 → getD sheet 0 0 + getD sheet 1 0 ≤ 1000000000
-      → Ready file table chain sentence 0 q 0 1 1 1 n sheet
-  start-ready compiled chained held long bounded =
+  pub start-stood : Compiled g table → Chained g chain → Held q 0 1 → Stood file table chain sentence 0 q 0 1 1 1 n
+  start-stood compiled chained held =
       record {
         accepted = accepted;
         compiled = compiled;
@@ -42,10 +42,7 @@ module _ (file : List ℕ) (accepted : grammarRefusal file ≡ none) (sentence t
         known = omega arith;
         reached = subst (Reached g) (sym begins) (reached-begin g (accepted-right file accepted) sentence);
         fits = some;
-        short = few;
         numbered = omega arith;
-        long = long;
-        bounded = bounded;
       }
 
   found-all : (k : ℕ) → 1 ≤ k → foundFromRow g k (beginRow g sentence) ≡ listing g sentence k
@@ -56,8 +53,26 @@ module _ (file : List ℕ) (accepted : grammarRefusal file ≡ none) (sentence t
   effort-all zero h = let z : ⊥ = omega arith in absurd z
   effort-all (suc k) h = rows-agree file accepted sentence .efforts (suc k)
 
-  pub start-searched : (b : Bool) (after : List ℕ) → SearchedAt g n (standing sentence 0 q 0 1 1 1) sheet b after
-      → Searched sheet (listing g sentence n) (effort g sentence n) (96 - n) b after
-  start-searched b after h =
-      searched-as sheet after (foundFromRow g n (standing sentence 0 q 0 1 1 1)) (listing g sentence n) (effortBelow g n (standing sentence 0 q 0 1 1 1)) (effort g sentence n) (96 - n) b
-      (ap (foundFromRow g n) begins ∙ found-all n some) (ap (effortBelow g n) begins ∙ effort-all n some) h
+  module _ (sheet : List ℕ) where
+    pub start-ready : Compiled g table → Chained g chain → Held q 0 1 → length sheet ≡ 100 → getD sheet 0 0 + getD sheet 1 0 ≤ 1000000000
+        → Ready file table chain sentence 0 q 0 1 1 1 n sheet
+    start-ready compiled chained held long bounded =
+        record {
+          accepted = accepted;
+          compiled = compiled;
+          chained = chained;
+          held = held;
+          known = omega arith;
+          reached = subst (Reached g) (sym begins) (reached-begin g (accepted-right file accepted) sentence);
+          fits = some;
+          short = few;
+          numbered = omega arith;
+          long = long;
+          bounded = bounded;
+        }
+
+    pub start-searched : (b : Bool) (after : List ℕ) → SearchedAt g n (standing sentence 0 q 0 1 1 1) sheet b after
+        → Searched sheet (listing g sentence n) (effort g sentence n) (96 - n) b after
+    start-searched b after h =
+        searched-as sheet after (foundFromRow g n (standing sentence 0 q 0 1 1 1)) (listing g sentence n) (effortBelow g n (standing sentence 0 q 0 1 1 1)) (effort g sentence n) (96 - n) b
+        (ap (foundFromRow g n) begins ∙ found-all n some) (ap (effortBelow g n) begins ∙ effort-all n some) h

@@ -9,6 +9,8 @@ pub mod LookRules
 pub mod LookLoop
 pub mod LookTurns
 pub mod LookDesk
+pub mod Following
+pub mod NextCall
 pub mod Scans
 pub mod Turns
 pub mod AtState

@@ -3,3 +3,4 @@ pub mod Tally
 pub mod Search
 pub mod Tests
 pub mod Look
+pub mod Stream

@@ -152,7 +152,7 @@ pub fn entry(file: &[u8], sentence: &[u16], n: u64, limit: u64, m: u64, out: &mu
 }
 
 // What the call for an entry tests before it searches: the grammar, 23, 24, 11.
-fn entry_tests(file: &[u8], sentence: &[u16], n: u64, limit: u64, out: &[u16]) -> Verdict
+pub fn entry_tests(file: &[u8], sentence: &[u16], n: u64, limit: u64, out: &[u16]) -> Verdict
     ensures { λ v. ⌜ v ≡ verdict (beforeEntry (now (file .entry)) (now (sentence .entry)) n limit (now (out .entry))) 0 ⌝ }
 {
     let read = read_grammar(file);

@@ -39,7 +39,7 @@ search-requires c κs =
     let a = s .args in
     let p = s .pre in
     let r = c .before .before .before .before .first-row in
-    (start-ready (a .file .now) (p .0) (a .sentence .now) (c .before .before .before .before .before .before .before .compile .result) (c .before .before .before .before .before .before .chain-rules .result) (r .result) (c .before .before .before .before .before .start .result .0) (a .n) (a .sheet .now) (c .before .before .before .before .before .start .ensures) (r .ensures .1) (p .1) (p .2)
+    (start-ready (a .file .now) (p .0) (a .sentence .now) (c .before .before .before .before .before .before .before .compile .result) (c .before .before .before .before .before .before .chain-rules .result) (r .result) (c .before .before .before .before .before .start .result .0) (a .n) (c .before .before .before .before .before .start .ensures) (r .ensures .1) (p .1) (p .2) (a .sheet .now)
     (c .before .before .before .before .before .before .before .compile .ensures (p .0)) (c .before .before .before .before .before .before .chain-rules .ensures (p .0)) (r .ensures .0) (p .3) (p .4))
 
 -- src/calls.rt:42:1
@@ -49,7 +49,7 @@ returns c =
     let a = s .args in
     let p = s .pre in
     let r = c .before .before .before .before .before .first-row in
-    start-searched (a .file .now) (p .0) (a .sentence .now) (c .before .before .before .before .before .before .before .before .compile .result) (c .before .before .before .before .before .before .before .chain-rules .result) (r .result) (c .before .before .before .before .before .before .start .result .0) (a .n) (a .sheet .now) (c .before .before .before .before .before .before .start .ensures) (r .ensures .1) (p .1) (p .2)
+    start-searched (a .file .now) (p .0) (a .sentence .now) (c .before .before .before .before .before .before .before .before .compile .result) (c .before .before .before .before .before .before .before .chain-rules .result) (r .result) (c .before .before .before .before .before .before .start .result .0) (a .n) (c .before .before .before .before .before .before .start .ensures) (r .ensures .1) (p .1) (p .2) (a .sheet .now)
     (c .search .result) _ (c .search .ensures)
 
 pub search-all-spec : {M : Type 1} → statement M
