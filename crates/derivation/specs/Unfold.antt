@@ -1,0 +1,60 @@
+-- The tree below the run of a trace: what the predictions that its steps take stand for (document 01, "Trace and tree"), and tables from which code
+-- writes it.
+-- Assumes nothing.
+use mathlib.Core.Path.{_≡_}
+use mathlib.Core.List.{List, [], _∷_}
+use Prim.Native.Nat.{ℕ, zero, suc, _+_, _<_, _≤_}
+use lib.ListN.{length, getD}
+use Rattle.model.specs.Base.{sumBelow, numbersFrom}
+use Rattle.model.specs.GrammarFile.{recordOf, field}
+use Rattle.model.specs.Tree.{Tree, Forest, node, nil, cons, preorder}
+
+-- how many daughters rule r of the file has
+abbrev pub daughterCount : List ℕ → ℕ → ℕ
+daughterCount file r = field (recordOf file r) 1
+
+-- predictions are numbered in the order of their making: the first that step k makes, where m were made before step 0
+abbrev pub firstMade : (ℕ → ℕ) → ℕ → List ℕ → ℕ → ℕ
+firstMade count m trace k = m + sumBelow (λ i. count (getD trace i 0)) k
+
+-- some step takes prediction p
+abbrev pub Taken : List ℕ → ℕ → Type 0
+Taken taken p = (k : ℕ) × (k < length taken) × (getD taken k 0 ≡ p)
+
+-- the trees of d predictions from number p on
+abbrev pub treesFrom : (ℕ → Tree) → ℕ → ℕ → Forest
+treesFrom names p zero = nil
+treesFrom names p (suc d) = cons (names p) (treesFrom names (suc p) d)
+
+-- "Each step applies the rule of the node that the front prediction stands for, and the new predictions stand for that node's daughters, position by
+-- position": `names` is the tree that each prediction stands for, and what a step makes another step takes
+pub record Unfolds (count : ℕ → ℕ) (m : ℕ) (taken trace : List ℕ) (names : ℕ → Tree) : Type 0 where
+  pub sized : length taken ≡ length trace
+  pub nodes : (k : ℕ) → k < length trace → names (getD taken k 0) ≡ node (getD trace k 0) (treesFrom names (firstMade count m trace k) (count (getD trace k 0)))
+  pub daughters : (k j : ℕ) → k < length trace → j < count (getD trace k 0) → Taken taken (firstMade count m trace k + j)
+
+-- Tables by the number of a prediction: `rules` has the rule of its node, `first` the number of its first daughter.
+
+-- after the first n steps: for every prediction that they take, what one of them that takes it stored
+abbrev pub Linked : (ℕ → ℕ) → List ℕ → List ℕ → List ℕ → List ℕ → ℕ → Type 0
+Linked count trace taken rules first n =
+    (k : ℕ) → k < n
+    → (i : ℕ) × (i < n) × (getD taken i 0 ≡ getD taken k 0) × (getD rules (getD taken k 0) 0 ≡ getD trace i 0) × (getD first (getD taken k 0) 0 ≡ firstMade count 1 trace i)
+
+-- a tree stands where prediction p is, by the tables, and the trees of a forest where the predictions of a list are
+module _ (count : ℕ → ℕ) (rules first : List ℕ) where
+  abbrev mutual
+    pub Grows : Tree → ℕ → Type 0
+    Grows (node r ts) p = (p < 96) × (getD rules p 0 ≡ r) × GrowsAll ts (numbersFrom (getD first p 0) (count r))
+
+    pub GrowsAll : Forest → List ℕ → Type 0
+    GrowsAll nil [] = Unit {0}
+    GrowsAll nil (p ∷ ps) = ⊥
+    GrowsAll (cons t ts) [] = ⊥
+    GrowsAll (cons t ts) (p ∷ ps) = Grows t p × GrowsAll ts ps
+
+  -- prediction 0 stands for a tree that is short enough
+  pub record Grown : Type 0 where
+    pub tree : Tree
+    pub grows : Grows tree 0
+    pub few : length (preorder tree) ≤ 96
