@@ -1,1 +1,5 @@
 pub mod RoundTrips
+pub mod UnfoldStep
+pub mod UnfoldRun
+pub mod UnfoldTables
+pub mod UnfoldLoop

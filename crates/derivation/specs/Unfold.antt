@@ -35,11 +35,14 @@ pub record Unfolds (count : ℕ → ℕ) (m : ℕ) (taken trace : List ℕ) (nam
 
 -- Tables by the number of a prediction: `rules` has the rule of its node, `first` the number of its first daughter.
 
--- after the first n steps: for every prediction that they take, what one of them that takes it stored
+-- for the prediction that step k takes: what one of the first n steps that takes it has stored
+abbrev pub Entry : (ℕ → ℕ) → List ℕ → List ℕ → List ℕ → List ℕ → ℕ → ℕ → Type 0
+Entry count trace taken rules first n k =
+    (i : ℕ) × (i < n) × (getD taken i 0 ≡ getD taken k 0) × (getD rules (getD taken k 0) 0 ≡ getD trace i 0) × (getD first (getD taken k 0) 0 ≡ firstMade count 1 trace i)
+
+-- after the first n steps
 abbrev pub Linked : (ℕ → ℕ) → List ℕ → List ℕ → List ℕ → List ℕ → ℕ → Type 0
-Linked count trace taken rules first n =
-    (k : ℕ) → k < n
-    → (i : ℕ) × (i < n) × (getD taken i 0 ≡ getD taken k 0) × (getD rules (getD taken k 0) 0 ≡ getD trace i 0) × (getD first (getD taken k 0) 0 ≡ firstMade count 1 trace i)
+Linked count trace taken rules first n = (k : ℕ) → k < n → Entry count trace taken rules first n k
 
 -- a tree stands where prediction p is, by the tables, and the trees of a forest where the predictions of a list are
 module _ (count : ℕ → ℕ) (rules first : List ℕ) where

@@ -1,0 +1,149 @@
+-- Writing a tree from the tables, node by node: what is written, with the trees of the predictions that wait, is the whole tree.
+-- Assumes nothing.
+use mathlib.Core.Path.{_≡_, refl, sym, ap, ap₂, subst, _∙_}
+use mathlib.Core.List.{List, [], _∷_, _++_, append-assoc, append-nil}
+use Prim.Native.Nat.{ℕ, zero, suc, _+_, _-_, _<_, _≤_}
+use native.Mathlib.Omega.{arith}
+use native.Mathlib.Numerals.{add-one}
+use lib.ListN.{length, getD, take, drop, set, length-append, length-drop, take-append-drop, drop-of-length-le}
+use lib.Seq.{drop-cons, drop-drop, take-suc-set, drop-set-lt, length-take-le}
+use Rattle.model.specs.Base.{numbersFrom}
+use Rattle.model.specs.Tree.{Tree, Forest, node, nil, cons, preorder, preorders}
+use Rattle.model.proofs.Lists.{length-numbers}
+use Rattle.derivation.specs.Unfold.{Grows, GrowsAll}
+
+-- two forests, one after the other
+abbrev join : Forest → Forest → Forest
+join nil f = f
+join (cons t ts) f = cons t (join ts f)
+
+preorders-join : (a b : Forest) → preorders (join a b) ≡ preorders a ++ preorders b
+preorders-join nil b = refl
+preorders-join (cons t ts) b = ap (λ (l : List ℕ). preorder t ++ l) (preorders-join ts b) ∙ sym (append-assoc (preorder t) (preorders ts) (preorders b))
+
+node-counts : (t : Tree) → 1 ≤ length (preorder t)
+node-counts (node r ts) = omega arith
+
+-- lists that agree from place n on agree from the next on
+drop-more : (a b : List ℕ) (n : ℕ) → drop n a ≡ drop n b → drop (suc n) a ≡ drop (suc n) b
+drop-more a b n f = sym (one-more a) ∙ ap (drop 1) f ∙ one-more b
+  where
+    one-more : (l : List ℕ) → drop 1 (drop n l) ≡ drop (suc n) l
+    one-more l = drop-drop 1 n l ∙ ap (λ (k : ℕ). drop k l) (add-one n)
+
+module _ (count : ℕ → ℕ) (rules first : List ℕ) where
+  grows-join : (a b : Forest) (ps qs : List ℕ) → GrowsAll count rules first a ps → GrowsAll count rules first b qs → GrowsAll count rules first (join a b) (ps ++ qs)
+  grows-join nil b [] qs h k = k
+  grows-join nil b (p ∷ ps) qs h k = absurd h
+  grows-join (cons t ts) b [] qs h k = absurd h
+  grows-join (cons t ts) b (p ∷ ps) qs h k = (h .0, grows-join ts b ps qs (h .1) k)
+
+  -- no more predictions than nodes
+  grows-counts : (f : Forest) (ps : List ℕ) → GrowsAll count rules first f ps → length ps ≤ length (preorders f)
+  grows-counts nil [] h = omega arith
+  grows-counts nil (p ∷ ps) h = absurd h
+  grows-counts (cons t ts) [] h = absurd h
+  grows-counts (cons t ts) (p ∷ ps) h = omega (arith, length-append (preorder t) (preorders ts), node-counts t, grows-counts ts ps (h .1))
+
+  below : (t : Tree) (p : ℕ) → Grows count rules first t p → p < 96
+  below (node r ts) p h = h .0
+
+  daughters-below : (f : Forest) (a d : ℕ) → GrowsAll count rules first f (numbersFrom a d) → (j : ℕ) → j < d → a + j < 96
+  daughters-below f a zero h j l = let z : ⊥ = omega arith in absurd z
+  daughters-below nil a (suc d) h j l = absurd h
+  daughters-below (cons t ts) a (suc d) h zero l = omega (arith, below t a (h .0))
+  daughters-below (cons t ts) a (suc d) h (suc j) l = omega (arith, daughters-below ts (suc a) d (h .1) j (omega arith))
+
+  -- w nodes are written at the front of out, and the predictions from `top` on wait, the next one first
+  pub record Standing (tree : Tree) (w top : ℕ) (st out old : List ℕ) : Type 0 where
+    pub forest : Forest
+    pub grows : GrowsAll count rules first forest (drop top st)
+    pub whole : take w out ++ preorders forest ≡ preorder tree
+    pub kept : drop w out ≡ drop w old
+
+  pub begins : (tree : Tree) (top : ℕ) (st out : List ℕ) → Grows count rules first tree 0 → drop top st ≡ 0 ∷ [] → Standing tree 0 top st out out
+  begins tree top st out h e =
+      record { forest = cons tree nil; grows = subst (GrowsAll count rules first (cons tree nil)) (sym e) (h, tt); whole = append-nil (preorder tree); kept = refl }
+
+  -- one node
+  module _ (tree : Tree) (few : length (preorder tree) ≤ 96) (w top : ℕ) (st out old : List ℕ) (long : length st ≡ 96) (room : 96 ≤ length out) (more : top < 96) (s : Standing tree w top st out old) where
+    abbrev p : ℕ
+    p = getD st top 0
+
+    abbrev r : ℕ
+    r = getD rules p 0
+
+    -- the next prediction's node, its daughters, and what waits behind it
+    record Next : Type 0 where
+      trees : Forest
+      behind : Forest
+      nodes : preorders (s .forest) ≡ r ∷ preorders (join trees behind)
+      small : p < 96
+      daughters : GrowsAll count rules first trees (numbersFrom (getD first p 0) (count r))
+      waiting : GrowsAll count rules first (join trees behind) (numbersFrom (getD first p 0) (count r) ++ drop (suc top) st)
+
+    next : Next
+    next = go (s .forest) refl (subst (GrowsAll count rules first (s .forest)) (drop-cons st top 0 (omega arith)) (s .grows))
+      where
+        go : (f : Forest) → s .forest ≡ f → GrowsAll count rules first f (p ∷ drop (suc top) st) → Next
+        go nil e h = absurd h
+        go (cons (node q ts) f) e h =
+            let d : GrowsAll count rules first ts (numbersFrom (getD first p 0) (count r)) = subst (λ (x : ℕ). GrowsAll count rules first ts (numbersFrom (getD first p 0) (count x))) (sym (h .0 .1)) (h .0 .2) in
+            record {
+              trees = ts;
+              behind = f;
+              nodes = ap preorders e ∙ ap₂ (λ (x : ℕ) (l : List ℕ). x ∷ l) (sym (h .0 .1)) (sym (preorders-join ts f));
+              small = h .0 .0;
+              daughters = d;
+              waiting = grows-join ts f (numbersFrom (getD first p 0) (count r)) (drop (suc top) st) d (h .1);
+            }
+
+    written-length : w ≤ length out → length (take w out) ≡ w
+    written-length h = length-take-le w out h
+
+    pub prediction-small : p < 96
+    prediction-small = next .small
+
+    pub daughters-small : (j : ℕ) → j < count r → getD first p 0 + j < 96
+    daughters-small j h = daughters-below (next .trees) (getD first p 0) (count r) (next .daughters) j h
+
+    pub write-small : w ≤ 96 → w < 96
+    write-small h = omega (arith, written-length (omega arith), ap length (s .whole), length-append (take w out) (preorders (s .forest)), ap length (next .nodes))
+
+    pub push-room : w ≤ 96 → count r ≤ top + 1
+    push-room h =
+        omega (
+          arith,
+          written-length (omega arith),
+          ap length (s .whole),
+          length-append (take w out) (preorders (s .forest)),
+          ap length (next .nodes),
+          grows-counts (join (next .trees) (next .behind)) (numbersFrom (getD first p 0) (count r) ++ drop (suc top) st) (next .waiting),
+          length-append (numbersFrom (getD first p 0) (count r)) (drop (suc top) st),
+          length-numbers (getD first p 0) (count r),
+          length-drop (suc top) st,
+        )
+
+    pub stands-next : w ≤ 96 → (st′ : List ℕ) (top′ : ℕ) → drop top′ st′ ≡ numbersFrom (getD first p 0) (count r) ++ drop (suc top) st → Standing tree (suc w) top′ st′ (set out w r) old
+    stands-next h st′ top′ e =
+        let b : w < length out = omega (arith, write-small h) in
+        record {
+          forest = join (next .trees) (next .behind);
+          grows = subst (GrowsAll count rules first (join (next .trees) (next .behind))) (sym e) (next .waiting);
+          whole = ap (λ (l : List ℕ). l ++ preorders (join (next .trees) (next .behind))) (take-suc-set out w r b)
+              ∙ append-assoc (take w out) (r ∷ []) (preorders (join (next .trees) (next .behind)))
+              ∙ ap (λ (l : List ℕ). take w out ++ l) (sym (next .nodes)) ∙ s .whole;
+          kept = drop-set-lt (suc w) out w r (omega arith) ∙ drop-more out old w (s .kept);
+        }
+
+  -- nothing waits: the tree is written
+  pub finished : (tree : Tree) (w top : ℕ) (st out old : List ℕ) → length st ≡ 96 → 96 ≤ top → w ≤ length out → Standing tree w top st out old
+      → out ≡ preorder tree ++ drop (length (preorder tree)) old
+  finished tree w top st out old l h b s =
+      let e : take w out ≡ preorder tree = no-trees (s .forest) refl (subst (GrowsAll count rules first (s .forest)) (drop-of-length-le st {i = top} (omega arith)) (s .grows)) in
+      let n : w ≡ length (preorder tree) = sym (length-take-le w out b) ∙ ap length e in
+      sym (take-append-drop w out) ∙ ap₂ (λ (x y : List ℕ). x ++ y) e (s .kept) ∙ ap (λ (k : ℕ). preorder tree ++ drop k old) n
+    where
+      no-trees : (f : Forest) → s .forest ≡ f → GrowsAll count rules first f [] → take w out ≡ preorder tree
+      no-trees nil e h = sym (append-nil (take w out)) ∙ ap (λ (f : Forest). take w out ++ preorders f) (sym e) ∙ s .whole
+      no-trees (cons t ts) e h = absurd h
