@@ -3,3 +3,5 @@ pub mod UnfoldStep
 pub mod UnfoldRun
 pub mod UnfoldTables
 pub mod UnfoldLoop
+pub mod UnfoldStack
+pub mod UnfoldCall

@@ -65,15 +65,12 @@ module _ (count : ℕ → ℕ) (rules first : List ℕ) where
   begins tree top st out h e =
       record { forest = cons tree nil; grows = subst (GrowsAll count rules first (cons tree nil)) (sym e) (h, tt); whole = append-nil (preorder tree); kept = refl }
 
-  -- one node
-  module _ (tree : Tree) (few : length (preorder tree) ≤ 96) (w top : ℕ) (st out old : List ℕ) (long : length st ≡ 96) (room : 96 ≤ length out) (more : top < 96) (s : Standing tree w top st out old) where
-    abbrev p : ℕ
-    p = getD st top 0
-
+  -- one node: the next prediction is p
+  module _ (tree : Tree) (few : length (preorder tree) ≤ 96) (w top : ℕ) (st out old : List ℕ) (long : length st ≡ 96) (room : 96 ≤ length out) (fits : w ≤ 96) (more : top < 96) (s : Standing tree w top st out old) (p : ℕ) (is : p ≡ getD st top 0) where
     abbrev r : ℕ
     r = getD rules p 0
 
-    -- the next prediction's node, its daughters, and what waits behind it
+    -- its node, its daughters, and what waits behind it
     record Next : Type 0 where
       trees : Forest
       behind : Forest
@@ -83,7 +80,7 @@ module _ (count : ℕ → ℕ) (rules first : List ℕ) where
       waiting : GrowsAll count rules first (join trees behind) (numbersFrom (getD first p 0) (count r) ++ drop (suc top) st)
 
     next : Next
-    next = go (s .forest) refl (subst (GrowsAll count rules first (s .forest)) (drop-cons st top 0 (omega arith)) (s .grows))
+    next = go (s .forest) refl (subst (GrowsAll count rules first (s .forest)) (drop-cons st top 0 (omega arith) ∙ ap (λ (x : ℕ). x ∷ drop (suc top) st) (sym is)) (s .grows))
       where
         go : (f : Forest) → s .forest ≡ f → GrowsAll count rules first f (p ∷ drop (suc top) st) → Next
         go nil e h = absurd h
@@ -98,43 +95,48 @@ module _ (count : ℕ → ℕ) (rules first : List ℕ) where
               waiting = grows-join ts f (numbersFrom (getD first p 0) (count r)) (drop (suc top) st) d (h .1);
             }
 
-    written-length : w ≤ length out → length (take w out) ≡ w
-    written-length h = length-take-le w out h
+    abbrev ahead : Forest
+    ahead = join (next .trees) (next .behind)
+
+    -- the nodes written, this one and those that wait are those of the tree
+    nodes-add : w + suc (length (preorders ahead)) ≡ length (preorder tree)
+    nodes-add = omega (arith, length-take-le w out (omega arith), ap length (s .whole), length-append (take w out) (preorders (s .forest)), ap length (next .nodes))
 
     pub prediction-small : p < 96
     prediction-small = next .small
 
-    pub daughters-small : (j : ℕ) → j < count r → getD first p 0 + j < 96
-    daughters-small j h = daughters-below (next .trees) (getD first p 0) (count r) (next .daughters) j h
+    pub write-small : w < 96
+    write-small = omega (arith, nodes-add)
 
-    pub write-small : w ≤ 96 → w < 96
-    write-small h = omega (arith, written-length (omega arith), ap length (s .whole), length-append (take w out) (preorders (s .forest)), ap length (next .nodes))
+    -- its d daughters are put before those that wait
+    module _ (d : ℕ) (counted : d ≡ count r) where
+      pub daughters-small : (j : ℕ) → j < d → getD first p 0 + j < 96
+      daughters-small j h = daughters-below (next .trees) (getD first p 0) (count r) (next .daughters) j (omega arith)
 
-    pub push-room : w ≤ 96 → count r ≤ top + 1
-    push-room h =
-        omega (
-          arith,
-          written-length (omega arith),
-          ap length (s .whole),
-          length-append (take w out) (preorders (s .forest)),
-          ap length (next .nodes),
-          grows-counts (join (next .trees) (next .behind)) (numbersFrom (getD first p 0) (count r) ++ drop (suc top) st) (next .waiting),
-          length-append (numbersFrom (getD first p 0) (count r)) (drop (suc top) st),
-          length-numbers (getD first p 0) (count r),
-          length-drop (suc top) st,
-        )
+      pub push-room : d ≤ top + 1
+      push-room =
+          omega (
+            arith,
+            nodes-add,
+            grows-counts ahead (numbersFrom (getD first p 0) (count r) ++ drop (suc top) st) (next .waiting),
+            length-append (numbersFrom (getD first p 0) (count r)) (drop (suc top) st),
+            length-numbers (getD first p 0) (count r),
+            length-drop (suc top) st,
+          )
 
-    pub stands-next : w ≤ 96 → (st′ : List ℕ) (top′ : ℕ) → drop top′ st′ ≡ numbersFrom (getD first p 0) (count r) ++ drop (suc top) st → Standing tree (suc w) top′ st′ (set out w r) old
-    stands-next h st′ top′ e =
-        let b : w < length out = omega (arith, write-small h) in
-        record {
-          forest = join (next .trees) (next .behind);
-          grows = subst (GrowsAll count rules first (join (next .trees) (next .behind))) (sym e) (next .waiting);
-          whole = ap (λ (l : List ℕ). l ++ preorders (join (next .trees) (next .behind))) (take-suc-set out w r b)
-              ∙ append-assoc (take w out) (r ∷ []) (preorders (join (next .trees) (next .behind)))
-              ∙ ap (λ (l : List ℕ). take w out ++ l) (sym (next .nodes)) ∙ s .whole;
-          kept = drop-set-lt (suc w) out w r (omega arith) ∙ drop-more out old w (s .kept);
-        }
+      pub stands-next : (st′ : List ℕ) (top′ : ℕ) → drop top′ st′ ≡ numbersFrom (getD first p 0) d ++ drop (top + 1) st → Standing tree (w + 1) top′ st′ (set out w r) old
+      stands-next st′ top′ e =
+          let b : w < length out = omega (arith, write-small) in
+          let f : drop top′ st′ ≡ numbersFrom (getD first p 0) (count r) ++ drop (suc top) st = e ∙ ap₂ (λ (x y : ℕ). numbersFrom (getD first p 0) x ++ drop y st) counted (add-one top) in
+          rw (add-one w)
+          (record {
+            forest = ahead;
+            grows = subst (GrowsAll count rules first ahead) (sym f) (next .waiting);
+            whole = ap (λ (l : List ℕ). l ++ preorders ahead) (take-suc-set out w r b)
+                ∙ append-assoc (take w out) (r ∷ []) (preorders ahead)
+                ∙ ap (λ (l : List ℕ). take w out ++ l) (sym (next .nodes)) ∙ s .whole;
+            kept = drop-set-lt (suc w) out w r (omega arith) ∙ drop-more out old w (s .kept);
+          })
 
   -- nothing waits: the tree is written
   pub finished : (tree : Tree) (w top : ℕ) (st out old : List ℕ) → length st ≡ 96 → 96 ≤ top → w ≤ length out → Standing tree w top st out old

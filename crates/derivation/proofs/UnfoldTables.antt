@@ -4,6 +4,7 @@ use mathlib.Core.Path.{_≡_, refl, sym, ap, ap₂, subst, _∙_}
 use mathlib.Core.List.{List, [], _∷_}
 use Prim.Native.Nat.{ℕ, zero, suc, _+_, _<_, _≤_}
 use native.Mathlib.Omega.{arith}
+use native.Mathlib.Numerals.{add-one}
 use native.Mathlib.Decide.{ℕ-discrete}
 use lib.ListN.{length, getD, take, set}
 use lib.Seq.{getD-take, getD-set-same, getD-set-other}
@@ -36,8 +37,12 @@ linked-next count trace taken rules first n p v h e a b c k l = go (ℕ-discrete
             let x = h k (omega arith) in
             (x .0, omega (arith, x .1), x .2, getD-set-other rules p (getD taken k 0) (getD trace n 0) 0 f ∙ x .3, getD-set-other first p (getD taken k 0) v 0 f ∙ x .4)
 
+-- the first that the next step makes
+pub made-next : (count : ℕ → ℕ) (trace : List ℕ) (k d made : ℕ) → made ≡ firstMade count 1 trace k → d ≡ count (getD trace k 0) → made + d ≡ firstMade count 1 trace (k + 1)
+made-next count trace k d made e f = rw (add-one k) (omega arith)
+
 -- only the first n numbers of `taken` are looked at
-linked-front : (count : ℕ → ℕ) (trace taken rules first : List ℕ) (n : ℕ) → Linked count trace taken rules first n → Linked count trace (take n taken) rules first n
+pub linked-front : (count : ℕ → ℕ) (trace taken rules first : List ℕ) (n : ℕ) → Linked count trace taken rules first n → Linked count trace (take n taken) rules first n
 linked-front count trace taken rules first n h k l =
     let x = h k l in
     let f : getD (take n taken) k 0 ≡ getD taken k 0 = getD-take n taken k 0 l in

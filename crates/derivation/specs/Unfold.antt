@@ -2,12 +2,16 @@
 -- writes it.
 -- Assumes nothing.
 use mathlib.Core.Path.{_≡_}
-use mathlib.Core.List.{List, [], _∷_}
-use Prim.Native.Nat.{ℕ, zero, suc, _+_, _<_, _≤_}
-use lib.ListN.{length, getD}
-use Rattle.model.specs.Base.{sumBelow, numbersFrom}
-use Rattle.model.specs.GrammarFile.{recordOf, field}
+use mathlib.Core.List.{List, [], _∷_, _++_}
+use mathlib.Core.Option.{Option}
+use Prim.Native.Nat.{ℕ, zero, suc, _+_, _-_, _<_, _≤_}
+use lib.ListN.{length, getD, drop}
+use Rattle.model.specs.declared.Refusal.{Refusal}
+use Rattle.model.specs.Base.{_orElse_, sumBelow, numbersFrom}
+use Rattle.model.specs.GrammarFile.{recordOf, field, grammarRefusal, grammarOf}
+use Rattle.model.specs.Trace.{sentenceRefusal}
 use Rattle.model.specs.Tree.{Tree, Forest, node, nil, cons, preorder}
+use Rattle.model.specs.Calls.{roomRefusal}
 
 -- how many daughters rule r of the file has
 abbrev pub daughterCount : List ℕ → ℕ → ℕ
@@ -61,3 +65,13 @@ module _ (count : ℕ → ℕ) (rules first : List ℕ) where
     pub tree : Tree
     pub grows : Grows tree 0
     pub few : length (preorder tree) ≤ 96
+
+-- d predictions from number `first` on are put before those that wait from `top` on
+pub record Pushed (before after : List ℕ) (top first d r : ℕ) : Type 0 where
+  pub kept : length after ≡ length before
+  pub place : r ≡ top - d
+  pub stack : drop r after ≡ numbersFrom first d ++ drop top before
+
+-- The tests of a conversion before those of its input: the grammar, 23, 11.
+abbrev pub conversionTests : List ℕ → List ℕ → List ℕ → Option Refusal
+conversionTests file sentence out = grammarRefusal file orElse roomRefusal out orElse sentenceRefusal (grammarOf file) sentence
