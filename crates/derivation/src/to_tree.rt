@@ -29,7 +29,7 @@ fn wide(x: u16) -> usize
 
 // Stores, for the prediction that each step takes, the step's rule and the number of the first prediction that the step makes.
 fn link(file: &[u8], trace: &[u16], taken: &[u16; 96], rules: &mut [u16; 96], first: &mut [u16; 96])
-    requires { ⌜ (length (now trace) ≤ 96) × (length (now taken) ≡ 96) × (length (now rules) ≡ 96) × (length (now first) ≡ 96) × ((k : ℕ) → k < length (now trace) → getD (now taken) k 0 < 96) ⌝ }
+    requires { ⌜ (length (now trace) ≤ 96) × (length (now rules) ≡ 96) × (length (now first) ≡ 96) × ((k : ℕ) → k < length (now trace) → getD (now taken) k 0 < 96) ⌝ }
     ensures { λ r. ⌜ Linked (daughterCount (now (file .entry))) (now (trace .entry)) (now (taken .entry)) (now (rules .exit)) (now (first .exit)) (length (now (trace .entry))) ⌝ }
 {
     let mut made: u16 = 1;
@@ -60,8 +60,8 @@ fn push(st: &mut [u16; 96], top: usize, first: u16, d: u8) -> usize
 }
 
 // Writes the tree that stands in the tables where prediction 0 is at the front of the output, parent before daughters.
-fn unfold(file: &[u8], rules: &[u16; 96], first: &[u16; 96], out: &mut [u16])
-    requires { ⌜ Grown (daughterCount (now file)) (now rules) (now first) × (length (now rules) ≡ 96) × (length (now first) ≡ 96) × (96 ≤ length (now out)) ⌝ }
+fn write_tree(file: &[u8], rules: &[u16; 96], first: &[u16; 96], out: &mut [u16])
+    requires { ⌜ Grown (daughterCount (now file)) (now rules) (now first) × (96 ≤ length (now out)) ⌝ }
     ensures { λ r. ⌜ ((tree : Tree) → Grows (daughterCount (now (file .entry))) (now (rules .entry)) (now (first .entry)) tree 0 → length (preorder tree) ≤ 96 → now (out .exit) ≡ preorder tree ++ drop (length (preorder tree)) (now (out .entry))) ⌝ }
 {
     let mut st = [0u16; 96];
@@ -94,7 +94,7 @@ fn converted(file: &[u8], sentence: &[u16], trace: &[u16], out: &mut [u16]) -> V
     let mut rules = [0u16; 96];
     let mut first = [0u16; 96];
     link(file, trace, &taken, &mut rules, &mut first);
-    unfold(file, &rules, &first, out);
+    write_tree(file, &rules, &first, out);
     v
 }
 

@@ -59,7 +59,7 @@ element-write-rules : tie.Need-element-write-rules Inv-loop μ-loop
 element-write-rules c =
     let l = c .before .before .before .before .loop in
     let s = c .before .before .before .before .before .before .before in
-    omega (arith, c .wide .ensures .0, s .pre .4 (l .k) (omega arith))
+    omega (arith, c .wide .ensures .0, s .pre .3 (l .k) (omega arith))
 
 -- src/to_tree.rt:47:9
 mul-first : tie.Need-mul-first Inv-loop μ-loop
@@ -70,7 +70,7 @@ element-write-first : tie.Need-element-write-first Inv-loop μ-loop
 element-write-first c =
     let l = c .before .before .before .before .loop in
     let s = c .before .before .before .before .before .before .before in
-    omega (arith, c .wide .ensures .0, s .pre .4 (l .k) (omega arith))
+    omega (arith, c .wide .ensures .0, s .pre .3 (l .k) (omega arith))
 
 -- src/to_tree.rt:48:17
 daughter-count-requires : tie.Need-daughter-count-requires Inv-loop μ-loop
@@ -101,13 +101,13 @@ loop-again c =
     let p = c .before .wide .result in
     let n = daughterCount (a .file .now) in
     let e : p ≡ getD (a .taken .now) (l .k) 0 = c .before .wide .ensures .0 in
-    let b : p < 96 = omega (arith, s .pre .4 (l .k) (omega arith)) in (
+    let b : p < 96 = omega (arith, s .pre .3 (l .k) (omega arith)) in (
       omega arith,
       simp length-set (l .inv .1),
       simp length-set (l .inv .2),
       omega (arith, c .daughter-count .ok, l .inv .3),
       made-next n (a .trace .now) (l .k) (c .daughter-count .result) (l .made) (l .inv .4) (c .daughter-count .ensures),
-      rw add-one (linked-next n (a .trace .now) (a .taken .now) (l .rules) (l .first) (l .k) p (l .made) (l .inv .5) e (omega (arith, s .pre .2)) (omega (arith, s .pre .3)) (l .inv .4)),
+      rw add-one (linked-next n (a .trace .now) (a .taken .now) (l .rules) (l .first) (l .k) p (l .made) (l .inv .5) e (omega (arith, s .pre .1)) (omega (arith, s .pre .2)) (l .inv .4)),
     )
 
 -- src/to_tree.rt:31:1

@@ -1,4 +1,4 @@
--- `derivation::to_tree::unfold` meets its contract.
+-- `derivation::to_tree::write_tree` meets its contract.
 -- Assumes nothing.
 use mathlib.Core.Path.{_≡_, refl, sym, ap, subst, _∙_}
 use mathlib.Core.List.{List, _++_}
@@ -11,10 +11,10 @@ use Rattle.model.specs.Tree.{Tree, preorder}
 use Rattle.derivation.specs.Unfold.{daughterCount, Grows}
 use Rattle.derivation.proofs.UnfoldLoop.{Standing, begins, prediction-small, daughters-small, write-small, push-room, stands-next, finished}
 use borrow.Author.Needs.{needs}
-use Rattle.derivation.proofs.to_tree.unfold.Statement.{statement}
-use Rattle.derivation.proofs.to_tree.unfold.Tie as tie
-use Rattle.derivation.proofs.to_tree.unfold.Reads as reads
-use Rattle.derivation.proofs.to_tree.unfold.Lts as lts
+use Rattle.derivation.proofs.to_tree.write_tree.Statement.{statement}
+use Rattle.derivation.proofs.to_tree.write_tree.Tie as tie
+use Rattle.derivation.proofs.to_tree.write_tree.Reads as reads
+use Rattle.derivation.proofs.to_tree.write_tree.Lts as lts
 use Rattle.derivation.proofs.to_tree.push.Reads as push-reads
 use Rattle.derivation.proofs.to_tree.wide.Reads as wide-reads
 use Rattle.grammar.proofs.daughter_count.Reads as daughter-count-reads
@@ -58,7 +58,7 @@ element-copy-out-r c =
     let g = s .pre .0 in
     let n = daughterCount (a .file .now) in
     let stands = l .inv .4 (g .tree) (g .grows) (g .few) in
-    prediction-small n (a .rules .now) (a .first .now) (g .tree) (g .few) (l .w) (l .top) (l .st) (l .out) (a .out .now) (l .inv .2) (omega (arith, s .pre .3, l .inv .3)) (l .inv .1) (omega arith) stands (c .wide .result) (c .wide .ensures .0)
+    prediction-small n (a .rules .now) (a .first .now) (g .tree) (g .few) (l .w) (l .top) (l .st) (l .out) (a .out .now) (l .inv .2) (omega (arith, s .pre .1, l .inv .3)) (l .inv .1) (omega arith) stands (c .wide .result) (c .wide .ensures .0)
 
 -- src/to_tree.rt:79:9
 mul-out : tie.Need-mul-out Inv-loop μ-loop
@@ -73,8 +73,8 @@ slice-write-out c =
     let g = s .pre .0 in
     let n = daughterCount (a .file .now) in
     let stands = l .inv .4 (g .tree) (g .grows) (g .few) in
-    let h = write-small n (a .rules .now) (a .first .now) (g .tree) (g .few) (l .w) (l .top) (l .st) (l .out) (a .out .now) (l .inv .2) (omega (arith, s .pre .3, l .inv .3)) (l .inv .1) (omega arith) stands (c .before .wide .result) (c .before .wide .ensures .0) in
-    omega (arith, s .pre .3, l .inv .3)
+    let h = write-small n (a .rules .now) (a .first .now) (g .tree) (g .few) (l .w) (l .top) (l .st) (l .out) (a .out .now) (l .inv .2) (omega (arith, s .pre .1, l .inv .3)) (l .inv .1) (omega arith) stands (c .before .wide .result) (c .before .wide .ensures .0) in
+    omega (arith, s .pre .1, l .inv .3)
 
 -- src/to_tree.rt:80:9
 add-w : tie.Need-add-w Inv-loop μ-loop
@@ -97,7 +97,7 @@ element-copy-out-push c =
     let g = s .pre .0 in
     let n = daughterCount (a .file .now) in
     let stands = l .inv .4 (g .tree) (g .grows) (g .few) in
-    prediction-small n (a .rules .now) (a .first .now) (g .tree) (g .few) (l .w) (l .top) (l .st) (l .out) (a .out .now) (l .inv .2) (omega (arith, s .pre .3, l .inv .3)) (l .inv .1) (omega arith) stands (c .before .before .wide .result) (c .before .before .wide .ensures .0)
+    prediction-small n (a .rules .now) (a .first .now) (g .tree) (g .few) (l .w) (l .top) (l .st) (l .out) (a .out .now) (l .inv .2) (omega (arith, s .pre .1, l .inv .3)) (l .inv .1) (omega arith) stands (c .before .before .wide .result) (c .before .before .wide .ensures .0)
 
 -- src/to_tree.rt:81:48
 daughter-count-requires : tie.Need-daughter-count-requires Inv-loop μ-loop
@@ -112,7 +112,7 @@ push-requires c κs =
     let g = s .pre .0 in
     let n = daughterCount (a .file .now) in
     let stands = l .inv .4 (g .tree) (g .grows) (g .few) in
-    (l .inv .2, omega arith, push-room n (a .rules .now) (a .first .now) (g .tree) (g .few) (l .w) (l .top) (l .st) (l .out) (a .out .now) (l .inv .2) (omega (arith, s .pre .3, l .inv .3)) (l .inv .1) (omega arith) stands (c .before .before .before .before .wide .result) (c .before .before .before .before .wide .ensures .0) (c .daughter-count .result) (c .daughter-count .ensures), daughters-small n (a .rules .now) (a .first .now) (g .tree) (g .few) (l .w) (l .top) (l .st) (l .out) (a .out .now) (l .inv .2) (omega (arith, s .pre .3, l .inv .3)) (l .inv .1) (omega arith) stands (c .before .before .before .before .wide .result) (c .before .before .before .before .wide .ensures .0) (c .daughter-count .result) (c .daughter-count .ensures))
+    (l .inv .2, omega arith, push-room n (a .rules .now) (a .first .now) (g .tree) (g .few) (l .w) (l .top) (l .st) (l .out) (a .out .now) (l .inv .2) (omega (arith, s .pre .1, l .inv .3)) (l .inv .1) (omega arith) stands (c .before .before .before .before .wide .result) (c .before .before .before .before .wide .ensures .0) (c .daughter-count .result) (c .daughter-count .ensures), daughters-small n (a .rules .now) (a .first .now) (g .tree) (g .few) (l .w) (l .top) (l .st) (l .out) (a .out .now) (l .inv .2) (omega (arith, s .pre .1, l .inv .3)) (l .inv .1) (omega arith) stands (c .before .before .before .before .wide .result) (c .before .before .before .before .wide .ensures .0) (c .daughter-count .result) (c .daughter-count .ensures))
 
 -- src/to_tree.rt:76:5
 loop-less : tie.Need-loop-less Inv-loop μ-loop
@@ -123,7 +123,7 @@ loop-less c =
     let g = s .pre .0 in
     let n = daughterCount (a .file .now) in
     let stands = l .inv .4 (g .tree) (g .grows) (g .few) in
-    let h = write-small n (a .rules .now) (a .first .now) (g .tree) (g .few) (l .w) (l .top) (l .st) (l .out) (a .out .now) (l .inv .2) (omega (arith, s .pre .3, l .inv .3)) (l .inv .1) (omega arith) stands (c .before .before .before .before .before .wide .result) (c .before .before .before .before .before .wide .ensures .0) in
+    let h = write-small n (a .rules .now) (a .first .now) (g .tree) (g .few) (l .w) (l .top) (l .st) (l .out) (a .out .now) (l .inv .2) (omega (arith, s .pre .1, l .inv .3)) (l .inv .1) (omega arith) stands (c .before .before .before .before .before .wide .result) (c .before .before .before .before .before .wide .ensures .0) in
     omega arith
 
 -- src/to_tree.rt:76:5
@@ -135,9 +135,9 @@ loop-again c =
     let g = s .pre .0 in
     let n = daughterCount (a .file .now) in
     let stands = l .inv .4 (g .tree) (g .grows) (g .few) in
-    let h = write-small n (a .rules .now) (a .first .now) (g .tree) (g .few) (l .w) (l .top) (l .st) (l .out) (a .out .now) (l .inv .2) (omega (arith, s .pre .3, l .inv .3)) (l .inv .1) (omega arith) stands (c .before .before .before .before .before .wide .result) (c .before .before .before .before .before .wide .ensures .0) in
+    let h = write-small n (a .rules .now) (a .first .now) (g .tree) (g .few) (l .w) (l .top) (l .st) (l .out) (a .out .now) (l .inv .2) (omega (arith, s .pre .1, l .inv .3)) (l .inv .1) (omega arith) stands (c .before .before .before .before .before .wide .result) (c .before .before .before .before .before .wide .ensures .0) in
     let k = c .push .ensures in
-    (omega (arith, k .place), omega arith, k .kept ∙ l .inv .2, simp length-set (l .inv .3), λ tree grows few. stands-next n (a .rules .now) (a .first .now) tree few (l .w) (l .top) (l .st) (l .out) (a .out .now) (l .inv .2) (omega (arith, s .pre .3, l .inv .3)) (l .inv .1) (omega arith) (l .inv .4 tree grows few) (c .before .before .before .before .before .wide .result) (c .before .before .before .before .before .wide .ensures .0) (c .before .daughter-count .result) (c .before .daughter-count .ensures) _ (c .push .result) (k .stack))
+    (omega (arith, k .place), omega arith, k .kept ∙ l .inv .2, simp length-set (l .inv .3), λ tree grows few. stands-next n (a .rules .now) (a .first .now) tree few (l .w) (l .top) (l .st) (l .out) (a .out .now) (l .inv .2) (omega (arith, s .pre .1, l .inv .3)) (l .inv .1) (omega arith) (l .inv .4 tree grows few) (c .before .before .before .before .before .wide .result) (c .before .before .before .before .before .wide .ensures .0) (c .before .daughter-count .result) (c .before .daughter-count .ensures) _ (c .push .result) (k .stack))
 
 -- src/to_tree.rt:69:1
 same-length : tie.Need-same-length Inv-loop μ-loop
@@ -150,10 +150,10 @@ returns c =
     let l = c .before .loop in
     let a = s .args in
     λ tree grows few.
-    finished (daughterCount (a .file .now)) (a .rules .now) (a .first .now) tree (l .w) (l .top) (l .st) (l .out) (a .out .now) (l .inv .2) (omega arith) (omega (arith, s .pre .3, l .inv .1, l .inv .3)) (l .inv .4 tree grows few)
+    finished (daughterCount (a .file .now)) (a .rules .now) (a .first .now) tree (l .w) (l .top) (l .st) (l .out) (a .out .now) (l .inv .2) (omega arith) (omega (arith, s .pre .1, l .inv .1, l .inv .3)) (l .inv .4 tree grows few)
 
-pub unfold-spec : {M : Type 1} → statement M
-unfold-spec =
+pub write-tree-spec : {M : Type 1} → statement M
+write-tree-spec =
     tie.close
     (tie.spec
     Inv-loop
