@@ -51,21 +51,21 @@ module _ (file sentence trace taken : List ℕ) (accepted : grammarRefusal file 
   taken-small k h = omega (arith, front-small k h, getD-take (length trace) taken k 0 h)
 
   -- with the tables that the steps fill
-  module _ (rules first : List ℕ) (linked : Linked (daughterCount file) trace taken rules first (length trace)) where
-    stands : Grows (daughterCount file) rules first (tree-of-run .tree) 0
+  module _ (steps first : List ℕ) (linked : Linked (daughterCount file) trace taken steps first (length trace)) where
+    stands : Grows (daughterCount file) trace steps first (tree-of-run .tree) 0
     stands =
         let u = tree-of-run in
-        grows-tree (daughterCount file) trace (take (length trace) taken) rules first (u .names) (u .unfolds) front-small
-        (linked-front (daughterCount file) trace taken rules first (length trace) linked) (u .tree) 0 (u .start) (u .begins)
+        grows-tree (daughterCount file) trace (take (length trace) taken) steps first (u .names) steps-few (u .unfolds) front-small
+        (linked-front (daughterCount file) trace taken steps first (length trace) linked) (u .tree) 0 (u .start) (u .begins)
 
     nodes-few : length (preorder (tree-of-run .tree)) ≤ 96
     nodes-few = omega (arith, tree-of-run .size, steps-few)
 
-    pub grown : Grown (daughterCount file) rules first
+    pub grown : Grown (daughterCount file) trace steps first
     grown = record { tree = tree-of-run .tree; grows = stands; few = nodes-few }
 
     pub tree-written : (out last : List ℕ)
-        → ((tree : Tree) → Grows (daughterCount file) rules first tree 0 → length (preorder tree) ≤ 96 → last ≡ preorder tree ++ drop (length (preorder tree)) out)
+        → ((tree : Tree) → Grows (daughterCount file) trace steps first tree 0 → length (preorder tree) ≤ 96 → last ≡ preorder tree ++ drop (length (preorder tree)) out)
         → last ≡ written (traceRefusal g sentence trace) (treeOf g sentence trace) out
     tree-written out last h =
         h (tree-of-run .tree) stands nodes-few

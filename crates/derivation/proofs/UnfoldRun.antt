@@ -1,23 +1,23 @@
 -- The run of an accepted trace, by the predictions that its steps take: each stands for a node of the tree that belongs to the trace.
 -- Assumes nothing.
 use mathlib.Core.Path.{_≡_, refl, sym, ap, ap₂, subst, _∙_}
-use mathlib.Core.Option.{Option, none, some}
-use mathlib.Core.List.{List, [], _∷_, _++_, List·Memᴰ·head}
+use mathlib.Core.Option.{none, some}
+use mathlib.Core.List.{List, [], _∷_, List·Memᴰ·head}
 use Prim.Native.Nat.{ℕ, zero, suc, _+_, _<_, _≤_}
 use native.Mathlib.Omega.{arith}
 use lib.Dec.{T}
 use lib.ListN.{length, getD}
-use Rattle.model.specs.Base.{numbersFrom, sumBelow}
+use Rattle.model.specs.Base.{numbersFrom}
 use Rattle.model.specs.Grammar.{Rule, Grammar, ruleAt}
 use Rattle.model.specs.GrammarFile.{grammarRefusal, grammarOf, recordOf, rulesOf}
 use Rattle.model.specs.Step.{Prediction, State, leads, step, begin}
 use Rattle.model.specs.Trace.{traceRefusal}
-use Rattle.model.specs.Tree.{Tree, Forest, node, nil, cons, preorder, hasRoot, hasRoots, derives}
-use Rattle.model.specs.Conversions.{label, childAt, subtree, Step, Traces, BelongsTo, treeOf}
-use Rattle.model.specs.Rows.{Slot, RowState, RowOutcome, halts, moves, stepRow, beginRow, extended}
+use Rattle.model.specs.Tree.{Tree, Forest, node, nil, cons, preorder, hasRoot, hasRoots}
+use Rattle.model.specs.Conversions.{childAt, subtree, Step, Traces, BelongsTo, treeOf}
+use Rattle.model.specs.Rows.{Slot, RowState, RowOutcome, halts, moves, stepRow, beginRow}
 use Rattle.model.specs.WellFormed.{Right}
 use Rattle.model.specs.RowsAgree.{number}
-use Rattle.model.proofs.Tests.{and-l, and-r}
+use Rattle.model.proofs.Tests.{and-r}
 use Rattle.model.proofs.Lists.{number-below}
 use Rattle.model.proofs.WellFormed.{rules-length}
 use Rattle.model.proofs.Perm.{perm-sym}

@@ -11,7 +11,7 @@ use lib.ListN.{length, length-map, length-append}
 use Rattle.model.specs.Base.{if_then_else_, numbersFrom}
 use Rattle.model.specs.Grammar.{Variable, Rule, Grammar, ruleAt, isLexical}
 use Rattle.model.specs.Step.{Index, Prediction, State, Outcome, fails, leads, shorten, trim, sort, sameFirst, scan, daughtersFrom, variableIndices, expand, predict, apply, step}
-use Rattle.model.specs.Rows.{Slot, RowState, RowOutcome, halts, moves, stepRow}
+use Rattle.model.specs.Rows.{RowState, RowOutcome, halts, moves, stepRow}
 use Rattle.model.specs.WellFormed.{Perm, same, chain, Right}
 use Rattle.model.specs.RowsAgree.{number, SameOutcome}
 use Rattle.model.proofs.Lists.{length-numbers, map-append}
@@ -20,7 +20,7 @@ use Rattle.model.proofs.Marks.{indicesOf}
 use Rattle.model.proofs.Queue.{sort-perm}
 use Rattle.model.proofs.Traces.{leads-one, scan-to}
 use Rattle.model.proofs.RowsLine.{first, nodesOf}
-use Rattle.model.proofs.Rows.{Below, Kept, AgreeRow, step-agree}
+use Rattle.model.proofs.Rows.{Kept, AgreeRow, step-agree}
 use Rattle.model.proofs.RowsNamed.{frontOwner}
 use Rattle.model.proofs.RowsBounds.{step-counts}
 

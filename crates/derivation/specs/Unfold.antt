@@ -37,22 +37,20 @@ pub record Unfolds (count : ℕ → ℕ) (m : ℕ) (taken trace : List ℕ) (nam
   pub nodes : (k : ℕ) → k < length trace → names (getD taken k 0) ≡ node (getD trace k 0) (treesFrom names (firstMade count m trace k) (count (getD trace k 0)))
   pub daughters : (k j : ℕ) → k < length trace → j < count (getD trace k 0) → Taken taken (firstMade count m trace k + j)
 
--- Tables by the number of a prediction: `rules` has the rule of its node, `first` the number of its first daughter.
+-- Tables: `steps` has the step that takes each prediction, `first` the number of the first prediction that each step makes.
 
--- for the prediction that step k takes: what one of the first n steps that takes it has stored
-abbrev pub Entry : (ℕ → ℕ) → List ℕ → List ℕ → List ℕ → List ℕ → ℕ → ℕ → Type 0
-Entry count trace taken rules first n k =
-    (i : ℕ) × (i < n) × (getD taken i 0 ≡ getD taken k 0) × (getD rules (getD taken k 0) 0 ≡ getD trace i 0) × (getD first (getD taken k 0) 0 ≡ firstMade count 1 trace i)
-
--- after the first n steps
-abbrev pub Linked : (ℕ → ℕ) → List ℕ → List ℕ → List ℕ → List ℕ → ℕ → Type 0
-Linked count trace taken rules first n = (k : ℕ) → k < n → Entry count trace taken rules first n k
+-- filled by the first n steps; for a prediction that more than one step took, any of these
+pub record Linked (count : ℕ → ℕ) (trace taken steps first : List ℕ) (n : ℕ) : Type 0 where
+  pub within : (k : ℕ) → k < n → getD steps (getD taken k 0) 0 < n
+  pub takes : (k : ℕ) → k < n → getD taken (getD steps (getD taken k 0) 0) 0 ≡ getD taken k 0
+  pub makes : (k : ℕ) → k < n → getD first k 0 ≡ firstMade count 1 trace k
 
 -- a tree stands where prediction p is, by the tables, and the trees of a forest where the predictions of a list are
-module _ (count : ℕ → ℕ) (rules first : List ℕ) where
+module _ (count : ℕ → ℕ) (trace steps first : List ℕ) where
   abbrev mutual
     pub Grows : Tree → ℕ → Type 0
-    Grows (node r ts) p = (p < 96) × (getD rules p 0 ≡ r) × GrowsAll ts (numbersFrom (getD first p 0) (count r))
+    Grows (node r ts) p =
+        (p < 96) × (getD steps p 0 < 96) × (getD trace (getD steps p 0) 0 ≡ r) × GrowsAll ts (numbersFrom (getD first (getD steps p 0) 0) (count r))
 
     pub GrowsAll : Forest → List ℕ → Type 0
     GrowsAll nil [] = Unit {0}

@@ -10,24 +10,16 @@ use Rattle.derivation.proofs.UnfoldCall.{refused-kept, steps-few, taken
 use borrow.Author.Needs.{needs}
 use Rattle.derivation.proofs.to_tree.converted.Statement.{statement}
 use Rattle.derivation.proofs.to_tree.converted.Tie as tie
-use Rattle.derivation.proofs.to_tree.converted.Reads as reads
-use Rattle.derivation.proofs.to_tree.converted.Lts as lts
-use Rattle.derivation.proofs.to_tree.link.Reads as link-reads
-use Rattle.derivation.proofs.to_tree.write_tree.Reads as write-tree-reads
-use Rattle.recognizer.proofs.run_trace.Reads as run-trace-reads
 
--- src/to_tree.rt:90:9
 run-trace-requires : tie.Need-run-trace-requires
 run-trace-requires c κs = search needs
 
 enum-told : tie.Need-enum-told
 enum-told c = search needs
 
--- src/to_tree.rt:92:9
 enum-told-2 : tie.Need-enum-told-2
 enum-told-2 c = search needs
 
--- src/to_tree.rt:92:9
 returns : tie.Need-returns
 returns c =
     let a = c .before .before .before .before .before .before .before .before .args in
@@ -36,7 +28,6 @@ returns c =
     let R = traceRefusal g (a .sentence .now) (a .trace .now) in
     (k .ensures .answer, refused-kept R (treeOf g (a .sentence .now) (a .trace .now)) (a .out .now) (met R (length (a .trace .now)) (k .result) (k .ensures .answer) (c .enum-told2 .given .1)))
 
--- src/to_tree.rt:96:5
 link-requires : tie.Need-link-requires
 link-requires c κs =
     let s = c .before .before .before .before .before .before .before .before .before .before .before in
@@ -46,7 +37,6 @@ link-requires c κs =
     let e = passed R (length (a .trace .now)) (k .result) (k .ensures .answer) (c .before .before .before .enum-told .given .1) in
     (steps-few (a .file .now) (a .sentence .now) (a .trace .now) _ (s .pre .0) e (k .ensures .taken e), refl {a = 96}, refl {a = 96}, taken-small (a .file .now) (a .sentence .now) (a .trace .now) _ (s .pre .0) e (k .ensures .taken e))
 
--- src/to_tree.rt:97:5
 write-tree-requires : tie.Need-write-tree-requires
 write-tree-requires c κs =
     let s = c .before .before .before .before .before .before .before .before .before .before .before .before .before .before .before in
@@ -56,11 +46,9 @@ write-tree-requires c κs =
     let e = passed R (length (a .trace .now)) (k .result) (k .ensures .answer) (c .before .before .before .before .before .before .before .enum-told .given .1) in
     (grown (a .file .now) (a .sentence .now) (a .trace .now) _ (s .pre .0) e (k .ensures .taken e) _ _ (c .before .before .before .link .ensures), search needs)
 
--- src/to_tree.rt:85:1
 same-length : tie.Need-same-length
 same-length c = search needs
 
--- src/to_tree.rt:85:1
 returns-2 : tie.Need-returns-2
 returns-2 c =
     let s = c .before .before .before .before .before .before .before .before .before .before .before .before .before .before .before .before .before .before in

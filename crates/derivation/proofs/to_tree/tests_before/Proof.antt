@@ -8,24 +8,16 @@ use Rattle.model.proofs.Verdicts.{passed, stopped, after-pass}
 use borrow.Author.Needs.{needs}
 use Rattle.derivation.proofs.to_tree.tests_before.Statement.{statement}
 use Rattle.derivation.proofs.to_tree.tests_before.Tie as tie
-use Rattle.derivation.proofs.to_tree.tests_before.Reads as reads
-use Rattle.derivation.proofs.to_tree.tests_before.Lts as lts
-use Rattle.buffers.proofs.room_refusal.Reads as room-refusal-reads
-use Rattle.grammar.proofs.read_grammar.Reads as read-grammar-reads
-use Rattle.recognizer.proofs.sentence_refusal.Reads as sentence-refusal-reads
 
--- src/to_tree.rt:106:9
 read-grammar-requires : tie.Need-read-grammar-requires
 read-grammar-requires c κs = search needs
 
 enum-told : tie.Need-enum-told
 enum-told c = search needs
 
--- src/to_tree.rt:108:9
 enum-told-2 : tie.Need-enum-told-2
 enum-told-2 c = search needs
 
--- src/to_tree.rt:108:9
 returns : tie.Need-returns
 returns c =
     let a = c .before .before .before .before .before .before .args in
@@ -35,18 +27,15 @@ returns c =
     let k = c .before .before .read-grammar in
     stopped G (rulesOf (a .file .now)) (k .result) (k .ensures) (O orElse W) 0 (c .enum-told2 .given .1)
 
--- src/to_tree.rt:110:9
 room-refusal-requires : tie.Need-room-refusal-requires
 room-refusal-requires c κs = search needs
 
 enum-told-3 : tie.Need-enum-told-3
 enum-told-3 c = search needs
 
--- src/to_tree.rt:112:9
 enum-told-4 : tie.Need-enum-told-4
 enum-told-4 c = search needs
 
--- src/to_tree.rt:112:9
 returns-2 : tie.Need-returns-2
 returns-2 c =
     let a = c .before .before .before .before .before .before .before .before .before .args in
@@ -57,11 +46,9 @@ returns-2 c =
     let k = c .before .before .room-refusal in
     after-pass G (O orElse W) 0 (k .result) (passed G (rulesOf (a .file .now)) (g .result) (g .ensures) (c .before .before .before .enum-told .given .1)) (stopped O 0 (k .result) (k .ensures) W 0 (c .enum-told4 .given .1))
 
--- src/to_tree.rt:114:5
 sentence-refusal-requires : tie.Need-sentence-refusal-requires
 sentence-refusal-requires c κs = search needs
 
--- src/to_tree.rt:103:1
 returns-3 : tie.Need-returns-3
 returns-3 c =
     let a = c .before .before .before .before .before .before .before .before .before .before .args in

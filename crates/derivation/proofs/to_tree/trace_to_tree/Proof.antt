@@ -6,46 +6,34 @@ use Rattle.derivation.proofs.UnfoldCall.{tests-passed, converted-call, 
 use borrow.Author.Needs.{needs}
 use Rattle.derivation.proofs.to_tree.trace_to_tree.Statement.{statement}
 use Rattle.derivation.proofs.to_tree.trace_to_tree.Tie as tie
-use Rattle.derivation.proofs.to_tree.trace_to_tree.Reads as reads
-use Rattle.derivation.proofs.to_tree.trace_to_tree.Lts as lts
-use Rattle.derivation.proofs.to_tree.converted.Reads as converted-reads
-use Rattle.derivation.proofs.to_tree.tests_before.Reads as tests-before-reads
 
--- src/to_tree.rt:121:9
 tests-before-requires : tie.Need-tests-before-requires
 tests-before-requires c κs = search needs
 
--- src/to_tree.rt:123:66
 enum-told : tie.Need-enum-told
 enum-told c = search needs
 
--- src/to_tree.rt:123:33
 converted-requires : tie.Need-converted-requires
 converted-requires c κs =
     let a = c .before .before .before .before .before .before .before .before .before .args in
     let k = c .before .before .before .tests-before in
     tests-passed (a .file .now) (a .sentence .now) (a .trace .now) (a .out .now) (passed (conversionTests (a .file .now) (a .sentence .now) (a .out .now)) 0 (k .result) (k .ensures) (c .before .enum-told .given .1))
 
--- src/to_tree.rt:124:32
 enum-told-2 : tie.Need-enum-told-2
 enum-told-2 c = search needs
 
--- src/to_tree.rt:118:1
 same-length : tie.Need-same-length
 same-length c = search needs
 
--- src/to_tree.rt:118:1
 returns : tie.Need-returns
 returns c =
     let a = c .before .before .before .before .before .before .before .before .before .before .before .before .args in
     let k = c .before .before .before .before .before .before .tests-before in
     converted-call (a .file .now) (a .sentence .now) (a .trace .now) (a .out .now) (passed (conversionTests (a .file .now) (a .sentence .now) (a .out .now)) 0 (k .result) (k .ensures) (c .before .before .before .before .enum-told .given .1)) (c .before .before .converted .result) _ (c .before .before .converted .ensures)
 
--- src/to_tree.rt:118:1
 same-length-2 : tie.Need-same-length-2
 same-length-2 c = search needs
 
--- src/to_tree.rt:118:1
 returns-2 : tie.Need-returns-2
 returns-2 c =
     let a = c .before .before .before .before .before .before .before .before .args in
