@@ -70,6 +70,13 @@ module _ (count : ℕ → ℕ) (trace steps first : List ℕ) where
     waiting : GrowsAll count trace steps first (s .forest) (p ∷ drop (suc top) st)
     waiting = subst (GrowsAll count trace steps first (s .forest)) (drop-cons st top 0 (omega arith) ∙ ap (λ (x : ℕ). x ∷ drop (suc top) st) (sym p-is)) (s .grows)
 
+    -- the nodes written and those that wait are those of the tree
+    nodes-all : w + length (preorders (s .forest)) ≡ length (preorder tree)
+    nodes-all = omega (arith, length-take-le w out (omega arith), ap length (s .whole), length-append (take w out) (preorders (s .forest)))
+
+    pub write-small : w < 96
+    write-small = omega (arith, nodes-all, grows-counts (s .forest) (p ∷ drop (suc top) st) waiting)
+
     pub prediction-small : p < 96
     prediction-small = go (s .forest) waiting
       where
@@ -117,10 +124,7 @@ module _ (count : ℕ → ℕ) (trace steps first : List ℕ) where
 
         -- the nodes written, this one and those that wait are those of the tree
         nodes-add : w + suc (length (preorders ahead)) ≡ length (preorder tree)
-        nodes-add = omega (arith, length-take-le w out (omega arith), ap length (s .whole), length-append (take w out) (preorders (s .forest)), ap length (next .nodes))
-
-        pub write-small : w < 96
-        write-small = omega (arith, nodes-add)
+        nodes-add = omega (arith, nodes-all, ap length (next .nodes))
 
         -- its d daughters are put before those that wait
         module _ (d : ℕ) (counted : d ≡ count r) where

@@ -63,7 +63,7 @@ slice-write-out c =
     let g = s .pre .0 in
     let n = daughterCount (a .file .now) in
     let stands = l .inv .4 (g .tree) (g .grows) (g .few) in
-    let h = write-small n (a .trace .now) (a .steps .now) (a .first .now) (g .tree) (g .few) (l .w) (l .top) (l .st) (l .out) (a .out .now) (l .inv .2) (omega (arith, s .pre .1, l .inv .3)) (l .inv .1) (omega arith) stands (c .before .before .before .wide .result) (c .before .before .before .wide .ensures .0) (c .before .wide2 .result) (c .before .wide2 .ensures .0) (c .number-at .result) (c .number-at .ensures) in
+    let h = write-small n (a .trace .now) (a .steps .now) (a .first .now) (g .tree) (g .few) (l .w) (l .top) (l .st) (l .out) (a .out .now) (l .inv .2) (omega (arith, s .pre .1, l .inv .3)) (l .inv .1) (omega arith) stands (c .before .before .before .wide .result) (c .before .before .before .wide .ensures .0) in
     omega (arith, s .pre .1, l .inv .3)
 
 add-w : tie.Need-add-w Inv-loop μ-loop
@@ -106,7 +106,7 @@ loop-less c =
     let g = s .pre .0 in
     let n = daughterCount (a .file .now) in
     let stands = l .inv .4 (g .tree) (g .grows) (g .few) in
-    let h = write-small n (a .trace .now) (a .steps .now) (a .first .now) (g .tree) (g .few) (l .w) (l .top) (l .st) (l .out) (a .out .now) (l .inv .2) (omega (arith, s .pre .1, l .inv .3)) (l .inv .1) (omega arith) stands (c .before .before .before .before .before .before .before .wide .result) (c .before .before .before .before .before .before .before .wide .ensures .0) (c .before .before .before .before .before .wide2 .result) (c .before .before .before .before .before .wide2 .ensures .0) (c .before .before .before .before .number-at .result) (c .before .before .before .before .number-at .ensures) in
+    let h = write-small n (a .trace .now) (a .steps .now) (a .first .now) (g .tree) (g .few) (l .w) (l .top) (l .st) (l .out) (a .out .now) (l .inv .2) (omega (arith, s .pre .1, l .inv .3)) (l .inv .1) (omega arith) stands (c .before .before .before .before .before .before .before .wide .result) (c .before .before .before .before .before .before .before .wide .ensures .0) in
     omega arith
 
 loop-again : tie.Need-loop-again Inv-loop μ-loop
@@ -117,7 +117,7 @@ loop-again c =
     let g = s .pre .0 in
     let n = daughterCount (a .file .now) in
     let stands = l .inv .4 (g .tree) (g .grows) (g .few) in
-    let h = write-small n (a .trace .now) (a .steps .now) (a .first .now) (g .tree) (g .few) (l .w) (l .top) (l .st) (l .out) (a .out .now) (l .inv .2) (omega (arith, s .pre .1, l .inv .3)) (l .inv .1) (omega arith) stands (c .before .before .before .before .before .before .before .wide .result) (c .before .before .before .before .before .before .before .wide .ensures .0) (c .before .before .before .before .before .wide2 .result) (c .before .before .before .before .before .wide2 .ensures .0) (c .before .before .before .before .number-at .result) (c .before .before .before .before .number-at .ensures) in
+    let h = write-small n (a .trace .now) (a .steps .now) (a .first .now) (g .tree) (g .few) (l .w) (l .top) (l .st) (l .out) (a .out .now) (l .inv .2) (omega (arith, s .pre .1, l .inv .3)) (l .inv .1) (omega arith) stands (c .before .before .before .before .before .before .before .wide .result) (c .before .before .before .before .before .before .before .wide .ensures .0) in
     let k = c .push .ensures in
     (omega (arith, k .place), omega arith, k .kept ∙ l .inv .2, simp length-set (l .inv .3), λ tree grows few. stands-next n (a .trace .now) (a .steps .now) (a .first .now) tree few (l .w) (l .top) (l .st) (l .out) (a .out .now) (l .inv .2) (omega (arith, s .pre .1, l .inv .3)) (l .inv .1) (omega arith) (l .inv .4 tree grows few) (c .before .before .before .before .before .before .before .wide .result) (c .before .before .before .before .before .before .before .wide .ensures .0) (c .before .before .before .before .before .wide2 .result) (c .before .before .before .before .before .wide2 .ensures .0) (c .before .before .before .before .number-at .result) (c .before .before .before .before .number-at .ensures) (c .before .daughter-count .result) (c .before .daughter-count .ensures) _ (c .push .result) (k .stack))
 
