@@ -46,7 +46,7 @@ fn link(file: &[u8], trace: &[u16], taken: &[u16; 96], steps: &mut [u16; 96], fi
 
 // The number of the daughter with k daughters after it, of d whose first has number `first`.
 fn from_last(first: u16, d: u8, k: u8) -> u16
-    requires { ⌜ (k < d) × (first + (d - 1 - k) < 65536) ⌝ }
+    requires { ⌜ (k < d) × (first + d ≤ 65536) ⌝ }
     ensures { λ n. ⌜ n ≡ first + (d - 1 - k) ⌝ }
 {
     first + (d - 1 - k) as u16

@@ -25,7 +25,7 @@ loop-holds c =
 from-last-requires : tie.Need-from-last-requires Inv-loop μ-loop
 from-last-requires c κs =
     let a = c .before .before .args in
-    (omega arith, omega (arith, c .before .before .pre .3 (a .d - 1 - c .before .loop .k) (omega arith)))
+    (omega arith, omega (arith, c .before .before .pre .3 (a .d - 1) (omega arith)))
 
 sub-st : tie.Need-sub-st Inv-loop μ-loop
 sub-st c = search needs
