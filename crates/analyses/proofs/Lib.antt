@@ -11,6 +11,8 @@ pub mod LookTurns
 pub mod LookDesk
 pub mod Following
 pub mod NextCall
+pub mod Streamed
+pub mod Answered
 pub mod Scans
 pub mod Turns
 pub mod AtState

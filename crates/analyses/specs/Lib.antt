@@ -4,3 +4,4 @@ pub mod Search
 pub mod Tests
 pub mod Look
 pub mod Stream
+pub mod Answers
