@@ -53,7 +53,12 @@ abbrev pub VerdictFits : Verdict → Type 0
 VerdictFits (Accepted n) = n < 9223372036854775808
 VerdictFits (Refused r) = Fits r
 
--- count and effort below 2^30 come back
+-- count and effort below 2^30
+abbrev pub CountInRange : CountVerdict → Type 0
+CountInRange (Counted count effort) = (count < 1073741824) × (effort < 1073741824)
+CountInRange (NotCounted r) = Unit {0}
+
+-- and these come back
 abbrev pub CountFits : CountVerdict → Type 0
 CountFits (Counted count effort) = (count < 1073741824) × (effort < 1073741824)
 CountFits (NotCounted r) = Fits r

@@ -1,7 +1,7 @@
 // A verdict as one 64-bit number.
 ghost use mathlib.Core.Path.{_≡_};
 ghost use Prim.Native.Nat.{_<_};
-ghost use Rattle.downgrater.specs.Packing.{packedRefusal, packedVerdict, packedCount, CountFits};
+ghost use Rattle.downgrater.specs.Packing.{packedRefusal, packedVerdict, packedCount, CountInRange};
 use model::CountVerdict;
 use model::Refusal;
 use model::Verdict;
@@ -30,7 +30,7 @@ pub fn verdict_bits(v: Verdict) -> u64
 }
 
 pub fn count_bits(v: CountVerdict) -> u64
-    requires { ⌜ CountFits v ⌝ }
+    requires { ⌜ CountInRange v ⌝ }
     ensures { λ x. ⌜ x ≡ packedCount v ⌝ }
 {
     match v {
