@@ -89,15 +89,15 @@ add-result-8 c = search needs
 
 -- src/packing.rt:9:1
 returns : tie.Need-returns
-returns c = rw (c .before .r .given .1) (omega arith)
+returns c = rw (c .before .r .given .1) (omega arith, record { number-fits = omega arith; place-fits = omega arith })
 
 -- src/packing.rt:9:1
 returns-2 : tie.Need-returns-2
-returns-2 c = rw (c .before .r2 .given .1) (omega arith)
+returns-2 c = rw (c .before .r2 .given .1) (omega arith, record { number-fits = omega arith; place-fits = omega arith })
 
 -- src/packing.rt:9:1
 returns-3 : tie.Need-returns-3
-returns-3 c = rw (c .before .r3 .given .1) (omega arith)
+returns-3 c = rw (c .before .r3 .given .1) (omega arith, record { number-fits = omega arith; place-fits = omega arith })
 
 pub refusal-bits-spec : {M : Type 1} → statement M
 refusal-bits-spec =
