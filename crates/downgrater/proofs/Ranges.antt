@@ -18,15 +18,16 @@ use Rattle.model.specs.Verdict.{refuseIf, verdict, countVerdict}
 use Rattle.model.specs.Grammar.{Grammar}
 use Rattle.model.specs.GrammarFile.{grammarRefusal, grammarOf, rulesOf, categoriesOf, blocksFor, wrongHeading}
 use Rattle.model.specs.Writer.{Heading, headingBlock, fileOf, writerRefusal}
-use Rattle.model.specs.Trace.{sentenceRefusal, lengthRefusal, traceRefusal}
+use Rattle.model.specs.Trace.{sentenceRefusal, traceRefusal}
+use Rattle.model.specs.Tree.{treeRefusal}
 use Rattle.model.specs.Counting.{limitsRefusal, effortRefusal, entryRefusal, live, complete, listing, count, effort, entry}
 use Rattle.model.specs.Rows.{beginRow, foundFromRow}
-use Rattle.model.specs.Calls.{roomRefusal, readVerdict, writeRefusal, writeVerdict, checkTraceRefusal, checkTraceVerdict, countRefusal, countCall, entryCallRefusal, entryVerdict, surveyRefusal}
+use Rattle.model.specs.Calls.{roomRefusal, readVerdict, writeRefusal, writeVerdict, checkTraceRefusal, checkTraceVerdict, checkTreeRefusal, checkTreeVerdict, traceToTreeRefusal, traceToTreeVerdict, treeToTraceRefusal, treeToTraceVerdict, countRefusal, countCall, entryCallRefusal, entryVerdict, surveyRefusal}
 use Rattle.model.proofs.Tests.{no-refusal, first-of, rest-of}
 use Rattle.model.proofs.FromFile.{rules-in, categories-in, accepted-right}
 use Rattle.model.proofs.WriterFile.{file-length}
 use Rattle.model.proofs.RowsAgree.{rows-agree}
-use Rattle.model.proofs.Demands.{trace-short}
+use Rattle.model.proofs.Demands.{trace-short, tree-short}
 use Rattle.analyses.proofs.Limits.{ranges}
 use Rattle.analyses.proofs.Entries.{entries}
 use Rattle.downgrater.specs.Packing.{ValueFits, CountsFit}
@@ -86,16 +87,41 @@ module _ (file sentence : List ℕ) where
   abbrev W : Option Refusal
   W = sentenceRefusal g sentence
 
-  pub trace-fits : (trace : List ℕ) → ValueFits (checkTraceVerdict file sentence trace)
-  trace-fits trace = value (checkTraceRefusal file sentence trace) (length trace) few
-    where
-      T : Option Refusal
-      T = traceRefusal g sentence trace
+  -- the lists of the checkers and of the conversions
+  module _ (accepted : grammarRefusal file ≡ none) (list : List ℕ) where
+    trace-few : traceRefusal g sentence list ≡ none → length list ≤ 7168
+    trace-few e = omega (arith, trace-short g (accepted-right file accepted) sentence list e)
 
-      few : checkTraceRefusal file sentence trace ≡ none → length trace ≤ 7168
-      few e =
-          let r = accepted-right file (first-of (grammarRefusal file) (W orElse T) e) in
-          omega (arith, trace-short g r sentence trace (rest-of W T (rest-of (grammarRefusal file) (W orElse T) e)))
+    tree-few : treeRefusal g sentence list ≡ none → length list ≤ 7168
+    tree-few e = omega (arith, tree-short g (accepted-right file accepted) sentence list e)
+
+  pub trace-fits : (trace : List ℕ) → ValueFits (checkTraceVerdict file sentence trace)
+  trace-fits trace =
+      let G = grammarRefusal file in
+      let T = traceRefusal g sentence trace in
+      value (checkTraceRefusal file sentence trace) (length trace) (λ e. trace-few (first-of G (W orElse T) e) trace (rest-of W T (rest-of G (W orElse T) e)))
+
+  pub tree-fits : (tree : List ℕ) → ValueFits (checkTreeVerdict file sentence tree)
+  tree-fits tree =
+      let G = grammarRefusal file in
+      let T = treeRefusal g sentence tree in
+      value (checkTreeRefusal file sentence tree) (length tree) (λ e. tree-few (first-of G (W orElse T) e) tree (rest-of W T (rest-of G (W orElse T) e)))
+
+  pub to-tree-fits : (trace out : List ℕ) → ValueFits (traceToTreeVerdict file sentence trace out)
+  to-tree-fits trace out =
+      let G = grammarRefusal file in
+      let R = roomRefusal out in
+      let T = traceRefusal g sentence trace in
+      value (traceToTreeRefusal file sentence trace out) (length trace)
+      (λ e. trace-few (first-of G (R orElse W orElse T) e) trace (rest-of W T (rest-of R (W orElse T) (rest-of G (R orElse W orElse T) e))))
+
+  pub to-trace-fits : (tree out : List ℕ) → ValueFits (treeToTraceVerdict file sentence tree out)
+  to-trace-fits tree out =
+      let G = grammarRefusal file in
+      let R = roomRefusal out in
+      let T = treeRefusal g sentence tree in
+      value (treeToTraceRefusal file sentence tree out) (length tree)
+      (λ e. tree-few (first-of G (R orElse W orElse T) e) tree (rest-of W T (rest-of R (W orElse T) (rest-of G (R orElse W orElse T) e))))
 
   module _ (n limit : ℕ) where
     abbrev L : Option Refusal
