@@ -166,7 +166,7 @@ fn writer(pair: &mut Pair) -> Done {
     for length in 0..=300 {
         pair.write_grammar(&made.heading, &records[..length], 1024)?;
     }
-    for out in (0..=40).chain(480..=540).chain(990..=1060) {
+    for out in (0..=200).chain(480..=540).chain(990..=1060) {
         pair.write_grammar(&made.heading, &made.records, out)?;
     }
     for length in 0..=130 {

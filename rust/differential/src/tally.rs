@@ -107,16 +107,26 @@ impl Tally {
     }
 }
 
+/// A row of the table: accepted, or whose refusal and which.
+fn row(number: usize) -> String {
+    match number {
+        0 => "accepted".to_string(),
+        1..=10 => format!("grammar's {number}"),
+        11..=22 => format!("analysis's {number}"),
+        _ => format!("desk's {number}"),
+    }
+}
+
 impl fmt::Display for Tally {
     fn fmt(&self, f: &mut fmt::Formatter) -> fmt::Result {
-        write!(f, "{:>8}", "")?;
+        write!(f, "{:>13}{:>9}", "", "all")?;
         for call in self.calls() {
             write!(f, "{:>13}", format!("{call:?}"))?;
         }
         writeln!(f)?;
         for number in 0..27 {
-            let name = if number == 0 { "accepted".to_string() } else { number.to_string() };
-            write!(f, "{name:>8}")?;
+            let all: u64 = self.met.iter().map(|met| met[number]).sum();
+            write!(f, "{:>13}{all:>9}", row(number))?;
             for call in self.calls() {
                 let can = number == 0 || call.refusals().contains(&(number as u8));
                 let met = self.met[call as usize][number];
@@ -124,6 +134,9 @@ impl fmt::Display for Tally {
                 write!(f, "{shown:>13}")?;
             }
             writeln!(f)?;
+        }
+        if !self.trees {
+            writeln!(f, "the library has no calls on derivation trees: 19 to 22 are not met")?;
         }
         Ok(())
     }
