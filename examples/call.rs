@@ -16,7 +16,10 @@ fn main() {
     let grammar = load("grammar");
     let bytes = load("sentence");
     let node_limit = bytes.first().copied().unwrap_or(0) as u64;
-    let sentence: Vec<u16> = bytes[1.min(bytes.len())..].chunks_exact(2).map(|word| u16::from_le_bytes([word[0], word[1]])).collect();
+    let sentence: Vec<u16> = bytes[1.min(bytes.len())..]
+        .chunks_exact(2)
+        .map(|word| u16::from_le_bytes([word[0], word[1]]))
+        .collect();
 
     let library = downgrater::library().expect("libdowngrater.a was there when this was built");
     match library.count(&grammar, &sentence, node_limit, EFFORT_LIMIT) {
@@ -24,10 +27,13 @@ fn main() {
             println!("{count} {effort}");
             for m in 0..count as u64 {
                 let mut trace = [0; 96];
-                let Answer::Accepted(steps) = library.entry(&grammar, &sentence, node_limit, EFFORT_LIMIT, m, &mut trace) else {
+                let Answer::Accepted(steps) =
+                    library.entry(&grammar, &sentence, node_limit, EFFORT_LIMIT, m, &mut trace)
+                else {
                     unreachable!("an entry below the count is not refused");
                 };
-                let numbers: Vec<String> = trace[..steps as usize].iter().map(u16::to_string).collect();
+                let numbers: Vec<String> =
+                    trace[..steps as usize].iter().map(u16::to_string).collect();
                 println!("{}", numbers.join(" "));
             }
         }

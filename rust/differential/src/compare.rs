@@ -44,6 +44,18 @@ fn first_difference<T: PartialEq + fmt::Debug>(tested: &[T], expected: &[T]) -> 
     Some(format!("buffer at {place}: {:?}, not {:?}", tested[i], expected[i]))
 }
 
+/// What both sides answer, each lent a buffer of this length, and the first place where the buffers then differ.
+fn both<S: ?Sized, T>(out: usize, salt: usize, sides: [&S; 2], call: impl Fn(&S, &mut [T]) -> Answer) -> ((Answer, Answer), Option<String>)
+where
+    T: TryFrom<usize> + Clone + PartialEq + fmt::Debug,
+{
+    let mut tested: Vec<T> = lent(out, salt);
+    let mut expected = tested.clone();
+    let to = FENCE + out;
+    let answers = (call(sides[0], &mut tested[FENCE..to]), call(sides[1], &mut expected[FENCE..to]));
+    (answers, first_difference(&tested, &expected))
+}
+
 impl Pair<'_> {
     pub fn new(tested: &dyn Calls) -> Pair<'_> {
         Pair { tested, tally: Tally::new(tested.trees().is_some()) }
@@ -67,15 +79,10 @@ impl Pair<'_> {
     }
 
     pub fn write_grammar(&mut self, heading: &Heading, records: &[u8], out: usize) -> Done {
-        let mut tested: Vec<u8> = lent(out, records.len());
-        let mut expected = tested.clone();
-        let to = FENCE + out;
-        let answers = (
-            self.tested.write_grammar(heading, records, &mut tested[FENCE..to]),
-            Reference.write_grammar(heading, records, &mut expected[FENCE..to]),
-        );
+        let sides: [&dyn Calls; 2] = [self.tested, &Reference];
+        let (answers, buffer) = both(out, records.len(), sides, |side, out| side.write_grammar(heading, records, out));
         let input = || format!("output of {out}\n{}", show_heading(heading, records));
-        self.settle(Call::WriteGrammar, answers, first_difference(&tested, &expected), input)
+        self.settle(Call::WriteGrammar, answers, buffer, input)
     }
 
     pub fn check_trace(&mut self, file: &[u8], sentence: &[u16], trace: &[u16]) -> Done {
@@ -93,28 +100,18 @@ impl Pair<'_> {
 
     pub fn trace_to_tree(&mut self, file: &[u8], sentence: &[u16], trace: &[u16], out: usize) -> Done {
         let Some(trees) = self.tested.trees() else { return Ok(()) };
-        let mut tested: Vec<u16> = lent(out, trace.len());
-        let mut expected = tested.clone();
-        let to = FENCE + out;
-        let answers = (
-            trees.trace_to_tree(file, sentence, trace, &mut tested[FENCE..to]),
-            Reference.trace_to_tree(file, sentence, trace, &mut expected[FENCE..to]),
-        );
+        let sides: [&dyn TreeCalls; 2] = [trees, &Reference];
+        let (answers, buffer) = both(out, trace.len(), sides, |side, out| side.trace_to_tree(file, sentence, trace, out));
         let input = || format!("output of {out}\nsentence {sentence:?}\ntrace {trace:?}\n{}", show_file(file));
-        self.settle(Call::TraceToTree, answers, first_difference(&tested, &expected), input)
+        self.settle(Call::TraceToTree, answers, buffer, input)
     }
 
     pub fn tree_to_trace(&mut self, file: &[u8], sentence: &[u16], tree: &[u16], out: usize) -> Done {
         let Some(trees) = self.tested.trees() else { return Ok(()) };
-        let mut tested: Vec<u16> = lent(out, tree.len());
-        let mut expected = tested.clone();
-        let to = FENCE + out;
-        let answers = (
-            trees.tree_to_trace(file, sentence, tree, &mut tested[FENCE..to]),
-            Reference.tree_to_trace(file, sentence, tree, &mut expected[FENCE..to]),
-        );
+        let sides: [&dyn TreeCalls; 2] = [trees, &Reference];
+        let (answers, buffer) = both(out, tree.len(), sides, |side, out| side.tree_to_trace(file, sentence, tree, out));
         let input = || format!("output of {out}\nsentence {sentence:?}\ntree {tree:?}\n{}", show_file(file));
-        self.settle(Call::TreeToTrace, answers, first_difference(&tested, &expected), input)
+        self.settle(Call::TreeToTrace, answers, buffer, input)
     }
 
     pub fn count(&mut self, file: &[u8], sentence: &[u16], node_limit: u64, effort_limit: u64) -> Done {
@@ -125,15 +122,10 @@ impl Pair<'_> {
     }
 
     pub fn entry(&mut self, file: &[u8], sentence: &[u16], limits: (u64, u64), m: u64, out: usize) -> Done {
-        let mut tested: Vec<u16> = lent(out, m as usize % 1000);
-        let mut expected = tested.clone();
-        let to = FENCE + out;
-        let answers = (
-            self.tested.entry(file, sentence, limits.0, limits.1, m, &mut tested[FENCE..to]),
-            Reference.entry(file, sentence, limits.0, limits.1, m, &mut expected[FENCE..to]),
-        );
+        let sides: [&dyn Calls; 2] = [self.tested, &Reference];
+        let (answers, buffer) = both(out, m as usize % 1000, sides, |side, out| side.entry(file, sentence, limits.0, limits.1, m, out));
         let input = || format!("output of {out}\nsentence {sentence:?}\nlimits {limits:?} entry {m}\n{}", show_file(file));
-        self.settle(Call::Entry, answers, first_difference(&tested, &expected), input)
+        self.settle(Call::Entry, answers, buffer, input)
     }
 
     /// The figures are free within document 01's line; all else is compared.

@@ -77,15 +77,5 @@ A <- 0
 A <- 1
 ";
 
-/// Twelve variables in one component, and a rule with one daughter above a word.
-pub const TWELVE_UNARY: &str = "
-S(abcdefghijkl) <- Q(e,a,k,b) Q(c,i,f,l) Q(j,g,d,h)
-Q(x,,y,) <- A(x) A(y)
-Q(,x,,y) <- A(x) A(y)
-A <- 0
-B <- 1
-A(x) <- B(x)
-";
-
 /// Small grammars with several analyses, empty words, empty components and components out of order.
-pub const SMALL: [&str; 9] = [COPY, PAIR, CROSSING, CHAIN, SILENT, SWAPPED, SHUFFLED, TWELVE, TWELVE_UNARY];
+pub const SMALL: [&str; 8] = [COPY, PAIR, CROSSING, CHAIN, SILENT, SWAPPED, SHUFFLED, TWELVE];
