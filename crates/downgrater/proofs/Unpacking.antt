@@ -1,12 +1,12 @@
 -- A packed verdict says what the verdict says: nothing is lost on the way to C.
 -- Assumes nothing.
-use mathlib.Core.Path.{_≡_, refl, ap, ap₂, _∙_}
+use mathlib.Core.Path.{_≡_, ap, _∙_}
 use mathlib.Core.Bool.{Bool, true, false}
-use mathlib.Core.List.{List, [], _∷_}
-use Prim.Native.Nat.{ℕ, _+_, _*_, _/_, _%_, _<_, _≤_}
+use mathlib.Core.List.{[], _∷_}
+use Prim.Native.Nat.{ℕ, _+_, _*_, _/_, _%_, _<_}
 use native.Mathlib.Omega.{arith}
 use borrow.Author.Tests.{lt-ltb, le-ltb}
-use lib.Dec.{ltb, eqb}
+use lib.Dec.{ltb}
 use Rattle.model.specs.declared.Refusal.{Refusal}
 use Rattle.model.specs.declared.Refusal.the-variants.{Grammar, Analysis, Desk}
 use Rattle.model.specs.declared.Verdict.{Verdict}
@@ -14,7 +14,7 @@ use Rattle.model.specs.declared.Verdict.the-variants.{Accepted, Refused}
 use Rattle.model.specs.declared.CountVerdict.{CountVerdict}
 use Rattle.model.specs.declared.CountVerdict.the-variants.{Counted, NotCounted}
 use Rattle.model.specs.Base.{if_then_else_}
-use Rattle.model.specs.Verdict.{Author, grammarAuthor, analysisAuthor, desk, author, number, place, Answer, values, refusal, refusalAnswer, verdictAnswer, countAnswer}
+use Rattle.model.specs.Verdict.{author, number, place, Answer, values, refusal, refusalAnswer, verdictAnswer, countAnswer}
 use Rattle.downgrater.specs.Packing.{authorCode, packedRefusal, packedVerdict, packedCount, authorOf, unpackedRefusal, unpackedVerdict, unpackedCount, Fits, VerdictFits, CountFits, Says, SaysCount}
 
 abbrev packed : ℕ → ℕ → ℕ → ℕ

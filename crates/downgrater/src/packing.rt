@@ -1,6 +1,5 @@
 // A verdict as one 64-bit number.
 ghost use mathlib.Core.Path.{_≡_};
-ghost use Prim.Native.Nat.{_<_};
 ghost use Rattle.downgrater.specs.Packing.{packedRefusal, Fits, ValueFits, CountsFit, Says, SaysCount};
 use model::CountVerdict;
 use model::Refusal;
