@@ -5,6 +5,7 @@ use model::CountVerdict;
 use model::Refusal;
 use model::Verdict;
 
+// A refusal: bit 63, whose it is, its number and its place.
 fn refusal_bits(r: Refusal) -> u64
     ensures { λ x. ⌜ (x ≡ packedRefusal r) × Fits r ⌝ }
 {
@@ -19,6 +20,7 @@ fn refusal_bits(r: Refusal) -> u64
     }
 }
 
+// A verdict: its value, or its refusal.
 pub fn verdict_bits(v: Verdict) -> u64
     requires { ⌜ ValueFits v ⌝ }
     ensures { λ x. ⌜ Says v x ⌝ }
@@ -29,6 +31,7 @@ pub fn verdict_bits(v: Verdict) -> u64
     }
 }
 
+// The count's verdict: count and effort, or its refusal.
 pub fn count_bits(v: CountVerdict) -> u64
     requires { ⌜ CountsFit v ⌝ }
     ensures { λ x. ⌜ SaysCount v x ⌝ }
