@@ -1,2 +1,6 @@
 pub mod Places
 pub mod Nodes
+pub mod Arity
+pub mod Names
+pub mod TreeRun
+pub mod RunCode

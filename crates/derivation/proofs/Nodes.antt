@@ -15,15 +15,18 @@ use lib.Dec.{eqb}
 use lib.ListN.{length, getD, drop, set, length-set, drop-of-length-le}
 use lib.Seq.{drop-cons, getD-set-same, getD-set-other}
 use Rattle.model.specs.declared.Refusal.{Refusal}
+use Rattle.model.specs.declared.Verdict.{Verdict}
 use Rattle.model.specs.Base.{if_then_else_}
 use Rattle.model.specs.Grammar.{Rule, Grammar, ruleAt}
-use Rattle.model.specs.GrammarFile.{rulesOf, recordOf, field, grammarRefusal, grammarOf}
+use Rattle.model.specs.GrammarFile.{startOf, rulesOf, recordOf, field, grammarRefusal, grammarOf}
 use Rattle.model.specs.Tree.{Forest, arity, others, forest, nodesRefusal}
 use Rattle.derivation.specs.Places.{endOf, Ended}
+use Rattle.model.proofs.Tests.{none-some}
+use Rattle.model.proofs.Verdicts.{refused, accepted}
 use Rattle.grammar.proofs.OfGrammar.{ruleHeld, rule-there, rule-none, daughters-are, daughter-is}
 use Rattle.derivation.specs.declared.reader.Place.{Place}
 use Rattle.derivation.specs.declared.reader.Place.the-variants.{Next, Stop}
-use Rattle.derivation.specs.Reader.{daughtersBy, below, Passes, Meets, Says, Reading}
+use Rattle.derivation.specs.Reader.{daughtersBy, below, Passes, Meets, Says, Reading, ReadAll}
 use Rattle.derivation.proofs.Places.{others-next, end-is}
 
 -- a part of the table is kept where what is written later stands behind it
@@ -193,3 +196,33 @@ module _ (file list : List ℕ) (accepted : grammarRefusal file ≡ none) where
             let f = from-place (Stop x) (subst (Reading g list (drop 0 (below g (getD list k 0))) (k + 1) before middle) q h) in
             subst (Reading g list (c ∷ []) k before middle) (sym q)
             (record { long = f .long; kept = λ i b. f .kept i (omega arith); says = node-meets g list k c here rule (rule-there file (getD list k 0) known) same x (f .says) })
+
+-- the whole list
+module _ (file list before after : List ℕ) (c : ℕ) (start : c ≡ startOf file) where
+  abbrev nodes : Option Refusal
+  nodes = nodesRefusal (grammarOf file) 0 (startOf file ∷ []) list
+
+  tests-all : (o : Option Refusal) → nodesRefusal (grammarOf file) 0 (c ∷ []) (drop 0 list) ≡ o → nodes ≡ o
+  tests-all o h = ap (λ (x : ℕ). nodesRefusal (grammarOf file) 0 (x ∷ []) list) (sym start) ∙ h
+
+  module _ (answer : Place) (h : Reading (grammarOf file) list (c ∷ []) 0 before after answer) where
+    known-as : {p : Place} → answer ≡ p → Reading (grammarOf file) list (c ∷ []) 0 before after p
+    known-as e = subst (Reading (grammarOf file) list (c ∷ []) 0 before after) e h
+
+    pub nodes-left : (e : ℕ) → answer ≡ Next e → e < length list → ReadAll (grammarOf file) list after (Verdict.Refused (Refusal.Analysis 21 e))
+    nodes-left e q l =
+        let r = known-as q in
+        let f : nodes ≡ some (Refusal.Analysis 21 e) = tests-all (some (Refusal.Analysis 21 e)) (r .says .tests [] ∙ ap (nodesRefusal (grammarOf file) e []) (drop-cons list e 0 l)) in
+        record { long = r .long; answer = refused nodes 0 (Refusal.Analysis 21 e) f; ended = λ z. none-some (sym f ∙ z) }
+
+    pub all-nodes : (e : ℕ) → answer ≡ Next e → length list ≤ e → ReadAll (grammarOf file) list after (Verdict.Accepted 0)
+    all-nodes e q l =
+        let r = known-as q in
+        let f : nodes ≡ none = tests-all none (r .says .tests [] ∙ ap (nodesRefusal (grammarOf file) e []) (drop-of-length-le list {i = e} l)) in
+        record { long = r .long; answer = accepted nodes 0 0 f refl; ended = λ z i lo hi. r .says .ended i lo (omega arith) }
+
+    pub node-met : (x : Refusal) → answer ≡ Stop x → ReadAll (grammarOf file) list after (Verdict.Refused x)
+    node-met x q =
+        let r = known-as q in
+        let f : nodes ≡ some x = tests-all (some x) (r .says []) in
+        record { long = r .long; answer = refused nodes 0 x f; ended = λ z. none-some (sym f ∙ z) }

@@ -19,3 +19,8 @@ daughterPlace g list i (suc j) = endOf g list (daughterPlace g list i j)
 -- the table has the place after the tree of each node from place k up to e
 abbrev pub Ended : Grammar → List ℕ → List ℕ → ℕ → ℕ → Type 0
 Ended g list table k e = (i : ℕ) → k ≤ i → i < e → getD table i 0 ≡ endOf g list i
+
+-- the places of the daughters of the node at place i, by such a table
+abbrev pub sister : List ℕ → ℕ → ℕ → ℕ
+sister table i zero = suc i
+sister table i (suc j) = getD table (sister table i j) 0

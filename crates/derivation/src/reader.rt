@@ -5,14 +5,16 @@ ghost use mathlib.Core.Path.{_≡_};
 ghost use Prim.Native.Nat.{_<_, _≤_};
 ghost use lib.ListN.{length, drop};
 ghost use Rattle.model.specs.GrammarFile.{rulesOf, grammarRefusal, grammarOf};
-ghost use Rattle.derivation.specs.Reader.{below, Reading};
+ghost use Rattle.derivation.specs.Reader.{below, Reading, ReadAll};
 use grammar::category_of;
 use grammar::daughter;
 use grammar::daughter_count;
 use grammar::rules;
+use grammar::start;
 use model::Category;
 use model::Refusal;
 use model::RuleNumber;
+use model::Verdict;
 
 // The place after what is read, or the refusal that it meets.
 pub enum Place {
@@ -64,5 +66,22 @@ pub fn read_daughters(
     match first {
         Place::Next(e) => read_daughters(file, list, r, j + 1, e, ends),
         Place::Stop(_) => first,
+    }
+}
+
+// Reads the whole list as one tree with the start category as root: refusals 19, 13, 20 and 21, or Accepted(0).
+pub fn read_tree(file: &[u8], list: &[u16], ends: &mut [u16; 96]) -> Verdict
+    requires { ⌜ (grammarRefusal (now file) ≡ none) × (length (now list) ≤ 96) × (length (now ends) ≡ 96) ⌝ }
+    ensures { λ v. ⌜ ReadAll (grammarOf (now (file .entry))) (now (list .entry)) (now (ends .exit)) v ⌝ }
+{
+    let p = read_node(file, list, 0, start(file), ends);
+    match p {
+        Place::Next(e) => {
+            if e < list.len() {
+                return Verdict::Refused(Refusal::Analysis(21, e as u16));
+            }
+            Verdict::Accepted(0)
+        }
+        Place::Stop(x) => Verdict::Refused(x),
     }
 }
