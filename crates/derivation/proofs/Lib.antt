@@ -4,3 +4,5 @@ pub mod Arity
 pub mod Names
 pub mod TreeRun
 pub mod RunCode
+pub mod Spelling
+pub mod TreeCalls

@@ -4,18 +4,18 @@ use mathlib.Core.Path.{_≡_, refl, sym, ap, subst, _∙_}
 use mathlib.Core.Bool.{Bool, true, false}
 use mathlib.Core.Option.{Option, none, some}
 use mathlib.Core.List.{List, [], _∷_, _++_, append-assoc}
-use Prim.Native.Nat.{ℕ, zero, suc, _+_, _-_, _<_, _≤_}
+use Prim.Native.Nat.{ℕ, zero, suc, _+_, _<_, _≤_, _-_}
 use native.Mathlib.Omega.{arith}
 use native.Mathlib.Decide.{decLt}
 use lib.Dec.{T, eqb}
 use lib.ListN.{length, getD, drop, length-drop, drop-of-length-le}
 use lib.Seq.{drop-cons, drop-drop}
-use Rattle.model.specs.declared.Refusal.{Refusal}
 use Rattle.model.specs.Base.{if_then_else_}
+use Rattle.model.specs.declared.Refusal.{Refusal}
 use Rattle.model.specs.Grammar.{Rule, Grammar, ruleAt}
-use Rattle.model.specs.Tree.{Tree, Forest, node, nil, cons, preorder, preorders, hasRoot, hasRoots, rootBy, arityBy, arity, firsts, others, forest, treeOfList, nodesRefusal}
+use Rattle.model.specs.Tree.{Forest, node, nil, cons, preorder, preorders, hasRoot, hasRoots, rootBy, arityBy, arity, firsts, others, forest, treeOfList, nodesRefusal}
 use Rattle.model.specs.Conversions.{label, childAt, subtree}
-use Rattle.model.proofs.Reading.{Read, read}
+use Rattle.model.proofs.Reading.{read}
 use Rattle.model.proofs.Tests.{and-l, and-r, none-some}
 use Rattle.derivation.specs.Places.{endOf, daughterPlace}
 

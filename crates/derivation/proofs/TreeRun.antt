@@ -1,24 +1,24 @@
 -- The run along a tree, step by step: its trace, and whether that is accepted.
 -- Assumes nothing.
-use mathlib.Core.Path.{_≡_, refl, sym, ap, ap₂, subst, _∙_}
+use mathlib.Core.Path.{_≡_, refl, sym, ap, subst, _∙_}
 use mathlib.Core.Bool.{Bool, true, false}
-use mathlib.Core.Option.{Option, none, some}
+use mathlib.Core.Option.{Option, some}
 use mathlib.Core.List.{List, [], _∷_}
-use Prim.Native.Nat.{ℕ, suc, _+_, _-_, _<_, _≤_}
+use Prim.Native.Nat.{ℕ, suc, _<_, _≤_}
 use native.Mathlib.Omega.{arith}
 use borrow.Author.Tests.{lt-ltb, le-ltb}
 use lib.Dec.{ltb}
-use lib.ListN.{length, getD, drop, set}
+use lib.ListN.{length, drop, set}
 use lib.Seq.{sets}
-use Rattle.model.specs.declared.Refusal.{Refusal}
 use Rattle.model.specs.Base.{if_then_else_}
+use Rattle.model.specs.declared.Refusal.{Refusal}
 use Rattle.model.specs.Grammar.{Grammar}
 use Rattle.model.specs.Tree.{Tree}
 use Rattle.model.specs.Conversions.{label, subtree}
 use Rattle.model.specs.Rows.{Slot, RowState, RowOutcome, halts, moves, stepRow, stepsRefusalRow, extended, traceFromRow}
 use Rattle.model.proofs.Tests.{none-some}
 use Rattle.recognizer.proofs.Running.{words-left, all-read}
-use Rattle.derivation.specs.TreeRun.{Traced, RunSays}
+use Rattle.derivation.specs.TreeRun.{RunSays}
 
 module _ (g : Grammar) (sentence : List ℕ) (k n : ℕ) (names : ℕ → Tree) (S : RowState) (before : List ℕ) where
   -- the end: the trace is accepted where no words are left

@@ -2,7 +2,7 @@
 -- Assumes nothing.
 use mathlib.Core.Path.{_≡_}
 use mathlib.Core.List.{List}
-use Prim.Native.Nat.{ℕ, zero, suc, _-_, _<_, _≤_}
+use Prim.Native.Nat.{ℕ, zero, suc, _<_, _≤_, _-_}
 use lib.ListN.{length, getD, drop}
 use Rattle.model.specs.Grammar.{Grammar}
 use Rattle.model.specs.Tree.{preorders, others, forest}

@@ -2,15 +2,20 @@
 -- Assumes nothing.
 use mathlib.Core.Path.{_≡_}
 use mathlib.Core.Bool.{Bool, true, false}
-use mathlib.Core.Option.{none}
+use mathlib.Core.Option.{Option, none}
 use mathlib.Core.List.{List, [], _∷_}
-use Prim.Native.Nat.{ℕ, _+_, _-_, _<_, _≤_}
+use Prim.Native.Nat.{ℕ, _+_, _<_, _-_}
 use lib.ListN.{length, getD, take, drop}
 use lib.Seq.{sets}
+use Rattle.model.specs.Base.{_orElse_}
+use Rattle.model.specs.declared.Refusal.{Refusal}
 use Rattle.model.specs.declared.Verdict.{Verdict}
 use Rattle.model.specs.Verdict.{verdict}
 use Rattle.model.specs.Grammar.{Grammar}
-use Rattle.model.specs.Tree.{Tree, treeOfList, nodesRefusal, treeRefusal}
+use Rattle.model.specs.GrammarFile.{grammarRefusal, grammarOf}
+use Rattle.model.specs.Trace.{sentenceRefusal}
+use Rattle.model.specs.Calls.{roomRefusal}
+use Rattle.model.specs.Tree.{Tree, treeOfList, spells, nodesRefusal, treeRefusal}
 use Rattle.model.specs.Conversions.{traceOf}
 use Rattle.model.specs.Rows.{RowState, traceFromRow, stepsRefusalRow}
 use Rattle.derivation.specs.Places.{Ended, sister}
@@ -48,8 +53,16 @@ abbrev pub TreeRun : Grammar → List ℕ → List ℕ → ℕ → RowState → 
 TreeRun g sentence list k s places before after answer =
     (names : ℕ → Tree) → Named g list places (s .made) names → RunSays g sentence k (length list - k) names s before after answer
 
+-- the run from the start, of a list that passes the tests of its nodes: whether the root's yield is the sentence, and then the tree's trace is stored
+pub record Spelled (g : Grammar) (sentence list after : List ℕ) (answer : Bool) : Type 0 where
+  pub spelled : answer ≡ spells g sentence (treeOfList g list)
+  pub stored : answer ≡ true → (length after ≡ 96) × (take (length list) after ≡ traceOf g sentence list)
+
 -- the whole tree: v is its verdict, and for an accepted tree its trace is stored
 pub record TreeSays (g : Grammar) (sentence list after : List ℕ) (v : Verdict) : Type 0 where
-  pub long : length after ≡ 96
   pub answer : v ≡ verdict (treeRefusal g sentence list) (length list)
-  pub stored : treeRefusal g sentence list ≡ none → take (length list) after ≡ traceOf g sentence list
+  pub stored : treeRefusal g sentence list ≡ none → (length after ≡ 96) × (take (length list) after ≡ traceOf g sentence list)
+
+-- the tests of a conversion before those of its input: the grammar, 23, 11
+abbrev pub beforeInput : List ℕ → List ℕ → List ℕ → Option Refusal
+beforeInput file sentence out = grammarRefusal file orElse roomRefusal out orElse sentenceRefusal (grammarOf file) sentence

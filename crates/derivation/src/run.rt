@@ -46,7 +46,7 @@ fn front_node(q: &[u16; 384], from: usize, names: &[u16; 96]) -> usize
 
 // Steps k and after of the trace of the tree, from the row q[from..to], with so many words read; prediction p stands for the node at place names[p].
 // Stores the trace, and answers whether every step applies, the queue is never longer than the steps left, and no words are left.
-fn run_tree(
+pub fn run_tree(
     file: &[u8],
     t: &[u16; 8192],
     sentence: &[u16],

@@ -5,11 +5,11 @@ use mathlib.Core.Path.{_≡_, refl, sym, ap, subst, _∙_}
 use mathlib.Core.List.{List, [], _∷_}
 use lib.ListN.{length, getD, drop}
 use Rattle.model.specs.GrammarFile.{grammarOf}
-use Rattle.derivation.specs.declared.reader.Place.the-variants.{Next, Stop}
+use Rattle.derivation.specs.declared.reader.Place.the-variants.{Next}
 use Rattle.derivation.specs.Reader.{below, Reading}
 use Rattle.derivation.proofs.Nodes.{node-missing, unknown-rule, other-category, node-read, node-refused, no-more, one-more, reading-none, reading-more, reading-stop}
 use borrow.Author.Needs.{needs}
-use Prim.Native.Nat.{ℕ, _+_, _-_, _*_, _<_}
+use Prim.Native.Nat.{ℕ, _+_, _*_, _<_, _-_}
 use borrow.Fn.Kinds.{In}
 use borrow.Fn.PlainCycle.{Measures, is, falls, and}
 use Rattle.derivation.proofs.reader.read_daughters.Reads as read-daughters

@@ -4,10 +4,6 @@ use Rattle.derivation.proofs.Nodes.{nodes-left, all-nodes, node-met}
 use borrow.Author.Needs.{needs}
 use Rattle.derivation.proofs.reader.read_tree.Statement.{statement}
 use Rattle.derivation.proofs.reader.read_tree.Tie as tie
-use Rattle.derivation.proofs.reader.read_tree.Reads as reads
-use Rattle.derivation.proofs.reader.read_tree.Lts as lts
-use Rattle.derivation.proofs.reader.read_node.Reads as read-node-reads
-use Rattle.grammar.proofs.start.Reads as start-reads
 
 start-requires : tie.Need-start-requires
 start-requires c κs = search needs

@@ -6,10 +6,6 @@ use lib.ListN.{getD}
 use borrow.Author.Needs.{needs}
 use Rattle.derivation.proofs.run.front_node.Statement.{statement}
 use Rattle.derivation.proofs.run.front_node.Tie as tie
-use Rattle.derivation.proofs.run.front_node.Reads as reads
-use Rattle.derivation.proofs.run.front_node.Lts as lts
-use Rattle.derivation.proofs.run.wide.Reads as wide-reads
-use Rattle.recognizer.proofs.row.owner.Reads as owner-reads
 
 mul-owner : tie.Need-mul-owner
 mul-owner c = search needs

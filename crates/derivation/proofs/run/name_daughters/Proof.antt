@@ -1,7 +1,7 @@
 -- `derivation::run::name_daughters` meets its contract.
 -- Assumes nothing.
 use mathlib.Core.Path.{_≡_, subst, _∙_}
-use Prim.Native.Nat.{ℕ, _-_, _≤_}
+use Prim.Native.Nat.{ℕ, _≤_, _-_}
 use native.Mathlib.Omega.{arith}
 use native.Mathlib.Numerals.{add-one}
 use Rattle.derivation.specs.Places.{sister}
@@ -10,9 +10,6 @@ use Rattle.derivation.proofs.Names.{given-none, given-more, sister-next
 use borrow.Author.Needs.{needs}
 use Rattle.derivation.proofs.run.name_daughters.Statement.{statement}
 use Rattle.derivation.proofs.run.name_daughters.Tie as tie
-use Rattle.derivation.proofs.run.name_daughters.Reads as reads
-use Rattle.derivation.proofs.run.name_daughters.Lts as lts
-use Rattle.derivation.proofs.run.wide.Reads as wide-reads
 
 abbrev Inv-loop : tie.InvT-loop
 Inv-loop ends i made d names₀ at₀ j₀ names at j = (j ≤ d) × (at ≡ sister ends i j) × NamesGiven ends i made j names₀ names
