@@ -1,3 +1,4 @@
+pub mod Found
 pub mod Places
 pub mod Reader
 pub mod TreeRun

@@ -2,6 +2,7 @@
 mod calls;
 mod reader;
 mod run;
+mod tree_reader;
 
 pub use calls::check_tree;
 pub use calls::tree_to_trace;
