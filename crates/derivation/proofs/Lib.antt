@@ -1,4 +1,5 @@
 pub mod Places
+pub mod Standing
 pub mod Nodes
 pub mod Arity
 pub mod Names

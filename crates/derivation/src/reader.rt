@@ -6,6 +6,8 @@ ghost use Prim.Native.Nat.{_<_, _≤_};
 ghost use lib.ListN.{length, drop};
 ghost use Rattle.model.specs.GrammarFile.{rulesOf, grammarRefusal, grammarOf};
 ghost use Rattle.derivation.specs.Reader.{below, Reading, ReadAll};
+use crate::tree_reader::Found;
+use crate::tree_reader::rule_at;
 use grammar::category_of;
 use grammar::daughter;
 use grammar::daughter_count;
@@ -27,10 +29,11 @@ pub fn read_node(file: &[u8], list: &[u16], k: usize, a: Category, ends: &mut [u
     requires { ⌜ (grammarRefusal (now file) ≡ none) × (length (now list) ≤ 96) × (k ≤ length (now list)) × (length (now ends) ≡ 96) ⌝ }
     ensures { λ p. ⌜ Reading (grammarOf (now (file .entry))) (now (list .entry)) (a .0 ∷ []) k (now (ends .entry)) (now (ends .exit)) p ⌝ }
 {
-    if list.len() <= k {
+    let found = rule_at(list, k);
+    let Found::Rule(n) = found else {
         return Place::Stop(Refusal::Analysis(19, list.len() as u16));
-    }
-    let r = RuleNumber(list[k]);
+    };
+    let r = RuleNumber(n);
     if rules(file) <= r.0 {
         return Place::Stop(Refusal::Analysis(13, k as u16));
     }
