@@ -116,14 +116,14 @@ module _ (file sentence list : List ℕ) (accepted : grammarRefusal file ≡ non
   row-refusal : length trace ≡ length list → stepsRefusalRow g sentence 0 (beginRow g sentence) (traceOfRow g sentence list) ≡ traceRefusal g sentence trace
   row-refusal e = ap (stepsRefusalRow g sentence 0 (beginRow g sentence)) by-rows ∙ sym (trace-by-rows file sentence trace accepted (omega arith) (λ z. omega (arith, has-node)))
 
-  traced-spells : Traced g sentence 0 (length list) names (beginRow g sentence) → T (spells g sentence tree)
+  pub traced-spells : Traced g sentence 0 (length list) names (beginRow g sentence) → T (spells g sentence tree)
   traced-spells t =
       let n : length trace ≡ length list = ap length (sym by-rows) ∙ t .size in
       let e : traceRefusal g sentence trace ≡ none = sym (row-refusal n) ∙ t .accepted in
       let h = traces-from g trace (length list) (at g right sentence tree) refl (trace-only g right sentence trace e) in
       and-r (hasRoot g tree (g .start)) (spells g sentence tree) (trace-derives g right sentence tree trace rooted h)
 
-  spells-traced : T (spells g sentence tree) → Traced g sentence 0 (length list) names (beginRow g sentence)
+  pub spells-traced : T (spells g sentence tree) → Traced g sentence 0 (length list) names (beginRow g sentence)
   spells-traced h =
       let d = and-both (hasRoot g tree (g .start)) (spells g sentence tree) rooted h in
       let n : length trace ≡ length list = ap (λ (l : List ℕ). length (traceOf g sentence l)) (sym listed) ∙ belongs g right sentence tree d .size ∙ ap length listed in

@@ -86,13 +86,13 @@ run-tree-mul-t23 : (t : ℕ) → run-tree-lts.Need-mul-t23 (calls t) (run-tree-a
 run-tree-mul-t23 t c =
     let a = c .before .before .before .before .before .before .before .args in
     let p = c .before .before .before .before .before .before .before .pre .1 in
-    omega (arith, node-inside (a .file .now) (a .sentence .now) (a .list .now) (a .ends .now) (a .names .now) (a .q .now) (a .k) (a .read) (a .from) (a .to) (a .made) (a .pending) (p .0) (p .2) (p .5) (p .6) (a .trace .now) (c .before .before .before .if1 .left) (c .before .before .if2 .left) (c .front-node .result) (c .front-node .ensures), p .5 .few)
+    omega (arith, node-inside (a .file .now) (a .sentence .now) (a .list .now) (a .ends .now) (a .names .now) (a .q .now) (a .k) (a .read) (a .from) (a .to) (a .made) (a .pending) (p .0) (p .2) (p .5) (p .6) (a .trace .now) (c .before .before .before .if1 .left) (c .before .before .if2 .left) (c .front-node .result) (c .front-node .ensures), c .before .before .before .if1 .left, p .5 .few)
 
 run-tree-shared-slice-read-t28 : (t : ℕ) → run-tree-lts.Need-shared-slice-read-t28 (calls t) (run-tree-at t) run-tree.Post
 run-tree-shared-slice-read-t28 t c =
     let a = c .before .before .before .before .before .before .before .before .args in
     let p = c .before .before .before .before .before .before .before .before .pre .1 in
-    node-inside (a .file .now) (a .sentence .now) (a .list .now) (a .ends .now) (a .names .now) (a .q .now) (a .k) (a .read) (a .from) (a .to) (a .made) (a .pending) (p .0) (p .2) (p .5) (p .6) (a .trace .now) (c .before .before .before .before .if1 .left) (c .before .before .before .if2 .left) (c .before .front-node .result) (c .before .front-node .ensures)
+    omega (arith, node-inside (a .file .now) (a .sentence .now) (a .list .now) (a .ends .now) (a .names .now) (a .q .now) (a .k) (a .read) (a .from) (a .to) (a .made) (a .pending) (p .0) (p .2) (p .5) (p .6) (a .trace .now) (c .before .before .before .before .if1 .left) (c .before .before .before .if2 .left) (c .before .front-node .result) (c .before .front-node .ensures), c .before .before .before .before .if1 .left)
 
 run-tree-sub-left : (t : ℕ) → run-tree-lts.Need-sub-left (calls t) (run-tree-at t) run-tree.Post
 run-tree-sub-left t c = search needs
