@@ -1,3 +1,12 @@
+pub mod Places
+pub mod Standing
+pub mod Nodes
+pub mod Arity
+pub mod Names
+pub mod TreeRun
+pub mod RunCode
+pub mod Spelling
+pub mod TreeCalls
 pub mod RoundTrips
 pub mod UnfoldStep
 pub mod UnfoldRun
