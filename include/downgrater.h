@@ -20,7 +20,7 @@
 #include <stdint.h>
 
 /* 1 where the library has the three calls on derivation trees. */
-#define DOWNGRATER_TREES 0
+#define DOWNGRATER_TREES 1
 
 #ifdef __cplusplus
 extern "C" {
