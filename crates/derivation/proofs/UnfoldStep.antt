@@ -87,8 +87,8 @@ module _ (g : Grammar) (right : Right g) where
           let c = step-counts g t t′ r e in
           let before : t .pending ≡ suc (length (q .rest)) = k .counted in
           let after : t′ .pending ≡ d + length (q .rest)
-          = a .kept .counted ∙ sym (length-map (s .queue) nodeOf) ∙ sym (perm-length (q .nodes))
-          ∙ length-append (numbersFrom (t .made) d) (nodesOf (q .rest)) ∙ ap₂ (λ (x y : ℕ). x + y) (length-numbers (t .made) d) (length-map (q .rest) nodeOf) in
+          = a .kept .counted ∙ sym (length-map (s .queue) (λ (x : Prediction ℕ). x .node)) ∙ sym (perm-length (q .nodes))
+          ∙ length-append (numbersFrom (t .made) d) (nodesOf (q .rest)) ∙ ap₂ (λ (x y : ℕ). x + y) (length-numbers (t .made) d) (length-map (q .rest) (λ (x : Prediction ℕ). x .node)) in
           let b : q .front .node < t .made = k .below .0 in
           record {
             next = s;
