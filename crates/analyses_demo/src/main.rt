@@ -1,5 +1,5 @@
-// Counts analyses and asks for entries (document 01, K5, K6 and K10), and prints each answer on a line: count and effort, or the steps of an entry, or R
-// with the refusal's number and place.
+// Counts analyses, asks for entries and goes from entry to entry (document 01, K5, K6 and K10), and prints each answer on a line: count and effort, or the
+// steps of an entry, or R with the refusal's number and place.
 use buffers::number_at;
 use libc::STDOUT_FILENO;
 use model::CountVerdict;
@@ -52,17 +52,27 @@ fn show_count(file: &[u8], sentence: &[u16], n: u64, limit: u64) {
     }
 }
 
-fn show_entry(file: &[u8], sentence: &[u16], n: u64, m: u64) {
-    let mut out = [0u16; 96];
-    let v = analyses::entry(file, sentence, n, 1000000, m, &mut out);
+fn print_entry(v: Verdict, out: &[u16]) {
     match v {
         Verdict::Accepted(steps) => {
-            print_steps(steps, &out);
+            print_steps(steps, out);
         }
         Verdict::Refused(r) => {
             print_refusal(r);
         }
     }
+}
+
+fn show_entry(file: &[u8], sentence: &[u16], n: u64, m: u64) {
+    let mut out = [0u16; 96];
+    let v = analyses::entry(file, sentence, n, 1000000, m, &mut out);
+    print_entry(v, &out);
+}
+
+fn show_next(file: &[u8], sentence: &[u16], n: u64, previous: &[u16]) {
+    let mut out = [0u16; 96];
+    let v = listing::next_entry(file, sentence, n, 1000000, previous, &mut out);
+    print_entry(v, &out);
 }
 
 // K5 and K6
@@ -78,6 +88,9 @@ fn pair_cases(file: &[u8]) {
     show_entry(file, &[0, 0, 0], 5, 0);
     show_entry(file, &[0, 0, 0], 5, 1);
     show_entry(file, &[0, 0, 0], 5, 2);
+    show_next(file, &[0, 0, 0], 5, &[]);
+    show_next(file, &[0, 0, 0], 5, &[0, 0, 1, 1, 1]);
+    show_next(file, &[0, 0, 0], 5, &[0, 1, 0, 1, 1]);
 }
 
 fn main() {

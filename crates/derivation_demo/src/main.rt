@@ -1,5 +1,5 @@
-// Runs the tree checker and the conversion of a tree on the copy grammar (document 01, K9, the tree of K4, and 22), and prints each answer on a line: the
-// number of nodes, or the steps of the trace, or R with the refusal's number and place.
+// Runs the tree checker and both conversions on the copy grammar (document 01, K4, K9, and 22), and prints each answer on a line: the number of nodes, or
+// the numbers of the trace or tree, or R with the refusal's number and place.
 use buffers::number_at;
 use libc::STDOUT_FILENO;
 use model::Refusal;
@@ -40,13 +40,11 @@ fn check(file: &[u8], sentence: &[u16], tree: &[u16]) {
     }
 }
 
-// The trace that belongs to a tree.
-fn convert(file: &[u8], sentence: &[u16], tree: &[u16]) {
-    let mut out = [0u16; 96];
-    let v = derivation::tree_to_trace(file, sentence, tree, &mut out);
+// What a conversion answers and writes.
+fn print_converted(v: Verdict, out: &[u16]) {
     match v {
         Verdict::Accepted(n) => {
-            print_steps(n, &out);
+            print_steps(n, out);
         }
         Verdict::Refused(r) => {
             print_refusal(r);
@@ -54,11 +52,27 @@ fn convert(file: &[u8], sentence: &[u16], tree: &[u16]) {
     }
 }
 
+// The trace that belongs to a tree.
+fn trace_of(file: &[u8], sentence: &[u16], tree: &[u16]) {
+    let mut out = [0u16; 96];
+    let v = derivation::tree_to_trace(file, sentence, tree, &mut out);
+    print_converted(v, &out);
+}
+
+// The tree that belongs to a trace.
+fn tree_of(file: &[u8], sentence: &[u16], trace: &[u16]) {
+    let mut out = [0u16; 96];
+    let v = derivation::trace_to_tree(file, sentence, trace, &mut out);
+    print_converted(v, &out);
+}
+
 // The cases, for the copy grammar's file.
 fn run(copy: &[u8]) {
     // K4
     check(copy, &[0, 1, 0, 1], &[0, 1, 5, 4, 6, 6, 5]);
-    convert(copy, &[0, 1, 0, 1], &[0, 1, 5, 4, 6, 6, 5]);
+    trace_of(copy, &[0, 1, 0, 1], &[0, 1, 5, 4, 6, 6, 5]);
+    tree_of(copy, &[0, 1, 0, 1], &[0, 1, 5, 4, 6, 5, 6]);
+    tree_of(copy, &[0, 1, 0, 1], &[0, 1, 5, 4, 6, 6, 5]);
     // K9
     check(copy, &[0, 0], &[0, 3, 5]);
     check(copy, &[0, 0], &[0, 3, 5, 6]);
@@ -68,7 +82,7 @@ fn run(copy: &[u8]) {
     check(copy, &[0, 1], &[0, 3, 5, 5]);
     check(copy, &[0], &[0, 3, 5, 5]);
     check(copy, &[0, 0, 0], &[0, 3, 5, 5]);
-    convert(copy, &[0, 1], &[0, 3, 5, 5]);
+    trace_of(copy, &[0, 1], &[0, 3, 5, 5]);
 }
 
 fn main() {
