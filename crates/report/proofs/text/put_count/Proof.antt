@@ -1,0 +1,25 @@
+use borrow.Author.Needs.{needs}
+use Rattle.report.proofs.text.put_count.Statement.{statement}
+use Rattle.report.proofs.text.put_count.Tie as tie
+use Rattle.report.proofs.text.put_count.Reads as reads
+use Rattle.report.proofs.text.put_count.Lts as lts
+use Rattle.report.proofs.text.put_item.Reads as put-item-reads
+
+-- src/text.rt:83:9
+put-item-requires : tie.Need-put-item-requires
+put-item-requires c κs = search needs
+
+-- src/text.rt:84:5
+put-item-requires-2 : tie.Need-put-item-requires-2
+put-item-requires-2 c κs = search needs
+
+-- src/text.rt:79:1
+same-length : tie.Need-same-length
+same-length c = search needs
+
+-- src/text.rt:79:1
+returns : tie.Need-returns
+returns c = search needs
+
+pub put-count-spec : {M : Type 1} → statement M
+put-count-spec = tie.close (tie.spec put-item-requires put-item-requires-2 same-length returns)

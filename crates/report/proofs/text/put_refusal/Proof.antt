@@ -1,0 +1,68 @@
+use borrow.Author.Needs.{needs}
+use Rattle.report.proofs.text.put_refusal.Statement.{statement}
+use Rattle.report.proofs.text.put_refusal.Tie as tie
+use Rattle.report.proofs.text.put_refusal.Reads as reads
+use Rattle.report.proofs.text.put_refusal.Lts as lts
+use Rattle.model.proofs.number_of.Reads as number-of-reads
+use Rattle.model.proofs.place_of.Reads as place-of-reads
+use Rattle.report.proofs.text.put_count.Reads as put-count-reads
+
+-- src/text.rt:92:5
+slice-write-out : tie.Need-slice-write-out
+slice-write-out c = search needs
+
+-- src/text.rt:93:9
+add-out : tie.Need-add-out
+add-out c = search needs
+
+-- src/text.rt:93:5
+slice-write-out-2 : tie.Need-slice-write-out-2
+slice-write-out-2 c = search needs
+
+-- src/text.rt:95:9
+number-of-requires : tie.Need-number-of-requires
+number-of-requires c κs = search needs
+
+-- src/text.rt:95:9
+cast-put-count : tie.Need-cast-put-count
+cast-put-count c = search needs
+
+-- src/text.rt:96:9
+place-of-requires : tie.Need-place-of-requires
+place-of-requires c κs = search needs
+
+-- src/text.rt:96:9
+cast-put-count-2 : tie.Need-cast-put-count-2
+cast-put-count-2 c = search needs
+
+-- src/text.rt:98:9
+add-put-count : tie.Need-add-put-count
+add-put-count c = search needs
+
+-- src/text.rt:94:5
+put-count-requires : tie.Need-put-count-requires
+put-count-requires c κs = search needs
+
+-- src/text.rt:88:1
+same-length : tie.Need-same-length
+same-length c = search needs
+
+-- src/text.rt:88:1
+returns : tie.Need-returns
+returns c = search needs
+
+pub put-refusal-spec : {M : Type 1} → statement M
+put-refusal-spec =
+    tie.close
+    (tie.spec
+    slice-write-out
+    add-out
+    slice-write-out-2
+    number-of-requires
+    cast-put-count
+    place-of-requires
+    cast-put-count-2
+    add-put-count
+    put-count-requires
+    same-length
+    returns)
