@@ -2,12 +2,16 @@
 -- Assumes nothing.
 use mathlib.Core.Path.{_≡_, refl, sym, ap, ap₂, subst, _∙_}
 use mathlib.Core.Bool.{Bool, true, false}
-use mathlib.Core.List.{List, [], _∷_, _++_, append-assoc}
+use mathlib.Core.Logic.{_⊎_, ⊎-elim}
+use mathlib.Core.List.{List, [], _∷_, _++_, append-assoc, append-nil}
 use Prim.Native.Nat.{ℕ, zero, suc, _+_, _*_, _-_, _<_, _≤_}
 use native.Mathlib.Omega.{arith}
+use native.Mathlib.Nat.{eq-or-lt-of-le}
 use native.Mathlib.Numerals.{add-one}
+use borrow.Author.Tests.{eqb-true, eqb-false}
+use lib.Dec.{eqb}
 use lib.ListN.{length, getD, take, drop, set, length-append, length-drop}
-use lib.Seq.{sets, length-sets, drop-cons}
+use lib.Seq.{sets, length-sets, drop-cons, drop-length}
 use Rattle.model.specs.Program.{decimal, line, blank, newline}
 use Rattle.report.specs.Text.{Put, ending}
 use Rattle.report.proofs.Digits.{word-digits}
@@ -52,7 +56,7 @@ lineFrom (n ∷ ns) = line (n ∷ ns)
 -- the first number of a line and what stands after it, and what is left of the line
 pub line-item : (n : ℕ) (ns : List ℕ) (last : Bool) → (last ≡ true → ns ≡ []) → (last ≡ false → 0 < length ns)
     → line (n ∷ ns) ≡ (decimal n ++ (ending last ∷ [])) ++ lineFrom ns
-line-item n [] true h k = sym (mathlib.Core.List.append-nil (decimal n ++ (newline ∷ [])))
+line-item n [] true h k = sym (append-nil (decimal n ++ (newline ∷ [])))
 line-item n [] false h k = let z : ⊥ = omega (arith, k refl) in absurd z
 line-item n (m ∷ ms) true h k = let z : _≡_ {A = ℕ} 0 1 = cc (h refl) in absurd (omega arith)
 line-item n (m ∷ ms) false h k = sym (append-assoc (decimal n) (blank ∷ []) (line (m ∷ ms)))
@@ -63,3 +67,76 @@ line-short [] h k = omega arith
 line-short (n ∷ []) h k = omega (arith, length-append (decimal n) (newline ∷ []), word-digits n (h 0))
 line-short (n ∷ m ∷ ms) h k =
     omega (arith, length-append (decimal n) (blank ∷ line (m ∷ ms)), word-digits n (h 0), line-short (m ∷ ms) (λ i. h (suc i)) (omega arith))
+
+-- a line of two numbers
+pub count-line : (a b : ℕ) → (decimal a ++ (ending false ∷ [])) ++ (decimal b ++ (ending true ∷ [])) ≡ line (a ∷ b ∷ [])
+count-line a b = append-assoc (decimal a) (blank ∷ []) (decimal b ++ (newline ∷ []))
+
+pub count-length : (a b : ℕ) → length (line (a ∷ b ∷ [])) ≡ length (decimal a ++ (ending false ∷ [])) + length (decimal b ++ (ending true ∷ []))
+count-length a b = sym (ap length (count-line a b)) ∙ length-append (decimal a ++ (ending false ∷ [])) (decimal b ++ (ending true ∷ []))
+
+-- two bytes and a line
+pub two-before : (before after : List ℕ) (at x y q : ℕ) (l : List ℕ) → Put (set (set before at x) (at + 1) y) after (at + 2) l q → Put before after at (x ∷ y ∷ l) q
+two-before before after at x y q l w =
+    let e : at + 2 ≡ suc (suc at) = omega arith in
+    record {
+      written = w .written ∙ ap₂ (λ (i j : ℕ). sets (set (set before at x) i y) j l) (add-one at) e;
+      place = omega (arith, w .place);
+    }
+
+eq-or-less : (a b : ℕ) → a ≤ b → (a ≡ b) ⊎ (a < b)
+eq-or-less a b h = eq-or-lt-of-le h
+
+-- the loop through a line's numbers xs: those before place i are written, and what is left comes at place p
+pub record LineTo (xs before : List ℕ) (at : ℕ) (after : List ℕ) (i p : ℕ) : Type 0 where
+  pub few : i ≤ length xs
+  pub kept : length after ≡ length before
+  pub place : p + length (lineFrom (drop i xs)) ≡ at + length (line xs)
+  pub written : sets before at (line xs) ≡ sets after p (lineFrom (drop i xs))
+
+pub line-begun : (xs before : List ℕ) (at : ℕ) → 0 < length xs → LineTo xs before at before 0 at
+line-begun [] before at h = let z : ⊥ = omega arith in absurd z
+line-begun (x ∷ xs) before at h = record { few = omega arith; kept = refl; place = refl; written = refl }
+
+module _ (xs before : List ℕ) (at : ℕ) (after : List ℕ) (i p : ℕ) (w : LineTo xs before at after i p) where
+  module _ (n x : ℕ) (last : Bool) (long : length xs ≡ n) (h : i < n) (e : x ≡ getD xs i 0) (l : last ≡ eqb (i + 1) n) where
+    next-item : lineFrom (drop i xs) ≡ (decimal x ++ (ending last ∷ [])) ++ lineFrom (drop (i + 1) xs)
+    next-item =
+        ap lineFrom (drop-cons xs i 0 (omega arith) ∙ ap (λ (y : ℕ). y ∷ drop (suc i) xs) (sym e))
+        ∙ line-item x (drop (suc i) xs) last ends goes
+        ∙ ap (λ (k : ℕ). (decimal x ++ (ending last ∷ [])) ++ lineFrom (drop k xs)) (sym (add-one i))
+      where
+        ends : last ≡ true → drop (suc i) xs ≡ []
+        ends t = let y : suc i ≡ length xs = omega (arith, eqb-true (i + 1) n (sym l ∙ t)) in ap (λ (k : ℕ). drop k xs) y ∙ drop-length xs
+
+        goes : last ≡ false → 0 < length (drop (suc i) xs)
+        goes t =
+            let z : i + 1 ≡ n → ⊥ = eqb-false (i + 1) n (sym l ∙ t) in
+            ⊎-elim (λ (y : i + 1 ≡ n). absurd (z y)) (λ (y : i + 1 < n). omega (arith, length-drop (suc i) xs)) (eq-or-less (i + 1) n (omega arith))
+
+    item-length : length (lineFrom (drop i xs)) ≡ length (decimal x ++ (ending last ∷ [])) + length (lineFrom (drop (i + 1) xs))
+    item-length = ap length next-item ∙ length-append (decimal x ++ (ending last ∷ [])) (lineFrom (drop (i + 1) xs))
+
+    pub line-room : at + length (line xs) ≤ length before → p + length (decimal x ++ (ending last ∷ [])) ≤ length after
+    line-room r = omega (arith, item-length, w .place, w .kept)
+
+    pub line-more : {after′ : List ℕ} {q : ℕ} → Put after after′ p (decimal x ++ (ending last ∷ [])) q → LineTo xs before at after′ (i + 1) q
+    line-more {after′} {q} v = record {
+      few = omega arith;
+      kept = put-long v ∙ w .kept;
+      place = omega (arith, item-length, w .place, v .place);
+      written =
+        w .written ∙ ap (λ (y : List ℕ). sets after p y) next-item
+        ∙ sets-append after p (decimal x ++ (ending last ∷ [])) (lineFrom (drop (i + 1) xs))
+        ∙ ap₂ (λ (y : List ℕ) (k : ℕ). sets y k (lineFrom (drop (i + 1) xs))) (sym (v .written)) (sym (v .place));
+    }
+
+  pub line-end : length xs ≤ i → Put before after at (line xs) p
+  line-end h =
+      let e : i ≡ length xs = omega (arith, w .few) in
+      let z : drop i xs ≡ [] = ap (λ (k : ℕ). drop k xs) e ∙ drop-length xs in
+      let f : lineFrom (drop i xs) ≡ [] = ap lineFrom z in
+      record {
+        written = sym (w .written ∙ ap (λ (y : List ℕ). sets after p y) f);
+        place = omega (arith, ap length f, w .place);
+      }

@@ -1,3 +1,6 @@
+use mathlib.Core.Path.{_≡_, refl, sym, ap, _∙_}
+use native.Mathlib.Omega.{arith}
+use Rattle.report.proofs.Placed.{put-long, put-join, put-same, count-line, count-length}
 use borrow.Author.Needs.{needs}
 use Rattle.report.proofs.text.put_count.Statement.{statement}
 use Rattle.report.proofs.text.put_count.Tie as tie
@@ -7,11 +10,16 @@ use Rattle.report.proofs.text.put_item.Reads as put-item-reads
 
 -- src/text.rt:83:9
 put-item-requires : tie.Need-put-item-requires
-put-item-requires c κs = search needs
+put-item-requires c κs =
+    let s = c .before .before in
+    omega (arith, s .pre, count-length (s .args .a) (s .args .b))
 
 -- src/text.rt:84:5
 put-item-requires-2 : tie.Need-put-item-requires-2
-put-item-requires-2 c κs = search needs
+put-item-requires-2 c κs =
+    let s = c .before .before .before .before .before .before in
+    let w = c .before .before .before .put-item .ensures in
+    omega (arith, s .pre, count-length (s .args .a) (s .args .b), w .place, put-long w)
 
 -- src/text.rt:79:1
 same-length : tie.Need-same-length
@@ -19,7 +27,9 @@ same-length c = search needs
 
 -- src/text.rt:79:1
 returns : tie.Need-returns
-returns c = search needs
+returns c =
+    let a = c .before .before .before .before .before .before .before .before .before .args in
+    put-same (put-join (c .before .before .before .before .before .before .put-item .ensures) (c .before .before .put-item2 .ensures)) (count-line (a .a) (a .b))
 
 pub put-count-spec : {M : Type 1} → statement M
 put-count-spec = tie.close (tie.spec put-item-requires put-item-requires-2 same-length returns)

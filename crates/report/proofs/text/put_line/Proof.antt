@@ -1,3 +1,12 @@
+use mathlib.Core.Path.{_≡_, refl, sym, ap, ap₂, subst, _∙_}
+use mathlib.Core.List.{List, [], _∷_, _++_}
+use Prim.Native.Nat.{ℕ, _+_, _-_, _<_, _≤_}
+use native.Mathlib.Omega.{arith}
+use lib.ListN.{length, take, length-set}
+use lib.Seq.{length-take-le, getD-take}
+use Rattle.model.specs.Program.{line, newline}
+use Rattle.report.specs.Text.{Put}
+use Rattle.report.proofs.Placed.{put-one, LineTo, line-begun, line-room, line-more, line-end}
 use borrow.Author.Needs.{needs}
 use Rattle.report.proofs.text.put_line.Statement.{statement}
 use Rattle.report.proofs.text.put_line.Tie as tie
@@ -7,18 +16,24 @@ use Rattle.report.proofs.text.put_item.Reads as put-item-reads
 use Rattle.report.proofs.text.wide.Reads as wide-reads
 
 abbrev Inv-loop : tie.InvT-loop
-Inv-loop list n out₀ at i₀ p₀ out i p = ?
+Inv-loop list n out₀ at i₀ p₀ out i p = (i ≤ n) × LineTo (take n list) out₀ at out i p
 
 abbrev μ-loop : tie.MeasureT-loop
-μ-loop list n out₀ at i₀ p₀ out i p = ?
+μ-loop list n out₀ at i₀ p₀ out i p = n - i
 
 -- src/text.rt:108:9
 slice-write-out : tie.Need-slice-write-out Inv-loop μ-loop
-slice-write-out c = search needs
+slice-write-out c =
+    let s = c .before .before in
+    let e : s .args .n ≡ 0 = c .if1 .taken in
+    omega (arith, s .pre .2, ap (λ (k : ℕ). length (line (take k (s .args .list .now)))) e)
 
 -- src/text.rt:109:16
 add-result : tie.Need-add-result Inv-loop μ-loop
-add-result c = search needs
+add-result c =
+    let s = c .before .before in
+    let e : s .args .n ≡ 0 = c .if1 .taken in
+    omega (arith, s .pre .2, ap (λ (k : ℕ). length (line (take k (s .args .list .now)))) e)
 
 -- src/text.rt:109:9
 same-length : tie.Need-same-length Inv-loop μ-loop
@@ -26,11 +41,18 @@ same-length c = search needs
 
 -- src/text.rt:109:9
 returns : tie.Need-returns Inv-loop μ-loop
-returns c = search needs
+returns c =
+    let s = c .before .before in
+    let e : s .args .n ≡ 0 = c .if1 .taken in
+    subst (λ (k : ℕ). Put (s .args .out .now) _ (s .args .at) (line (take k (s .args .list .now))) (s .args .at + 1)) (sym e) (put-one (s .args .out .now) (s .args .at) newline)
 
 -- src/text.rt:113:5
 loop-holds : tie.Need-loop-holds Inv-loop μ-loop
-loop-holds c = search needs
+loop-holds c =
+    let s = c .before .before in
+    let a = s .args in
+    let l = length-take-le (a .n) (a .list .now) (omega (arith, s .pre .0, s .pre .1)) in
+    (omega arith, line-begun (take (a .n) (a .list .now)) (a .out .now) (a .at) (omega (arith, l, c .if1 .left)))
 
 -- src/text.rt:114:27
 mul-wide : tie.Need-mul-wide Inv-loop μ-loop
@@ -50,7 +72,13 @@ add-put-item c = search needs
 
 -- src/text.rt:114:9
 put-item-requires : tie.Need-put-item-requires Inv-loop μ-loop
-put-item-requires c κs = search needs
+put-item-requires c κs =
+    let s = c .before .before .before .before .before .before .before in
+    let a = s .args in
+    let i = c .before .before .before .before .loop in
+    let l = length-take-le (a .n) (a .list .now) (omega (arith, s .pre .0, s .pre .1)) in
+    let h = c .before .before .before .loop-test .taken in
+    line-room (take (a .n) (a .list .now)) (a .out .now) (a .at) (i .out) (i .i) (i .p) (i .inv .1) (a .n) _ _ l h (c .before .wide .ensures ∙ sym (getD-take (a .n) (a .list .now) (i .i) 0 h)) refl (s .pre .2)
 
 -- src/text.rt:115:9
 add-i : tie.Need-add-i Inv-loop μ-loop
@@ -62,15 +90,26 @@ loop-less c = search needs
 
 -- src/text.rt:113:5
 loop-again : tie.Need-loop-again Inv-loop μ-loop
-loop-again c = search needs
+loop-again c =
+    let s = c .before .before .before .before .before .before .before .before .before .before in
+    let a = s .args in
+    let i = c .before .before .before .before .before .before .before .loop in
+    let l = length-take-le (a .n) (a .list .now) (omega (arith, s .pre .0, s .pre .1)) in
+    let h = c .before .before .before .before .before .before .loop-test .taken in
+    (omega arith, line-more (take (a .n) (a .list .now)) (a .out .now) (a .at) (i .out) (i .i) (i .p) (i .inv .1) (a .n) _ _ l h (c .before .before .before .before .wide .ensures ∙ sym (getD-take (a .n) (a .list .now) (i .i) 0 h)) refl (c .before .before .put-item .ensures))
 
 -- src/text.rt:103:1
 same-length-2 : tie.Need-same-length-2 Inv-loop μ-loop
-same-length-2 c = search needs
+same-length-2 c = c .before .loop .inv .1 .kept
 
 -- src/text.rt:103:1
 returns-2 : tie.Need-returns-2 Inv-loop μ-loop
-returns-2 c = search needs
+returns-2 c =
+    let s = c .before .before .before .before in
+    let a = s .args in
+    let i = c .before .loop in
+    let l = length-take-le (a .n) (a .list .now) (omega (arith, s .pre .0, s .pre .1)) in
+    line-end (take (a .n) (a .list .now)) (a .out .now) (a .at) (i .out) (i .i) (i .p) (i .inv .1) (omega (arith, l, c .loop-test .left))
 
 pub put-line-spec : {M : Type 1} → statement M
 put-line-spec =

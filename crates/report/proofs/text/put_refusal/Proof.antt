@@ -1,3 +1,11 @@
+use mathlib.Core.Path.{_≡_, refl, sym, ap, ap₂, _∙_}
+use mathlib.Core.List.{List, [], _∷_, _++_}
+use Prim.Native.Nat.{ℕ, _+_, _<_, _≤_}
+use native.Mathlib.Omega.{arith}
+use lib.ListN.{length, length-set}
+use Rattle.model.specs.Program.{line, letterR, blank}
+use Rattle.model.specs.Verdict.{number, place}
+use Rattle.report.proofs.Placed.{put-long, put-same, two-before}
 use borrow.Author.Needs.{needs}
 use Rattle.report.proofs.text.put_refusal.Statement.{statement}
 use Rattle.report.proofs.text.put_refusal.Tie as tie
@@ -17,7 +25,7 @@ add-out c = search needs
 
 -- src/text.rt:93:5
 slice-write-out-2 : tie.Need-slice-write-out-2
-slice-write-out-2 c = search needs
+slice-write-out-2 c = simp length-set (omega (arith, c .before .pre))
 
 -- src/text.rt:95:9
 number-of-requires : tie.Need-number-of-requires
@@ -41,15 +49,21 @@ add-put-count c = search needs
 
 -- src/text.rt:94:5
 put-count-requires : tie.Need-put-count-requires
-put-count-requires c κs = search needs
+put-count-requires c κs =
+    let s = c .before .before .before .before in
+    let e = ap₂ (λ (n p : ℕ). length (line (n ∷ p ∷ []))) (c .before .before .number-of .ensures) (c .before .place-of .ensures) in
+    simp length-set (omega (arith, s .pre, e))
 
 -- src/text.rt:88:1
 same-length : tie.Need-same-length
-same-length c = search needs
+same-length c = put-long (c .before .before .put-count .ensures) ∙ simp length-set
 
 -- src/text.rt:88:1
 returns : tie.Need-returns
-returns c = search needs
+returns c =
+    let s = c .before .before .before .before .before .before .before in
+    let e = ap₂ (λ (n p : ℕ). letterR ∷ blank ∷ line (n ∷ p ∷ [])) (c .before .before .before .before .before .number-of .ensures) (c .before .before .before .before .place-of .ensures) in
+    put-same (two-before (s .args .out .now) _ (s .args .at) letterR blank _ _ (c .before .before .put-count .ensures)) e
 
 pub put-refusal-spec : {M : Type 1} → statement M
 put-refusal-spec =
