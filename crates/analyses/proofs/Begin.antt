@@ -19,7 +19,6 @@ use Rattle.recognizer.specs.Table.{Compiled}
 use Rattle.analyses.specs.Chain.{Chained}
 use Rattle.analyses.specs.Tally.{effortBelow, Searched}
 use Rattle.analyses.specs.Search.{standing, Ready, SearchedAt}
-use Rattle.analyses.specs.Look.{Stood}
 use Rattle.analyses.proofs.Searches.{searched-as}
 
 module _ (file : List ℕ) (accepted : grammarRefusal file ≡ none) (sentence table chain q : List ℕ) (a n : ℕ)
@@ -31,19 +30,6 @@ module _ (file : List ℕ) (accepted : grammarRefusal file ≡ none) (sentence t
   begins =
       ap (λ (row : List Slot). record { row = row; made = 1; pending = 1; words = sentence })
       (first ∙ ap (λ (x : ℕ). record { owner = 0; category = x; component = 0 } ∷ []) start)
-
-  pub start-stood : Compiled g table → Chained g chain → Held q 0 1 → Stood file table chain sentence 0 q 0 1 1 1 n
-  start-stood compiled chained held =
-      record {
-        accepted = accepted;
-        compiled = compiled;
-        chained = chained;
-        held = held;
-        known = omega arith;
-        reached = subst (Reached g) (sym begins) (reached-begin g (accepted-right file accepted) sentence);
-        fits = some;
-        numbered = omega arith;
-      }
 
   found-all : (k : ℕ) → 1 ≤ k → foundFromRow g k (beginRow g sentence) ≡ listing g sentence k
   found-all zero h = let z : ⊥ = omega arith in absurd z

@@ -28,7 +28,7 @@ use Rattle.analyses.specs.Tests.{afterSearch, lowWords}
 use Rattle.analyses.proofs.Kept.{entry-in}
 use Rattle.analyses.proofs.Entries.{Entry, entries, kept-long, kept-end, kept-at}
 
-got : (l : List (List ℕ)) (i : ℕ) → i < length l → List·Memᴰ (getD l i []) l
+pub got : (l : List (List ℕ)) (i : ℕ) → i < length l → List·Memᴰ (getD l i []) l
 got [] i h = let z : ⊥ = omega arith in absurd z
 got (x ∷ l) zero h = List·Memᴰ·head refl
 got (x ∷ l) (suc i) h = List·Memᴰ·tail (got l i (omega arith))
@@ -73,7 +73,7 @@ module _ (file : List ℕ) (accepted : grammarRefusal file ≡ none) (sentence :
   listed zero h = let z : ⊥ = omega arith in absurd z
   listed (suc k) h = sym (rows-agree file accepted sentence .listings (suc k))
 
-  is-entry : m < count g sentence n → Entry (length (g .rules)) n p
+  pub is-entry : m < count g sentence n → Entry (length (g .rules)) n p
   is-entry h =
       entries g n (beginRow g sentence) p (subst (λ (l : List (List ℕ)). List·Memᴰ p l) (listed n some) (got (listing g sentence n) m h))
 

@@ -3,14 +3,6 @@ pub mod Linked
 pub mod Walks
 pub mod Kept
 pub mod Searches
-pub mod Looks
-pub mod LookStates
-pub mod LookRules
-pub mod LookLoop
-pub mod LookTurns
-pub mod LookDesk
-pub mod Following
-pub mod NextCall
 pub mod Scans
 pub mod Turns
 pub mod AtState

@@ -2,5 +2,3 @@ pub mod Chain
 pub mod Tally
 pub mod Search
 pub mod Tests
-pub mod Look
-pub mod Stream

@@ -12,7 +12,7 @@ use Rattle.model.specs.Counting.{effort}
 use Rattle.model.specs.Program.{line, programLimit}
 use Rattle.recognizer.specs.Table.{Compiled}
 use Rattle.analyses.specs.Chain.{Chained}
-use Rattle.analyses.specs.Stream.{entriesAfter}
+use Rattle.listing.specs.Stream.{entriesAfter}
 use Rattle.report.specs.Text.{Put}
 use Rattle.report.specs.declared.page.Line.{Line}
 use Rattle.report.specs.declared.page.Line.the-variants.{Put as LinePut, Last as LineLast}

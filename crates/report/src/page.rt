@@ -10,8 +10,8 @@ ghost use Rattle.recognizer.specs.Table.{Compiled};
 ghost use Rattle.analyses.specs.Chain.{Chained};
 ghost use Rattle.report.specs.Page.{Lists, LineSays, PageSays};
 use crate::text::put_line;
-use analyses::Followed;
-use analyses::follow;
+use listing::Followed;
+use listing::follow;
 
 // A line is written: the place after it, and how many steps its entry has. Or there is no entry left.
 pub enum Line {

@@ -1,0 +1,170 @@
+-- Refusal 22 by the run along the tree: the trace of a tree is accepted exactly when the tree's yield is the sentence.
+-- Assumes nothing.
+use mathlib.Core.Path.{_≡_, refl, sym, ap, subst, _∙_}
+use mathlib.Core.Bool.{Bool, true, false}
+use mathlib.Core.Option.{Option, none, some}
+use mathlib.Core.List.{List, [], _∷_, map, append-nil, head-eq-of-cons-eq, tail-eq-of-cons-eq}
+use Prim.Native.Nat.{ℕ, zero, suc, _+_, _<_, _≤_, _-_}
+use native.Mathlib.Omega.{arith}
+use lib.Dec.{T}
+use lib.ListN.{length, getD, take, drop}
+use lib.Seq.{sets-eq, length-sets, take-at}
+use Rattle.model.specs.Grammar.{Grammar}
+use Rattle.model.specs.GrammarFile.{startOf, grammarRefusal, grammarOf}
+use Rattle.model.specs.WellFormed.{Right}
+use Rattle.model.specs.Step.{Prediction, State, Outcome, fails, leads, step}
+use Rattle.model.specs.Trace.{noNode, run, traceRefusal}
+use Rattle.model.specs.Tree.{Tree, Forest, node, nil, cons, preorder, preorders, hasRoot, hasRoots, spells, forest, treeOfList, nodesRefusal}
+use Rattle.model.specs.Conversions.{label, subtree, Traces, traceFrom, traceOf}
+use Rattle.model.specs.Demands.{Ends}
+use Rattle.model.specs.Rows.{Slot, RowState, beginRow, traceOfRow, stepsRefusalRow}
+use Rattle.model.proofs.Tests.{and-l, and-r, and-both, none-some}
+use Rattle.model.proofs.FromFile.{accepted-right}
+use Rattle.model.proofs.Marks.{bare, bareState, bareOutcome, step-bare}
+use Rattle.model.proofs.Reading.{read}
+use Rattle.model.proofs.Analyses.{at, trace-derives}
+use Rattle.model.proofs.Checker.{tree-accepted}
+use Rattle.model.proofs.Demands.{belongs, trace-only}
+use Rattle.model.proofs.RowsAgree.{rows-agree}
+use Rattle.recognizer.specs.Row.{rowOf, stateOf}
+use Rattle.recognizer.proofs.Checked.{trace-by-rows}
+use Rattle.derivation.specs.Places.{Ended}
+use Rattle.derivation.specs.TreeRun.{Traced, Stood, RunSays, TreeRun, Spelled}
+
+-- steps by the rules of the nodes that lead to the end are the trace that belongs to the trees
+module _ (g : Grammar) where
+  no-queue : (q : List (Prediction Tree)) → map bare q ≡ [] → q ≡ []
+  no-queue [] e = refl
+  no-queue (p ∷ q) e = let z : _≡_ {A = ℕ} 0 1 = cc in absurd (omega arith)
+
+  -- what follows the first step, of the trees and of the checker
+  abbrev rest : ℕ → Outcome Tree → List ℕ
+  rest n o = elim o [ fails i ↦ [] | leads s ↦ traceFrom g n s ]
+
+  abbrev after : List ℕ → Outcome (Unit {0}) → Option (State (Unit {0}))
+  after rs o = elim o [ fails i ↦ none | leads s ↦ run noNode g s rs ]
+
+  abbrev from-queue : ℕ → State Tree → List (Prediction Tree) → List ℕ
+  from-queue n s q = elim q [ [] ↦ [] | p ∷ q ↦ label (p .node) ∷ rest n (step subtree g s (label (p .node))) ]
+
+  pub traces-from : (p : List ℕ) (n : ℕ) (s : State Tree) → traceFrom g n s ≡ p → Ends g (bareState s) p → Traces g s p
+  traces-from [] n s e h =
+      let k : bareState s ≡ h .last = cc (h .runs) in
+      (no-queue (s .queue) (ap (λ (x : State (Unit {0})). x .queue) k ∙ h .no-queue), ap (λ (x : State (Unit {0})). x .words) k ∙ h .no-words)
+  traces-from (r ∷ rs) zero s e h = let z : _≡_ {A = ℕ} 0 1 = cc in absurd (omega arith)
+  traces-from (r ∷ rs) (suc n) s e h = go (s .queue) refl (λ s′ a b. traces-from rs n s′ a b)
+    where
+      by : (x : Prediction Tree) (q : List (Prediction Tree)) → s .queue ≡ x ∷ q → label (x .node) ≡ r → (o : Outcome Tree) → step subtree g s r ≡ o → rest n o ≡ rs → after rs (bareOutcome o) ≡ some (h .last)
+          → ((s′ : State Tree) → traceFrom g n s′ ≡ rs → Ends g (bareState s′) rs → Traces g s′ rs) → Traces g s (r ∷ rs)
+      by x q f l (fails i) d a b ih = none-some (sym b)
+      by x q f l (leads s′) d a b ih = (
+        s′,
+        record { front = x; rest = q; queue-is = f; labelled = l; leads-to = d },
+        ih s′ a (record { last = h .last; runs = b; no-queue = h .no-queue; no-words = h .no-words }),
+      )
+
+      go : (q : List (Prediction Tree)) → s .queue ≡ q → ((s′ : State Tree) → traceFrom g n s′ ≡ rs → Ends g (bareState s′) rs → Traces g s′ rs) → Traces g s (r ∷ rs)
+      go [] f ih = let k : [] ≡ r ∷ rs = sym (ap (from-queue n s) f) ∙ e in let z : _≡_ {A = ℕ} 0 1 = cc in absurd (omega arith)
+      go (x ∷ q) f ih =
+          let k : label (x .node) ∷ rest n (step subtree g s (label (x .node))) ≡ r ∷ rs = sym (ap (from-queue n s) f) ∙ e in
+          let l : label (x .node) ≡ r = head-eq-of-cons-eq k in
+          by x q f l (step subtree g s r) refl (ap (λ (m : ℕ). rest n (step subtree g s m)) (sym l) ∙ tail-eq-of-cons-eq k) (ap (after rs) (step-bare subtree g s r) ∙ h .runs) ih
+
+-- a list that passes the tests of its nodes is that of a tree with the start category as root
+module _ (g : Grammar) (list : List ℕ) (tested : nodesRefusal g 0 (g .start ∷ []) list ≡ none) where
+  one-tree : (f : Forest) → T (hasRoots g f (g .start ∷ [])) → preorders f ≡ list → T (hasRoot g (elim f [ nil ↦ node 0 nil | cons t ts ↦ t ]) (g .start)) × (preorder (elim f [ nil ↦ node 0 nil | cons t ts ↦ t ]) ≡ list)
+  one-tree nil h e = absurd h
+  one-tree (cons t nil) h e = (and-l (hasRoot g t (g .start)) true h, sym (append-nil (preorder t)) ∙ e)
+  one-tree (cons t (cons u us)) h e = absurd (and-r (hasRoot g t (g .start)) false h)
+
+  pub list-tree : T (hasRoot g (treeOfList g list) (g .start)) × (preorder (treeOfList g list) ≡ list)
+  list-tree = let r = read g 0 (g .start ∷ []) list tested in one-tree (forest g list) (r .roots) (r .same)
+
+some-node : (g : Grammar) (list : List ℕ) → nodesRefusal g 0 (g .start ∷ []) list ≡ none → 0 < length list
+some-node g [] e = none-some e
+some-node g (r ∷ rs) e = omega arith
+
+module _ (file sentence list : List ℕ) (accepted : grammarRefusal file ≡ none) (few : length list ≤ 96) (tested : nodesRefusal (grammarOf file) 0 (grammarOf file .start ∷ []) list ≡ none) where
+  abbrev g : Grammar
+  g = grammarOf file
+
+  abbrev tree : Tree
+  tree = treeOfList g list
+
+  abbrev trace : List ℕ
+  trace = traceOf g sentence list
+
+  abbrev names : ℕ → Tree
+  names n = tree
+
+  right : Right g
+  right = accepted-right file accepted
+
+  rooted : T (hasRoot g tree (g .start))
+  rooted = list-tree g list tested .0
+
+  listed : preorder tree ≡ list
+  listed = list-tree g list tested .1
+
+  pub has-node : 0 < length list
+  has-node = some-node g list tested
+
+  by-rows : traceOfRow g sentence list ≡ trace
+  by-rows = rows-agree file accepted sentence .traces list
+
+  -- the trace, as the checker takes it
+  row-refusal : length trace ≡ length list → stepsRefusalRow g sentence 0 (beginRow g sentence) (traceOfRow g sentence list) ≡ traceRefusal g sentence trace
+  row-refusal e = ap (stepsRefusalRow g sentence 0 (beginRow g sentence)) by-rows ∙ sym (trace-by-rows file sentence trace accepted (omega arith) (λ z. omega (arith, has-node)))
+
+  pub traced-spells : Traced g sentence 0 (length list) names (beginRow g sentence) → T (spells g sentence tree)
+  traced-spells t =
+      let n : length trace ≡ length list = ap length (sym by-rows) ∙ t .size in
+      let e : traceRefusal g sentence trace ≡ none = sym (row-refusal n) ∙ t .accepted in
+      let h = traces-from g trace (length list) (at g right sentence tree) refl (trace-only g right sentence trace e) in
+      and-r (hasRoot g tree (g .start)) (spells g sentence tree) (trace-derives g right sentence tree trace rooted h)
+
+  pub spells-traced : T (spells g sentence tree) → Traced g sentence 0 (length list) names (beginRow g sentence)
+  spells-traced h =
+      let d = and-both (hasRoot g tree (g .start)) (spells g sentence tree) rooted h in
+      let n : length trace ≡ length list = ap (λ (l : List ℕ). length (traceOf g sentence l)) (sym listed) ∙ belongs g right sentence tree d .size ∙ ap length listed in
+      let e : traceRefusal g sentence trace ≡ none
+      = ap (λ (l : List ℕ). traceRefusal g sentence (traceOf g sentence l)) (sym listed) ∙ tree-accepted g right sentence tree d (omega (arith, ap length listed)) in
+      record { size = ap length by-rows ∙ n; accepted = row-refusal n ∙ e }
+
+  spelled-by : (before after : List ℕ) → length before ≡ 96 → (b : Bool) → RunSays g sentence 0 (length list) names (beginRow g sentence) before after b → (c : Bool) → spells g sentence tree ≡ c → Spelled g sentence list after b
+  spelled-by before after l true h c e = record { spelled = sym (yes c e); stored = λ z. (ap length (h .1) ∙ length-sets before 0 (traceOfRow g sentence list) ∙ l, stored) }
+    where
+      yes : (c : Bool) → spells g sentence tree ≡ c → spells g sentence tree ≡ true
+      yes true e = e
+      yes false e = absurd (subst T e (traced-spells (h .0)))
+
+      stored : take (length list) after ≡ trace
+      stored =
+          let n : length (traceOfRow g sentence list) ≡ length list = h .0 .size in
+          ap (take (length list)) (h .1 ∙ sets-eq (traceOfRow g sentence list) before 0 (omega arith)) ∙ take-at (traceOfRow g sentence list) (drop (0 + length (traceOfRow g sentence list)) before) (length list) n ∙ by-rows
+  spelled-by before after l false h true e = absurd (h (spells-traced (subst T (sym e) tt)))
+  spelled-by before after l false h false e = record { spelled = sym e; stored = λ z. let y : _≡_ {A = ℕ} 0 1 = cc in absurd (omega arith) }
+
+  -- from the first row, with prediction 0 at place 0
+  module _ (q : List ℕ) (c : ℕ) (start : c ≡ startOf file) (first : rowOf q 0 1 ≡ record { owner = 0; category = c; component = 0 } ∷ []) where
+    begins : stateOf q 0 1 1 1 sentence ≡ beginRow g sentence
+    begins =
+        ap (λ (row : List Slot). record { row = row; made = 1; pending = 1; words = sentence })
+        (first ∙ ap (λ (x : ℕ). record { owner = 0; category = x; component = 0 } ∷ []) start)
+
+    pub run-spelled : (places before after : List ℕ) → getD places 0 0 ≡ 0 → length before ≡ 96 → (b : Bool) → TreeRun (grammarOf file) sentence list 0 (stateOf q 0 1 1 1 (drop 0 sentence)) places before after b
+        → Spelled (grammarOf file) sentence list after b
+    run-spelled places before after zero-is l b h =
+        let n : length list - 0 ≡ length list = omega arith in
+        let s : RunSays g sentence 0 (length list - 0) names (stateOf q 0 1 1 1 sentence) before after b = h names (λ p k. let e : p ≡ 0 = omega arith in sym (ap (λ (x : ℕ). treeOfList g (drop x list)) (ap (λ (x : ℕ). getD places x 0) e ∙ zero-is))) in
+        spelled-by before after l b (subst (λ (x : RowState). RunSays g sentence 0 (length list) names x before after b) begins (subst (λ (m : ℕ). RunSays g sentence 0 m names (stateOf q 0 1 1 1 sentence) before after b) n s)) (spells g sentence tree) refl
+
+  pub first-stood : (ends places : List ℕ) → length ends ≡ 96 → Ended (grammarOf file) list ends 0 (length list) → length places ≡ 96 → getD places 0 0 ≡ 0 → Stood (grammarOf file) list ends places 1
+  first-stood ends places l e k z =
+      record {
+        tested = tested;
+        ends-long = l;
+        ended = e;
+        long = k;
+        inside = λ p b. let f : p ≡ 0 = omega arith in subst (λ (x : ℕ). getD places x 0 < length list) (sym f) (omega (arith, has-node));
+      }

@@ -1,0 +1,119 @@
+-- Trace to tree as a whole: from the run of an accepted trace to its tree, and the tests before it.
+-- Assumes nothing.
+use mathlib.Core.Path.{_≡_, refl, sym, ap, subst, _∙_}
+use mathlib.Core.Option.{Option, none, some}
+use mathlib.Core.List.{List, _++_}
+use Prim.Native.Nat.{ℕ, _<_, _≤_}
+use native.Mathlib.Omega.{arith}
+use borrow.Author.Tests.{ltb-false}
+use lib.Dec.{ltb}
+use lib.ListN.{length, getD, take, drop}
+use lib.Seq.{getD-take}
+use Rattle.model.specs.declared.Refusal.{Refusal}
+use Rattle.model.specs.declared.Verdict.{Verdict}
+use Rattle.model.specs.Base.{_orElse_}
+use Rattle.model.specs.Verdict.{verdict}
+use Rattle.model.specs.Grammar.{Grammar}
+use Rattle.model.specs.GrammarFile.{grammarRefusal, grammarOf}
+use Rattle.model.specs.Trace.{sentenceRefusal, traceRefusal}
+use Rattle.model.specs.Tree.{Tree, preorder}
+use Rattle.model.specs.Conversions.{treeOf}
+use Rattle.model.specs.Rows.{beginRow}
+use Rattle.model.specs.Calls.{written, roomRefusal, traceToTreeRefusal, traceToTreeVerdict, traceToTreeOutput}
+use Rattle.model.proofs.Tests.{first-of, rest-of, no-refusal}
+use Rattle.model.proofs.Verdicts.{met, stopped, sentence-short}
+use Rattle.model.proofs.Demands.{trace-short}
+use Rattle.model.proofs.FromFile.{accepted-right}
+use Rattle.recognizer.specs.Traces.{takenRow}
+use Rattle.derivation.specs.Unfold.{daughterCount, Linked, Grows, Grown, conversionTests}
+use Rattle.derivation.proofs.UnfoldRun.{Unfolded, unfolded}
+use Rattle.derivation.proofs.UnfoldTables.{linked-front, grows-tree}
+
+-- a refused trace changes nothing
+pub refused-kept : (o : Option Refusal) (list out : List ℕ) {x : Refusal} → o ≡ some x → out ≡ written o list out
+refused-kept o list out e = sym (ap (λ (p : Option Refusal). written p list out) e)
+
+-- an accepted trace, and the predictions that its steps take
+module _ (file sentence trace taken : List ℕ) (accepted : grammarRefusal file ≡ none) (passes : traceRefusal (grammarOf file) sentence trace ≡ none) (is : take (length trace) taken ≡ takenRow (grammarOf file) (beginRow (grammarOf file) sentence) trace) where
+  abbrev g : Grammar
+  g = grammarOf file
+
+  pub steps-few : length trace ≤ 96
+  steps-few = trace-short g (accepted-right file accepted) sentence trace passes
+
+  tree-of-run : Unfolded file sentence trace accepted (take (length trace) taken)
+  tree-of-run = subst (Unfolded file sentence trace accepted) (sym is) (unfolded file sentence trace accepted passes)
+
+  front-small : (k : ℕ) → k < length trace → getD (take (length trace) taken) k 0 < 96
+  front-small k h = omega (arith, tree-of-run .small k h, steps-few)
+
+  pub taken-small : (k : ℕ) → k < length trace → getD taken k 0 < 96
+  taken-small k h = omega (arith, front-small k h, getD-take (length trace) taken k 0 h)
+
+  -- with the tables that the steps fill
+  module _ (steps first : List ℕ) (linked : Linked (daughterCount file) trace taken steps first (length trace)) where
+    stands : Grows (daughterCount file) trace steps first (tree-of-run .tree) 0
+    stands =
+        let u = tree-of-run in
+        grows-tree (daughterCount file) trace (take (length trace) taken) steps first (u .names) steps-few (u .unfolds) front-small
+        (linked-front (daughterCount file) trace taken steps first (length trace) linked) (u .tree) 0 (u .start) (u .begins)
+
+    nodes-few : length (preorder (tree-of-run .tree)) ≤ 96
+    nodes-few = omega (arith, tree-of-run .size, steps-few)
+
+    pub grown : Grown (daughterCount file) trace steps first
+    grown = record { tree = tree-of-run .tree; grows = stands; few = nodes-few }
+
+    pub tree-written : (out last : List ℕ)
+        → ((tree : Tree) → Grows (daughterCount file) trace steps first tree 0 → length (preorder tree) ≤ 96 → last ≡ preorder tree ++ drop (length (preorder tree)) out)
+        → last ≡ written (traceRefusal g sentence trace) (treeOf g sentence trace) out
+    tree-written out last h =
+        h (tree-of-run .tree) stands nodes-few
+        ∙ ap (λ (l : List ℕ). l ++ drop (length l) out) (sym (tree-of-run .is))
+        ∙ sym (ap (λ (o : Option Refusal). written o (treeOf g sentence trace) out) passes)
+
+-- the tests before the trace
+module _ (file sentence trace out : List ℕ) where
+  abbrev G : Option Refusal
+  G = grammarRefusal file
+
+  abbrev O : Option Refusal
+  O = roomRefusal out
+
+  abbrev W : Option Refusal
+  W = sentenceRefusal (grammarOf file) sentence
+
+  abbrev B : Option Refusal
+  B = conversionTests file sentence out
+
+  abbrev A : Option Refusal
+  A = traceRefusal (grammarOf file) sentence trace
+
+  pub tests-passed : B ≡ none → (G ≡ none) × (length sentence ≤ 96) × (96 ≤ length out)
+  tests-passed e =
+      let r = rest-of G (O orElse W) e in
+      (first-of G (O orElse W) e, sentence-short (grammarOf file) sentence (rest-of O W r), ltb-false (length out) 96 (no-refusal (ltb (length out) 96) (Refusal.Desk 23 0) (first-of O W r)))
+
+  joined : (a b c d : Option Refusal) → (a orElse b orElse c orElse d) ≡ ((a orElse b orElse c) orElse d)
+  joined none none none d = refl
+  joined none none (some x) d = refl
+  joined none (some x) c d = refl
+  joined (some x) b c d = refl
+
+  call-is : traceToTreeRefusal file sentence trace out ≡ (B orElse A)
+  call-is = joined G O W A
+
+  abbrev tree : List ℕ
+  tree = treeOf (grammarOf file) sentence trace
+
+  pub converted-call : B ≡ none → (v : Verdict) (last : List ℕ) → (v ≡ verdict A (length trace)) × (last ≡ written A tree out)
+      → (v ≡ traceToTreeVerdict file sentence trace out) × (last ≡ traceToTreeOutput file sentence trace out)
+  converted-call e v last f =
+      let a : A ≡ traceToTreeRefusal file sentence trace out = sym (call-is ∙ ap (λ (o : Option Refusal). o orElse A) e) in
+      (f .0 ∙ ap (λ (o : Option Refusal). verdict o (length trace)) a, f .1 ∙ ap (λ (o : Option Refusal). written o tree out) a)
+
+  pub refused-call : (v : Verdict) → v ≡ verdict B 0 → {x : Refusal} → v ≡ Verdict.Refused x
+      → (v ≡ traceToTreeVerdict file sentence trace out) × (out ≡ traceToTreeOutput file sentence trace out)
+  refused-call v e {x} f =
+      let b : (B orElse A) ≡ some x = ap (λ (o : Option Refusal). o orElse A) (met B 0 v e f) in
+      (stopped B 0 v e A (length trace) f ∙ ap (λ (o : Option Refusal). verdict o (length trace)) (sym call-is), sym (ap (λ (o : Option Refusal). written o tree out) (call-is ∙ b)))

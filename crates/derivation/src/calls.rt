@@ -1,0 +1,135 @@
+// The tree checker, and the conversion of a tree to its trace.
+ghost use mathlib.Core.List.{[], _∷_};
+ghost use mathlib.Core.Option.{none};
+ghost use mathlib.Core.Path.{_≡_};
+ghost use Prim.Native.Nat.{_≤_};
+ghost use lib.ListN.{length};
+ghost use Rattle.model.specs.Calls.{written, checkTreeVerdict, treeToTraceVerdict, treeToTraceOutput};
+ghost use Rattle.model.specs.Conversions.{traceOf};
+ghost use Rattle.model.specs.GrammarFile.{grammarRefusal, grammarOf};
+ghost use Rattle.model.specs.Tree.{nodesRefusal, treeRefusal};
+ghost use Rattle.model.specs.Verdict.{verdict};
+ghost use Rattle.derivation.specs.Places.{Ended};
+ghost use Rattle.derivation.specs.TreeRun.{Spelled, TreeSays, beforeInput};
+use crate::reader::read_tree;
+use crate::run::run_tree;
+use buffers::room_refusal;
+use buffers::write_front;
+use grammar::read_grammar;
+use grammar::start;
+use model::Refusal;
+use model::Verdict;
+use recognizer::row::first_row;
+use recognizer::rules::compile;
+use recognizer::sentence_refusal;
+
+// Whether the yield of the tree is the sentence, for a list that passes the tests of its nodes; then its trace is stored. A tree's trace reads the words
+// of its yield in their order, so no yield is computed.
+fn spells(
+    file: &[u8],
+    sentence: &[u16],
+    list: &[u16],
+    ends: &[u16; 96],
+    trace: &mut [u16; 96],
+) -> bool
+    requires { ⌜ (grammarRefusal (now file) ≡ none) × (length (now list) ≤ 96) × (nodesRefusal (grammarOf (now file)) 0 (grammarOf (now file) .start ∷ []) (now list) ≡ none) × (length (now ends) ≡ 96) × Ended (grammarOf (now file)) (now list) (now ends) 0 (length (now list)) × (length (now trace) ≡ 96) ⌝ }
+    ensures { λ b. ⌜ Spelled (grammarOf (now (file .entry))) (now (sentence .entry)) (now (list .entry)) (now (trace .exit)) b ⌝ }
+{
+    let t = compile(file);
+    let q = first_row(start(file));
+    let mut names = [0u16; 96];
+    run_tree(
+        file,
+        &t,
+        sentence,
+        list,
+        ends,
+        0,
+        0,
+        &q,
+        0,
+        1,
+        1,
+        1,
+        &mut names,
+        trace,
+    )
+}
+
+// A tree's verdict, for a grammar file and a sentence that are accepted, and for an accepted tree its trace.
+pub fn trace_tree(file: &[u8], sentence: &[u16], list: &[u16], trace: &mut [u16; 96]) -> Verdict
+    requires { ⌜ (grammarRefusal (now file) ≡ none) × (length (now trace) ≡ 96) ⌝ }
+    ensures { λ v. ⌜ TreeSays (grammarOf (now (file .entry))) (now (sentence .entry)) (now (list .entry)) (now (trace .exit)) v ⌝ }
+{
+    if 96 < list.len() {
+        return Verdict::Refused(Refusal::Analysis(12, 0));
+    }
+    let mut ends = [0u16; 96];
+    let nodes = read_tree(file, list, &mut ends);
+    let Verdict::Accepted(_) = nodes else {
+        return nodes;
+    };
+    if spells(file, sentence, list, &ends, trace) {
+        Verdict::Accepted(list.len() as u64)
+    } else {
+        Verdict::Refused(Refusal::Analysis(22, 0))
+    }
+}
+
+// The tree checker: refusals 1 to 10, 11, 12, 19, 13 and 20 node by node, 21, 22; else the number of nodes.
+pub fn check_tree(file: &[u8], sentence: &[u16], tree: &[u16]) -> Verdict
+    ensures { λ v. ⌜ v ≡ checkTreeVerdict (now (file .entry)) (now (sentence .entry)) (now (tree .entry)) ⌝ }
+{
+    let read = read_grammar(file);
+    let Verdict::Accepted(_) = read else {
+        return read;
+    };
+    let known = sentence_refusal(file, sentence);
+    let Verdict::Accepted(_) = known else {
+        return known;
+    };
+    let mut trace = [0u16; 96];
+    trace_tree(file, sentence, tree, &mut trace)
+}
+
+// What a conversion tests before its input: the grammar, 23, 11.
+fn conversion_tests(file: &[u8], sentence: &[u16], out: &[u16]) -> Verdict
+    ensures { λ v. ⌜ v ≡ verdict (beforeInput (now (file .entry)) (now (sentence .entry)) (now (out .entry))) 0 ⌝ }
+{
+    let read = read_grammar(file);
+    let Verdict::Accepted(_) = read else {
+        return read;
+    };
+    let room = room_refusal(out);
+    let Verdict::Accepted(_) = room else {
+        return room;
+    };
+    sentence_refusal(file, sentence)
+}
+
+// The trace of a tree at the front of the output, for a grammar file and a sentence that are accepted; or the tree's refusal.
+fn write_trace(file: &[u8], sentence: &[u16], tree: &[u16], out: &mut [u16]) -> Verdict
+    requires { ⌜ (grammarRefusal (now file) ≡ none) × (96 ≤ length (now out)) ⌝ }
+    ensures { λ v. ⌜ (v ≡ verdict (treeRefusal (grammarOf (now (file .entry))) (now (sentence .entry)) (now (tree .entry))) (length (now (tree .entry)))) × (now (out .exit) ≡ written (treeRefusal (grammarOf (now (file .entry))) (now (sentence .entry)) (now (tree .entry))) (traceOf (grammarOf (now (file .entry))) (now (sentence .entry)) (now (tree .entry))) (now (out .entry))) ⌝ }
+{
+    let mut trace = [0u16; 96];
+    let v = trace_tree(file, sentence, tree, &mut trace);
+    match v {
+        Verdict::Accepted(_) => {
+            write_front(&trace, tree.len(), out);
+            v
+        }
+        Verdict::Refused(_) => v,
+    }
+}
+
+// The trace that belongs to a tree: refusals 1 to 10, 23, 11, and those of the tree checker; else the trace is written at the front of the output.
+pub fn tree_to_trace(file: &[u8], sentence: &[u16], tree: &[u16], out: &mut [u16]) -> Verdict
+    ensures { λ v. ⌜ (v ≡ treeToTraceVerdict (now (file .entry)) (now (sentence .entry)) (now (tree .entry)) (now (out .entry))) × (now (out .exit) ≡ treeToTraceOutput (now (file .entry)) (now (sentence .entry)) (now (tree .entry)) (now (out .entry))) ⌝ }
+{
+    let tests = conversion_tests(file, sentence, out);
+    match tests {
+        Verdict::Accepted(_) => write_trace(file, sentence, tree, out),
+        Verdict::Refused(_) => tests,
+    }
+}

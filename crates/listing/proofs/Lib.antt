@@ -1,0 +1,11 @@
+pub mod Looks
+pub mod LookStates
+pub mod LookRules
+pub mod LookLoop
+pub mod LookTurns
+pub mod LookDesk
+pub mod LookBegin
+pub mod Following
+pub mod NextCall
+pub mod Streamed
+pub mod Answered

@@ -1,0 +1,116 @@
+-- From entry to entry, the calls for the next one go through the listing: the first comes after the empty list, and after entry m comes entry m + 1.
+-- Assumes nothing.
+use mathlib.Core.Path.{_≡_, refl, sym, ap, ap₂, subst, _∙_}
+use mathlib.Core.Logic.{_⊎_, inl, inr}
+use mathlib.Core.Bool.{Bool, true, false, _&&_, _||_}
+use mathlib.Core.List.{List, [], _∷_, List·Memᴰ, List·Memᴰ·head, List·Memᴰ·tail}
+use Prim.Native.Nat.{ℕ, zero, suc, _+_, _<_, _≤_}
+use native.Mathlib.Omega.{arith}
+use lib.Dec.{T, eqb, ltb, eqb→eq, ltb→lt}
+use lib.ListN.{length, getD, drop, drop-of-length-le}
+use lib.Seq.{drop-cons}
+use Rattle.model.specs.Base.{if_then_else_, keep}
+use Rattle.model.specs.Grammar.{Grammar}
+use Rattle.model.specs.Step.{before}
+use Rattle.model.specs.Counting.{live, complete, listing, effort, count}
+use Rattle.model.specs.LivePrefixes.{InOrder}
+use Rattle.model.proofs.Listing.{listing-lists}
+use Rattle.model.proofs.Order.{before-irrefl}
+use Rattle.model.proofs.Tests.{and-l, and-r}
+use Rattle.listing.specs.Stream.{upToFirst, liveAfter, lookedAt, entriesAfter, firstOf, nextOf, streamed}
+use Rattle.analyses.proofs.FoundEntry.{got}
+
+is-true : (b : Bool) → T b → b ≡ true
+is-true true t = refl
+is-true false t = absurd t
+
+is-false : (b : Bool) → (T b → ⊥) → b ≡ false
+is-false true f = absurd (f tt)
+is-false false f = refl
+
+or-cases : (a b : Bool) → T (a || b) → T a ⊎ T b
+or-cases true b t = inl tt
+or-cases false b t = inr t
+
+-- of two lists only one goes before the other
+before-asym : (p q : List ℕ) → T (before p q) → T (before q p) → ⊥
+before-asym [] [] t u = t
+before-asym [] (y ∷ q) t u = u
+before-asym (x ∷ p) [] t u = t
+before-asym (x ∷ p) (y ∷ q) t u =
+    go (or-cases (ltb x y) (eqb x y && before p q) t) (or-cases (ltb y x) (eqb y x && before q p) u) (λ v w. before-asym p q v w)
+  where
+    go : T (ltb x y) ⊎ T (eqb x y && before p q) → T (ltb y x) ⊎ T (eqb y x && before q p) → (T (before p q) → T (before q p) → ⊥) → ⊥
+    go (inl v) (inl w) ih = omega (arith, ltb→lt x y v, ltb→lt y x w)
+    go (inl v) (inr w) ih = omega (arith, ltb→lt x y v, eqb→eq y x (and-l (eqb y x) (before q p) w))
+    go (inr v) (inl w) ih = omega (arith, eqb→eq x y (and-l (eqb x y) (before p q) v), ltb→lt y x w)
+    go (inr v) (inr w) ih = ih (and-r (eqb x y) (before p q) v) (and-r (eqb y x) (before q p) w)
+
+keep-whole : (f : List ℕ → Bool) (l : List (List ℕ)) → ((p : List ℕ) → List·Memᴰ p l → T (f p)) → keep f l ≡ l
+keep-whole f [] h = refl
+keep-whole f (x ∷ l) h =
+    ap₂ (λ (b : Bool) (m : List (List ℕ)). if b then x ∷ m else m) (is-true (f x) (h x (List·Memᴰ·head refl))) (keep-whole f l (λ p m. h p (List·Memᴰ·tail m)))
+
+-- what comes after entry m of lists in order
+pub drop-after : (l : List (List ℕ)) → InOrder l → (m : ℕ) → m < length l → keep (before (getD l m [])) l ≡ drop (suc m) l
+drop-after [] o m h = let z : ⊥ = omega arith in absurd z
+drop-after (p ∷ l) o zero h =
+    ap (λ (b : Bool). if b then p ∷ keep (before p) l else keep (before p) l) (is-false (before p p) (before-irrefl p)) ∙ keep-whole (before p) l (o .0)
+drop-after (p ∷ l) o (suc m) h =
+    let q = getD l m [] in
+    let k : m < length l = omega arith in
+    ap (λ (b : Bool). if b then p ∷ keep (before q) l else keep (before q) l) (is-false (before q p) (λ t. before-asym q p t (o .0 q (got l m k))))
+    ∙ drop-after l (o .1) m k
+
+module _ (g : Grammar) (sentence : List ℕ) (n : ℕ) where
+  abbrev L : List (List ℕ)
+  L = listing g sentence n
+
+  in-order : InOrder L
+  in-order = listing-lists g sentence n .ordered
+
+  pub after-entry : (m : ℕ) → m < length L → entriesAfter g sentence n (getD L m []) ≡ drop (suc m) L
+  after-entry m h = drop-after L in-order m h
+
+  -- no entry is empty
+  pub after-nothing : entriesAfter g sentence n [] ≡ L
+  after-nothing = keep-whole (before []) L (λ p m. some p (listing-lists g sentence n .sound p m .1))
+    where
+      some : (p : List ℕ) → T (complete g sentence p) → T (before [] p)
+      some [] t = t
+      some (x ∷ p) t = tt
+
+  streams : (j m : ℕ) (list : List ℕ) → m + j ≡ length L → entriesAfter g sentence n list ≡ drop m L → streamed g sentence n j list ≡ drop m L
+  streams zero m list e h = sym (drop-of-length-le L {i = m} (omega arith))
+  streams (suc j) m list e h =
+      let k : m < length L = omega arith in
+      let c = drop-cons L m [] k in
+      let p : nextOf g sentence n list ≡ getD L m [] = ap firstOf (h ∙ c) in
+      ap (λ (x : List ℕ). x ∷ streamed g sentence n j x) p
+      ∙ ap (λ (l : List (List ℕ)). getD L m [] ∷ l) (streams j (suc m) (getD L m []) (omega arith) (after-entry m k))
+      ∙ sym c
+
+  -- from the empty list on, what comes one after the other is the listing
+  pub stream-lists : streamed g sentence n (count g sentence n) [] ≡ L
+  stream-lists = streams (count g sentence n) 0 [] (omega arith) after-nothing
+
+  -- the call looks at no more live prefixes than there are
+  first-few : (test : List ℕ → Bool) (l : List (List ℕ)) → length (upToFirst test l) ≤ length l
+  first-few test [] = omega arith
+  first-few test (x ∷ l) = go (test x) (first-few test l)
+    where
+      go : (b : Bool) → length (upToFirst test l) ≤ length l → length (if b then x ∷ [] else x ∷ upToFirst test l) ≤ length (x ∷ l)
+      go true h = omega arith
+      go false h = omega arith
+
+  keep-few : (test : List ℕ → Bool) (l : List (List ℕ)) → length (keep test l) ≤ length l
+  keep-few test [] = omega arith
+  keep-few test (x ∷ l) = go (test x) (keep-few test l)
+    where
+      go : (b : Bool) → length (keep test l) ≤ length l → length (if b then x ∷ keep test l else keep test l) ≤ length (x ∷ l)
+      go true h = omega arith
+      go false h = omega arith
+
+  pub looked-few : (list : List ℕ) → length (lookedAt g sentence n list) ≤ effort g sentence n
+  looked-few list =
+      omega (arith, first-few (complete g sentence) (liveAfter g sentence n list), keep-few (before list) (live g sentence n))

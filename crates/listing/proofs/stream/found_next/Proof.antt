@@ -1,0 +1,113 @@
+use mathlib.Core.Path.{_≡_, refl, sym, ap, subst, _∙_}
+use mathlib.Core.List.{List}
+use Rattle.listing.specs.declared.stream.Followed.{Followed}
+use Prim.Native.Nat.{ℕ}
+use lib.ListN.{length, take}
+use Rattle.model.specs.GrammarFile.{grammarOf}
+use Rattle.listing.specs.Stream.{Follows}
+use Rattle.analyses.proofs.Limits.{ranges}
+use Rattle.listing.proofs.NextCall.{front-is, path-long, next-long, next-room, answers-next, answers-last, answers-over}
+use borrow.Author.Needs.{needs}
+use Rattle.listing.proofs.stream.found_next.Statement.{statement}
+use Rattle.listing.proofs.stream.found_next.Tie as tie
+use Rattle.listing.proofs.stream.found_next.Reads as reads
+use Rattle.listing.proofs.stream.found_next.Lts as lts
+use Rattle.analyses.proofs.chain_rules.Reads as chain-rules-reads
+use Rattle.listing.proofs.stream.follow.Reads as follow-reads
+use Rattle.buffers.proofs.write_front.Reads as write-front-reads
+use Rattle.recognizer.proofs.rules.compile.Reads as compile-reads
+
+-- src/stream.rt:85:43
+slice-aggregate-write-front : tie.Need-slice-aggregate-write-front
+slice-aggregate-write-front c = search needs
+
+-- src/stream.rt:85:5
+write-front-requires : tie.Need-write-front-requires
+write-front-requires c κs = search needs
+
+-- src/stream.rt:86:13
+compile-requires : tie.Need-compile-requires
+compile-requires c κs = search needs
+
+-- src/stream.rt:87:17
+chain-rules-requires : tie.Need-chain-rules-requires
+chain-rules-requires c κs = search needs
+
+-- src/stream.rt:88:9
+follow-requires : tie.Need-follow-requires
+follow-requires c κs =
+    let s = c .before .before .before .before .before .before .before .before .before .before .before .before in
+    let a = s .args in
+    let p = s .pre in
+    let r = ranges (a .n) (a .limit) (p .1) in
+    (p .0, c .before .before .before .before .compile .ensures (p .0), c .before .before .before .chain-rules .ensures (p .0), r .nodes-some, r .nodes-few, p .3, path-long (a .previous .now) _ _ (c .before .before .before .before .before .before .write-front .ensures) refl (p .3))
+
+-- src/stream.rt:99:24
+enum-known-f : tie.Need-enum-known-f
+enum-known-f c = search needs
+
+-- src/stream.rt:100:25
+slice-aggregate-write-front-2 : tie.Need-slice-aggregate-write-front-2
+slice-aggregate-write-front-2 c =
+    let s = c .before .before .before .before .before .before .before .before .before .before .before .before .before .before .before .before .before in
+    let a = s .args in
+    next-long (grammarOf (a .file .now)) (a .sentence .now) (a .n) (a .limit) (a .previous .now) (a .out .now) (c .before .before .before .before .follow .last .1 .1 .1 .1 .1 .1 .1 .0) (c .before .before .f .given .0 .0) (subst (λ (l : List ℕ). Follows (grammarOf (a .file .now)) (a .sentence .now) (a .n) (a .limit) l (c .before .before .before .before .follow .last .1 .1 .1 .1 .1 .1 .1 .0) (Followed.Next (c .before .before .f .given .0 .0))) (ap (take (length (a .previous .now))) (c .before .before .before .before .before .before .before .before .before .before .before .write-front .ensures) ∙ front-is (a .previous .now) _) (rw (c .before .before .f .given .1) at (c .before .before .before .before .follow .ensures)))
+
+-- src/stream.rt:100:13
+write-front-requires-2 : tie.Need-write-front-requires-2
+write-front-requires-2 c κs =
+    let s = c .before .before .before .before .before .before .before .before .before .before .before .before .before .before .before .before .before .before in
+    let a = s .args in
+    next-room (grammarOf (a .file .now)) (a .sentence .now) (a .n) (a .limit) (a .previous .now) (a .out .now) (c .before .before .before .before .before .follow .last .1 .1 .1 .1 .1 .1 .1 .0) (c .before .before .before .f .given .0 .0) (subst (λ (l : List ℕ). Follows (grammarOf (a .file .now)) (a .sentence .now) (a .n) (a .limit) l (c .before .before .before .before .before .follow .last .1 .1 .1 .1 .1 .1 .1 .0) (Followed.Next (c .before .before .before .f .given .0 .0))) (ap (take (length (a .previous .now))) (c .before .before .before .before .before .before .before .before .before .before .before .before .write-front .ensures) ∙ front-is (a .previous .now) _) (rw (c .before .before .before .f .given .1) at (c .before .before .before .before .before .follow .ensures))) (s .pre .2)
+
+-- src/stream.rt:103:44
+enum-told : tie.Need-enum-told
+enum-told c = search needs
+
+-- src/stream.rt:104:44
+enum-told-2 : tie.Need-enum-told-2
+enum-told-2 c = search needs
+
+-- src/stream.rt:73:1
+same-length : tie.Need-same-length
+same-length c = search needs
+
+-- src/stream.rt:73:1
+returns : tie.Need-returns
+returns c =
+    let s = c .before .before .before .before .before .before .before .before .before .before .before .before .before .before .before .before .before .before .before .before .before in
+    let a = s .args in
+    answers-next (grammarOf (a .file .now)) (a .sentence .now) (a .n) (a .limit) (a .previous .now) (a .out .now) (c .before .before .before .before .before .before .before .before .follow .last .1 .1 .1 .1 .1 .1 .1 .0) (c .before .before .before .before .before .before .f .given .0 .0) (subst (λ (l : List ℕ). Follows (grammarOf (a .file .now)) (a .sentence .now) (a .n) (a .limit) l (c .before .before .before .before .before .before .before .before .follow .last .1 .1 .1 .1 .1 .1 .1 .0) (Followed.Next (c .before .before .before .before .before .before .f .given .0 .0))) (ap (take (length (a .previous .now))) (c .before .before .before .before .before .before .before .before .before .before .before .before .before .before .before .write-front .ensures) ∙ front-is (a .previous .now) _) (rw (c .before .before .before .before .before .before .f .given .1) at (c .before .before .before .before .before .before .before .before .follow .ensures))) _ (c .before .before .write-front2 .ensures)
+
+-- src/stream.rt:73:1
+returns-2 : tie.Need-returns-2
+returns-2 c =
+    let s = c .before .before .before .before .before .before .before .before .before .before .before .before .before .before .before in
+    let a = s .args in
+    answers-last (grammarOf (a .file .now)) (a .sentence .now) (a .n) (a .limit) (a .previous .now) (a .out .now) (c .before .before .follow .last .1 .1 .1 .1 .1 .1 .1 .0) (subst (λ (l : List ℕ). Follows (grammarOf (a .file .now)) (a .sentence .now) (a .n) (a .limit) l (c .before .before .follow .last .1 .1 .1 .1 .1 .1 .1 .0) Followed.Last) (ap (take (length (a .previous .now))) (c .before .before .before .before .before .before .before .before .before .write-front .ensures) ∙ front-is (a .previous .now) _) (rw (c .enum-told .given .1) at (c .before .before .follow .ensures)))
+
+-- src/stream.rt:73:1
+returns-3 : tie.Need-returns-3
+returns-3 c =
+    let s = c .before .before .before .before .before .before .before .before .before .before .before .before .before .before .before in
+    let a = s .args in
+    answers-over (grammarOf (a .file .now)) (a .sentence .now) (a .n) (a .limit) (a .previous .now) (a .out .now) (c .before .before .follow .last .1 .1 .1 .1 .1 .1 .1 .0) (subst (λ (l : List ℕ). Follows (grammarOf (a .file .now)) (a .sentence .now) (a .n) (a .limit) l (c .before .before .follow .last .1 .1 .1 .1 .1 .1 .1 .0) Followed.Over) (ap (take (length (a .previous .now))) (c .before .before .before .before .before .before .before .before .before .write-front .ensures) ∙ front-is (a .previous .now) _) (rw (c .enum-told2 .given .1) at (c .before .before .follow .ensures)))
+
+pub found-next-spec : {M : Type 1} → statement M
+found-next-spec =
+    tie.close
+    (tie.spec
+    slice-aggregate-write-front
+    write-front-requires
+    compile-requires
+    chain-rules-requires
+    follow-requires
+    enum-known-f
+    slice-aggregate-write-front-2
+    write-front-requires-2
+    enum-told
+    enum-told-2
+    same-length
+    returns
+    returns-2
+    returns-3)

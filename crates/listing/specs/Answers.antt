@@ -1,0 +1,57 @@
+-- Demand 3 as a claim about what the calls answer: the count, the call for entry m and the call for the entry after a list, together, whatever program gives
+-- the answers, as long as each is the one that the call promises.
+-- Assumes nothing.
+use mathlib.Core.Path.{_≡_}
+use Prim.Native.Nat.{ℕ, suc, _<_, _≤_}
+use mathlib.Core.List.{List, [], _++_, map, List·Memᴰ}
+use lib.ListN.{length, getD, drop}
+use Rattle.model.specs.declared.Refusal.{Refusal}
+use Rattle.model.specs.declared.Verdict.{Verdict}
+use Rattle.model.specs.declared.CountVerdict.{CountVerdict}
+use Rattle.model.specs.GrammarFile.{grammarOf}
+use Rattle.model.specs.Tree.{Tree, preorder}
+use Rattle.model.specs.LivePrefixes.{Live, InOrder, Different}
+use Rattle.model.specs.Calls.{countCall, entryVerdict, entryOutput}
+use Rattle.model.specs.Demands.{_⇔_, Analysis, Belongs, traceOfTree}
+use Rattle.listing.specs.Stream.{nextVerdict, nextOutput}
+
+module _ (file sentence : List ℕ) (n limit : ℕ) where
+  -- The answers of the three calls for a grammar file, a sentence and limits: of the count; for entry m, verdict and output after, by the output lent; and for
+  -- the entry after a list. They are as `count`, `entry` and `next_entry` promise.
+  pub record Answers : Type 0 where
+    pub count : CountVerdict
+    pub entry : ℕ → List ℕ → Verdict × List ℕ
+    pub next : List ℕ → List ℕ → Verdict × List ℕ
+    pub count-promised : count ≡ countCall file sentence n limit
+    pub entry-promised : (m : ℕ) (out : List ℕ) → (entry m out .0 ≡ entryVerdict file sentence n limit m out) × (entry m out .1 ≡ entryOutput file sentence n limit m out)
+    pub next-promised : (list out : List ℕ) → (next list out .0 ≡ nextVerdict file sentence n limit list out) × (next list out .1 ≡ nextOutput file sentence n limit list out)
+
+  -- an answer that writes a trace at the front of the output
+  abbrev pub Writes : List ℕ → List ℕ → Verdict × List ℕ → Type 0
+  Writes trace out answer = (answer .0 ≡ Verdict.Accepted (length trace)) × (answer .1 ≡ trace ++ drop (length trace) out)
+
+  -- Demand 3, "one claim about the count and the whole listing"
+  pub record Demand3Answered (answers : Answers) : Type 0 where
+    -- the live prefixes, none twice, and the trees with at most n nodes that derive the sentence, none twice
+    pub prefixes : List (List ℕ)
+    pub prefixes-are : (p : List ℕ) → List·Memᴰ p prefixes ⇔ Live (grammarOf file) sentence n p
+    pub prefixes-differ : Different prefixes
+    pub trees : List Tree
+    pub trees-are : (t : Tree) → List·Memᴰ t trees ⇔ Analysis (grammarOf file) sentence n t
+    pub trees-differ : Different (map preorder trees)
+    -- their traces, each once, in dictionary order
+    pub traces : List (List ℕ)
+    pub traces-are : traces ≡ map (traceOfTree (grammarOf file) sentence) trees
+    pub traces-belong : (t : Tree) → List·Memᴰ t trees → Belongs (grammarOf file) sentence t
+    pub traces-differ : Different traces
+    pub ordered : InOrder traces
+    -- the count is refused for effort exactly when there are more live prefixes than the limit; else it says how many trees and live prefixes there are
+    pub too-much : (answers .count ≡ CountVerdict.NotCounted (Refusal.Desk 25 0)) ⇔ limit < length prefixes
+    pub counted : length prefixes ≤ limit → answers .count ≡ CountVerdict.Counted (length trees) (length prefixes)
+    -- and then entry m is the m-th of the traces, and there is none after the last
+    pub entries : length prefixes ≤ limit → (out : List ℕ) → 96 ≤ length out → (m : ℕ) → m < length trees → Writes (getD traces m []) out (answers .entry m out)
+    pub no-entry : length prefixes ≤ limit → (out : List ℕ) → 96 ≤ length out → (m : ℕ) → length trees ≤ m → answers .entry m out .0 ≡ Verdict.Refused (Refusal.Desk 26 0)
+    -- the stream: after the empty list comes the first, after each the next, after the last none
+    pub first : length prefixes ≤ limit → (out : List ℕ) → 96 ≤ length out → 0 < length trees → Writes (getD traces 0 []) out (answers .next [] out)
+    pub next : length prefixes ≤ limit → (out : List ℕ) → 96 ≤ length out → (m : ℕ) → suc m < length trees → Writes (getD traces (suc m) []) out (answers .next (getD traces m []) out)
+    pub no-next : length prefixes ≤ limit → (out : List ℕ) → 96 ≤ length out → (m : ℕ) → suc m ≡ length trees → answers .next (getD traces m []) out .0 ≡ Verdict.Refused (Refusal.Desk 26 0)

@@ -1,0 +1,73 @@
+//! The calls and their answers ("Who can cause a refusal").
+
+/// Who can cause a refusal: the grammar's author, the analysis's author or the desk.
+#[derive(Clone, Copy, Debug, PartialEq, Eq)]
+pub enum Whose {
+    Grammar,
+    Analysis,
+    Desk,
+}
+
+#[derive(Clone, Copy, Debug, PartialEq, Eq)]
+pub struct Refusal {
+    pub whose: Whose,
+    pub number: u8,
+    pub place: u32,
+}
+
+impl Refusal {
+    pub fn grammar(number: u8, place: usize) -> Refusal {
+        Refusal { whose: Whose::Grammar, number, place: place as u32 }
+    }
+
+    pub fn analysis(number: u8, place: usize) -> Refusal {
+        Refusal { whose: Whose::Analysis, number, place: place as u32 }
+    }
+
+    pub fn desk(number: u8) -> Refusal {
+        Refusal { whose: Whose::Desk, number, place: 0 }
+    }
+}
+
+/// A verdict: the values of the call, or its refusal.
+#[derive(Clone, Copy, Debug, PartialEq, Eq)]
+pub enum Answer {
+    /// A node count; of the reader R, of the survey C, of the writer the file's length, of an entry its number of steps.
+    Accepted(u32),
+    Counted {
+        count: u32,
+        effort: u32,
+    },
+    Refused(Refusal),
+    /// An answer with bits that no answer has. The reference never gives it.
+    Malformed(u64),
+}
+
+/// What the writer takes beside the records: a heading's numbers and the dimension bytes, 64 where it is a heading.
+#[derive(Clone, Debug, PartialEq, Eq)]
+pub struct Heading {
+    pub categories: u8,
+    pub start: u8,
+    pub words: u16,
+    pub rules: u16,
+    pub dimensions: Vec<u8>,
+}
+
+/// The public calls. A refused call changes no buffer, and an accepted one nothing past the last entry that it writes.
+pub trait Calls {
+    fn read_grammar(&self, file: &[u8]) -> Answer;
+    fn write_grammar(&self, heading: &Heading, records: &[u8], out: &mut [u8]) -> Answer;
+    fn check_trace(&self, file: &[u8], sentence: &[u16], trace: &[u16]) -> Answer;
+    fn count(&self, file: &[u8], sentence: &[u16], node_limit: u64, effort_limit: u64) -> Answer;
+    fn entry(&self, file: &[u8], sentence: &[u16], node_limit: u64, effort_limit: u64, entry: u64, out: &mut [u16]) -> Answer;
+    fn survey(&self, file: &[u8], out: &mut [u16]) -> Answer;
+    /// The calls on derivation trees, where this side has them.
+    fn trees(&self) -> Option<&dyn TreeCalls>;
+}
+
+/// The public calls on derivation trees.
+pub trait TreeCalls {
+    fn check_tree(&self, file: &[u8], sentence: &[u16], tree: &[u16]) -> Answer;
+    fn trace_to_tree(&self, file: &[u8], sentence: &[u16], trace: &[u16], out: &mut [u16]) -> Answer;
+    fn tree_to_trace(&self, file: &[u8], sentence: &[u16], tree: &[u16], out: &mut [u16]) -> Answer;
+}
