@@ -2,3 +2,4 @@ pub mod Digits
 pub mod Placed
 pub mod Pairs
 pub mod Whole
+pub mod Pages

@@ -40,9 +40,9 @@ words-more bytes words k x w h l e =
       few = omega arith;
       room = lib.ListN.length-set words k x ∙ w .room;
       so-far =
-        w .so-far ∙ ap (λ (v : List ℕ). take k words ++ v) y
-        ∙ sym (append-assoc (take k words) (x ∷ []) (pairs (drop (2 * (k + 1) + 1) bytes)))
-        ∙ ap (λ (u : List ℕ). u ++ pairs (drop (2 * (k + 1) + 1) bytes)) (sym t);
+          w .so-far ∙ ap (λ (v : List ℕ). take k words ++ v) y
+          ∙ sym (append-assoc (take k words) (x ∷ []) (pairs (drop (2 * (k + 1) + 1) bytes)))
+          ∙ ap (λ (u : List ℕ). u ++ pairs (drop (2 * (k + 1) + 1) bytes)) (sym t);
     }
 
 -- the bytes end, or 97 words are read

@@ -10,11 +10,11 @@ use native.Mathlib.Nat.{eq-or-lt-of-le}
 use native.Mathlib.Numerals.{add-one}
 use borrow.Author.Tests.{eqb-true, eqb-false}
 use lib.Dec.{eqb}
-use lib.ListN.{length, getD, take, drop, set, length-append, length-drop}
+use lib.ListN.{length, getD, take, drop, set, length-set, length-append, length-drop}
 use lib.Seq.{sets, length-sets, drop-cons, drop-length}
 use Rattle.model.specs.Program.{decimal, line, blank, newline}
 use Rattle.report.specs.Text.{Put, ending}
-use Rattle.report.proofs.Digits.{word-digits}
+use Rattle.report.proofs.Digits.{word-digits, all-digits}
 
 sets-append : (l : List ℕ) (i : ℕ) (u v : List ℕ) → sets l i (u ++ v) ≡ sets (sets l i u) (i + length u) v
 sets-append l i [] v = let e : i ≡ i + 0 = omega arith in ap (λ (k : ℕ). sets l k v) e
@@ -25,22 +25,23 @@ sets-append l i (x ∷ u) v =
 pub put-long : {before after : List ℕ} {at : ℕ} {l : List ℕ} {r : ℕ} → Put before after at l r → length after ≡ length before
 put-long {before} {after} {at} {l} w = ap length (w .written) ∙ length-sets before at l
 
-pub put-none : (before : List ℕ) (at : ℕ) → Put before before at [] at
-put-none before at = record { written = refl; place = omega arith }
+pub put-none : (before : List ℕ) (at : ℕ) → at ≤ length before → Put before before at [] at
+put-none before at h = record { written = refl; place = omega arith; within = h }
 
 pub put-join : {before between after : List ℕ} {at p r : ℕ} {l m : List ℕ}
     → Put before between at l p → Put between after p m r → Put before after at (l ++ m) r
 put-join {before} {between} {after} {at} {p} {r} {l} {m} w v = record {
   written = v .written ∙ ap₂ (λ (b : List ℕ) (k : ℕ). sets b k m) (w .written) (w .place) ∙ sym (sets-append before at l m);
   place = omega (arith, w .place, v .place, length-append l m);
+  within = v .within;
 }
 
 pub put-same : {before after : List ℕ} {at r : ℕ} {l m : List ℕ} → Put before after at l r → l ≡ m → Put before after at m r
 put-same {before} {after} {at} {r} w e = subst (λ (x : List ℕ). Put before after at x r) e w
 
 -- one byte
-pub put-one : (before : List ℕ) (at x : ℕ) → Put before (set before at x) at (x ∷ []) (at + 1)
-put-one before at x = record { written = refl; place = refl }
+pub put-one : (before : List ℕ) (at x : ℕ) → at < length before → Put before (set before at x) at (x ∷ []) (at + 1)
+put-one before at x h = record { written = refl; place = refl; within = omega (arith, length-set before at x) }
 
 -- the rest of a text, byte by byte
 pub rest-more : (text out : List ℕ) (i p : ℕ) → i < length text → sets out p (drop i text) ≡ sets (set out p (getD text i 0)) (p + 1) (drop (i + 1) text)
@@ -61,19 +62,15 @@ line-item n [] false h k = let z : ⊥ = omega (arith, k refl) in absurd z
 line-item n (m ∷ ms) true h k = let z : _≡_ {A = ℕ} 0 1 = cc (h refl) in absurd (omega arith)
 line-item n (m ∷ ms) false h k = sym (append-assoc (decimal n) (blank ∷ []) (line (m ∷ ms)))
 
--- a line of 16-bit numbers is at most six bytes a number long
-pub line-short : (list : List ℕ) → ((i : ℕ) → getD list i 0 < 65536) → 0 < length list → length (line list) ≤ 6 * length list
-line-short [] h k = omega arith
-line-short (n ∷ []) h k = omega (arith, length-append (decimal n) (newline ∷ []), word-digits n (h 0))
-line-short (n ∷ m ∷ ms) h k =
-    omega (arith, length-append (decimal n) (blank ∷ line (m ∷ ms)), word-digits n (h 0), line-short (m ∷ ms) (λ i. h (suc i)) (omega arith))
-
 -- a line of two numbers
 pub count-line : (a b : ℕ) → (decimal a ++ (ending false ∷ [])) ++ (decimal b ++ (ending true ∷ [])) ≡ line (a ∷ b ∷ [])
 count-line a b = append-assoc (decimal a) (blank ∷ []) (decimal b ++ (newline ∷ []))
 
-pub count-length : (a b : ℕ) → length (line (a ∷ b ∷ [])) ≡ length (decimal a ++ (ending false ∷ [])) + length (decimal b ++ (ending true ∷ []))
-count-length a b = sym (ap length (count-line a b)) ∙ length-append (decimal a ++ (ending false ∷ [])) (decimal b ++ (ending true ∷ []))
+pub item-short : (n : ℕ) (last : Bool) → n < 65536 → length (decimal n ++ (ending last ∷ [])) ≤ 6
+item-short n last h = omega (arith, length-append (decimal n) (ending last ∷ []), word-digits n h)
+
+pub item-long : (n : ℕ) (last : Bool) → length (decimal n ++ (ending last ∷ [])) ≤ 21
+item-long n last = omega (arith, length-append (decimal n) (ending last ∷ []), all-digits n)
 
 -- two bytes and a line
 pub two-before : (before after : List ℕ) (at x y q : ℕ) (l : List ℕ) → Put (set (set before at x) (at + 1) y) after (at + 2) l q → Put before after at (x ∷ y ∷ l) q
@@ -82,6 +79,7 @@ two-before before after at x y q l w =
     record {
       written = w .written ∙ ap₂ (λ (i j : ℕ). sets (set (set before at x) i y) j l) (add-one at) e;
       place = omega (arith, w .place);
+      within = w .within;
     }
 
 eq-or-less : (a b : ℕ) → a ≤ b → (a ≡ b) ⊎ (a < b)
@@ -117,26 +115,24 @@ module _ (xs before : List ℕ) (at : ℕ) (after : List ℕ) (i p : ℕ) (w : L
     item-length : length (lineFrom (drop i xs)) ≡ length (decimal x ++ (ending last ∷ [])) + length (lineFrom (drop (i + 1) xs))
     item-length = ap length next-item ∙ length-append (decimal x ++ (ending last ∷ [])) (lineFrom (drop (i + 1) xs))
 
-    pub line-room : at + length (line xs) ≤ length before → p + length (decimal x ++ (ending last ∷ [])) ≤ length after
-    line-room r = omega (arith, item-length, w .place, w .kept)
-
     pub line-more : {after′ : List ℕ} {q : ℕ} → Put after after′ p (decimal x ++ (ending last ∷ [])) q → LineTo xs before at after′ (i + 1) q
     line-more {after′} {q} v = record {
       few = omega arith;
       kept = put-long v ∙ w .kept;
       place = omega (arith, item-length, w .place, v .place);
       written =
-        w .written ∙ ap (λ (y : List ℕ). sets after p y) next-item
-        ∙ sets-append after p (decimal x ++ (ending last ∷ [])) (lineFrom (drop (i + 1) xs))
-        ∙ ap₂ (λ (y : List ℕ) (k : ℕ). sets y k (lineFrom (drop (i + 1) xs))) (sym (v .written)) (sym (v .place));
+          w .written ∙ ap (λ (y : List ℕ). sets after p y) next-item
+          ∙ sets-append after p (decimal x ++ (ending last ∷ [])) (lineFrom (drop (i + 1) xs))
+          ∙ ap₂ (λ (y : List ℕ) (k : ℕ). sets y k (lineFrom (drop (i + 1) xs))) (sym (v .written)) (sym (v .place));
     }
 
-  pub line-end : length xs ≤ i → Put before after at (line xs) p
-  line-end h =
+  pub line-end : length xs ≤ i → p ≤ length before → Put before after at (line xs) p
+  line-end h r =
       let e : i ≡ length xs = omega (arith, w .few) in
       let z : drop i xs ≡ [] = ap (λ (k : ℕ). drop k xs) e ∙ drop-length xs in
       let f : lineFrom (drop i xs) ≡ [] = ap lineFrom z in
       record {
         written = sym (w .written ∙ ap (λ (y : List ℕ). sets after p y) f);
         place = omega (arith, ap length f, w .place);
+        within = omega (arith, w .kept);
       }

@@ -1,7 +1,7 @@
 // The listing as lines of text, a page at a time.
 ghost use mathlib.Core.Option.{none};
 ghost use mathlib.Core.Path.{_≡_};
-ghost use Prim.Native.Nat.{_+_, _≤_};
+ghost use Prim.Native.Nat.{_+_, _<_, _≤_};
 ghost use lib.ListN.{length, take};
 ghost use Rattle.model.specs.Counting.{effort};
 ghost use Rattle.model.specs.GrammarFile.{grammarRefusal, grammarOf};
@@ -37,7 +37,7 @@ fn put_next(
     out: &mut [u8],
     at: usize,
 ) -> Line
-    requires { ⌜ Lists (now file) (now t) (now chain) (now sentence) n (now path) len × (at + 576 ≤ length (now out)) ⌝ }
+    requires { ⌜ Lists (now file) (now t) (now chain) (now sentence) n (now path) len × (at + 576 < length (now out)) ⌝ }
     ensures { λ l. ⌜ LineSays (grammarOf (now (file .entry))) (now (sentence .entry)) n (take len (now (path .entry))) (now (path .exit)) (now (out .entry)) at (now (out .exit)) l ⌝ }
 {
     let f = follow(file, t, chain, sentence, n, 1000000, len, path);
@@ -66,7 +66,7 @@ pub fn fill(
 {
     let mut p = at;
     let mut k = len;
-    while 576 <= out.len() - p {
+    while 576 < out.len() - p {
         let l = put_next(file, t, chain, sentence, n, path, k, out, p);
         match l {
             Line::Put(q, m) => {

@@ -2,7 +2,7 @@
 ghost use mathlib.Core.List.{[], _∷_, _++_};
 ghost use mathlib.Core.Option.{some};
 ghost use mathlib.Core.Path.{_≡_};
-ghost use Prim.Native.Nat.{_+_, _%_, _≤_};
+ghost use Prim.Native.Nat.{_+_, _*_, _%_, _<_, _≤_};
 ghost use lib.ListN.{length, take, drop};
 ghost use Rattle.model.specs.Program.{decimal, line, printed, digitZero};
 ghost use Rattle.report.specs.Text.{Put, ending};
@@ -75,18 +75,18 @@ fn put_item(n: u64, last: bool, out: &mut [u8], at: usize) -> usize
     p + 1
 }
 
-// Writes a line of two numbers.
+// Writes a line of two numbers, at most 42 bytes.
 pub fn put_count(a: u64, b: u64, out: &mut [u8], at: usize) -> usize
-    requires { ⌜ at + length (line (a ∷ b ∷ [])) ≤ length (now out) ⌝ }
+    requires { ⌜ at + 42 ≤ length (now out) ⌝ }
     ensures { λ r. ⌜ Put (now (out .entry)) (now (out .exit)) at (line (a ∷ b ∷ [])) r ⌝ }
 {
     let p = put_item(a, false, out, at);
     put_item(b, true, out, p)
 }
 
-// Writes the line of a refusal: the letter R, its number and its place.
+// Writes the line of a refusal, at most 44 bytes: the letter R, its number and its place.
 pub fn put_refusal(r: Refusal, out: &mut [u8], at: usize) -> usize
-    requires { ⌜ at + length (printed (some r) []) ≤ length (now out) ⌝ }
+    requires { ⌜ at + 44 ≤ length (now out) ⌝ }
     ensures { λ q. ⌜ Put (now (out .entry)) (now (out .exit)) at (printed (some r) []) q ⌝ }
 {
     out[at] = b'R';
@@ -99,9 +99,9 @@ pub fn put_refusal(r: Refusal, out: &mut [u8], at: usize) -> usize
     )
 }
 
-// Writes the first n numbers of a list as a line.
+// Writes the first n numbers of a list as a line, at most six bytes a number.
 pub fn put_line(list: &[u16; 96], n: usize, out: &mut [u8], at: usize) -> usize
-    requires { ⌜ (length (now list) ≡ 96) × (n ≤ 96) × (at + length (line (take n (now list))) ≤ length (now out)) ⌝ }
+    requires { ⌜ (length (now list) ≡ 96) × (n ≤ 96) × (at + 6 * n < length (now out)) ⌝ }
     ensures { λ r. ⌜ Put (now (out .entry)) (now (out .exit)) at (line (take n (now (list .entry)))) r ⌝ }
 {
     if n == 0 {
@@ -117,8 +117,9 @@ pub fn put_line(list: &[u16; 96], n: usize, out: &mut [u8], at: usize) -> usize
     p
 }
 
+// The number in 64 bits.
 fn wide(x: u16) -> u64
-    ensures { λ r. ⌜ r ≡ x ⌝ }
+    ensures { λ r. ⌜ (r ≡ x) × (r < 65536) ⌝ }
 {
     x as u64
 }

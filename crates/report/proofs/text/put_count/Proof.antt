@@ -1,6 +1,8 @@
+use mathlib.Core.Bool.{true, false}
+use Rattle.report.proofs.Placed.{item-long}
 use mathlib.Core.Path.{_≡_, refl, sym, ap, _∙_}
 use native.Mathlib.Omega.{arith}
-use Rattle.report.proofs.Placed.{put-long, put-join, put-same, count-line, count-length}
+use Rattle.report.proofs.Placed.{put-long, put-join, put-same, count-line}
 use borrow.Author.Needs.{needs}
 use Rattle.report.proofs.text.put_count.Statement.{statement}
 use Rattle.report.proofs.text.put_count.Tie as tie
@@ -12,14 +14,14 @@ use Rattle.report.proofs.text.put_item.Reads as put-item-reads
 put-item-requires : tie.Need-put-item-requires
 put-item-requires c κs =
     let s = c .before .before in
-    omega (arith, s .pre, count-length (s .args .a) (s .args .b))
+    omega (arith, s .pre, item-long (s .args .a) false)
 
 -- src/text.rt:84:5
 put-item-requires-2 : tie.Need-put-item-requires-2
 put-item-requires-2 c κs =
     let s = c .before .before .before .before .before .before in
     let w = c .before .before .before .put-item .ensures in
-    omega (arith, s .pre, count-length (s .args .a) (s .args .b), w .place, put-long w)
+    omega (arith, s .pre, item-long (s .args .a) false, item-long (s .args .b) true, w .place, put-long w)
 
 -- src/text.rt:79:1
 same-length : tie.Need-same-length

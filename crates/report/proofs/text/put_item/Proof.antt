@@ -49,8 +49,8 @@ returns : tie.Need-returns
 returns c =
     let s = c .before .before .before .before .before .before in
     let a = s .args in
-    let w = c .before .before .before .put-number .ensures in
-    put-same (put-join w (put-one _ (c .before .before .before .put-number .result) (c .ending-of .result))) (ap (λ (x : ℕ). decimal (a .n) ++ (x ∷ [])) (c .ending-of .ensures))
+    let p = c .before .before .before .put-number in
+    put-same (put-join (p .ensures) (put-one _ (p .result) (c .ending-of .result) (omega (arith, s .pre, length-append (decimal (a .n)) (ending (a .last) ∷ []), p .ensures .place, put-long (p .ensures))))) (ap (λ (x : ℕ). decimal (a .n) ++ (x ∷ [])) (c .ending-of .ensures))
 
 pub put-item-spec : {M : Type 1} → statement M
 put-item-spec =

@@ -1,12 +1,13 @@
 use mathlib.Core.Path.{_≡_, refl, sym, ap, ap₂, subst, _∙_}
 use mathlib.Core.List.{List, [], _∷_, _++_}
-use Prim.Native.Nat.{ℕ, _+_, _-_, _<_, _≤_}
+use Prim.Native.Nat.{ℕ, _+_, _-_, _*_, _<_, _≤_}
 use native.Mathlib.Omega.{arith}
-use lib.ListN.{length, take, length-set}
+use lib.Dec.{eqb}
+use lib.ListN.{length, take, set, length-set}
 use lib.Seq.{length-take-le, getD-take}
 use Rattle.model.specs.Program.{line, newline}
 use Rattle.report.specs.Text.{Put}
-use Rattle.report.proofs.Placed.{put-one, LineTo, line-begun, line-room, line-more, line-end}
+use Rattle.report.proofs.Placed.{put-one, item-short, LineTo, line-begun, line-more, line-end}
 use borrow.Author.Needs.{needs}
 use Rattle.report.proofs.text.put_line.Statement.{statement}
 use Rattle.report.proofs.text.put_line.Tie as tie
@@ -16,24 +17,18 @@ use Rattle.report.proofs.text.put_item.Reads as put-item-reads
 use Rattle.report.proofs.text.wide.Reads as wide-reads
 
 abbrev Inv-loop : tie.InvT-loop
-Inv-loop list n out₀ at i₀ p₀ out i p = (i ≤ n) × LineTo (take n list) out₀ at out i p
+Inv-loop list n out₀ at i₀ p₀ out i p = (i ≤ n) × (p ≤ at + 6 * i) × LineTo (take n list) out₀ at out i p
 
 abbrev μ-loop : tie.MeasureT-loop
 μ-loop list n out₀ at i₀ p₀ out i p = n - i
 
 -- src/text.rt:108:9
 slice-write-out : tie.Need-slice-write-out Inv-loop μ-loop
-slice-write-out c =
-    let s = c .before .before in
-    let e : s .args .n ≡ 0 = c .if1 .taken in
-    omega (arith, s .pre .2, ap (λ (k : ℕ). length (line (take k (s .args .list .now)))) e)
+slice-write-out c = omega (arith, c .before .before .pre .2)
 
 -- src/text.rt:109:16
 add-result : tie.Need-add-result Inv-loop μ-loop
-add-result c =
-    let s = c .before .before in
-    let e : s .args .n ≡ 0 = c .if1 .taken in
-    omega (arith, s .pre .2, ap (λ (k : ℕ). length (line (take k (s .args .list .now)))) e)
+add-result c = omega (arith, c .before .before .pre .2)
 
 -- src/text.rt:109:9
 same-length : tie.Need-same-length Inv-loop μ-loop
@@ -44,7 +39,7 @@ returns : tie.Need-returns Inv-loop μ-loop
 returns c =
     let s = c .before .before in
     let e : s .args .n ≡ 0 = c .if1 .taken in
-    subst (λ (k : ℕ). Put (s .args .out .now) _ (s .args .at) (line (take k (s .args .list .now))) (s .args .at + 1)) (sym e) (put-one (s .args .out .now) (s .args .at) newline)
+    subst (λ (k : ℕ). Put (s .args .out .now) (set (s .args .out .now) (s .args .at) newline) (s .args .at) (line (take k (s .args .list .now))) (s .args .at + 1)) (sym e) (put-one (s .args .out .now) (s .args .at) newline (omega (arith, s .pre .2)))
 
 -- src/text.rt:113:5
 loop-holds : tie.Need-loop-holds Inv-loop μ-loop
@@ -52,7 +47,7 @@ loop-holds c =
     let s = c .before .before in
     let a = s .args in
     let l = length-take-le (a .n) (a .list .now) (omega (arith, s .pre .0, s .pre .1)) in
-    (omega arith, line-begun (take (a .n) (a .list .now)) (a .out .now) (a .at) (omega (arith, l, c .if1 .left)))
+    (omega arith, omega arith, line-begun (take (a .n) (a .list .now)) (a .out .now) (a .at) (omega (arith, l, c .if1 .left)))
 
 -- src/text.rt:114:27
 mul-wide : tie.Need-mul-wide Inv-loop μ-loop
@@ -74,11 +69,8 @@ add-put-item c = search needs
 put-item-requires : tie.Need-put-item-requires Inv-loop μ-loop
 put-item-requires c κs =
     let s = c .before .before .before .before .before .before .before in
-    let a = s .args in
     let i = c .before .before .before .before .loop in
-    let l = length-take-le (a .n) (a .list .now) (omega (arith, s .pre .0, s .pre .1)) in
-    let h = c .before .before .before .loop-test .taken in
-    line-room (take (a .n) (a .list .now)) (a .out .now) (a .at) (i .out) (i .i) (i .p) (i .inv .1) (a .n) _ _ l h (c .before .wide .ensures ∙ sym (getD-take (a .n) (a .list .now) (i .i) 0 h)) refl (s .pre .2)
+    omega (arith, s .pre .2, i .inv .1, i .inv .2 .kept, c .before .before .before .loop-test .taken, item-short (c .before .wide .result) (eqb (i .i + 1) (s .args .n)) (c .before .wide .ensures .1))
 
 -- src/text.rt:115:9
 add-i : tie.Need-add-i Inv-loop μ-loop
@@ -96,11 +88,16 @@ loop-again c =
     let i = c .before .before .before .before .before .before .before .loop in
     let l = length-take-le (a .n) (a .list .now) (omega (arith, s .pre .0, s .pre .1)) in
     let h = c .before .before .before .before .before .before .loop-test .taken in
-    (omega arith, line-more (take (a .n) (a .list .now)) (a .out .now) (a .at) (i .out) (i .i) (i .p) (i .inv .1) (a .n) _ _ l h (c .before .before .before .before .wide .ensures ∙ sym (getD-take (a .n) (a .list .now) (i .i) 0 h)) refl (c .before .before .put-item .ensures))
+    let x = c .before .before .before .before .wide in
+    let w = c .before .before .put-item .ensures in (
+      omega arith,
+      omega (arith, i .inv .1, w .place, item-short (x .result) (eqb (i .i + 1) (a .n)) (x .ensures .1)),
+      line-more (take (a .n) (a .list .now)) (a .out .now) (a .at) (i .out) (i .i) (i .p) (i .inv .2) (a .n) _ _ l h (x .ensures .0 ∙ sym (getD-take (a .n) (a .list .now) (i .i) 0 h)) refl w,
+    )
 
 -- src/text.rt:103:1
 same-length-2 : tie.Need-same-length-2 Inv-loop μ-loop
-same-length-2 c = c .before .loop .inv .1 .kept
+same-length-2 c = c .before .loop .inv .2 .kept
 
 -- src/text.rt:103:1
 returns-2 : tie.Need-returns-2 Inv-loop μ-loop
@@ -109,7 +106,7 @@ returns-2 c =
     let a = s .args in
     let i = c .before .loop in
     let l = length-take-le (a .n) (a .list .now) (omega (arith, s .pre .0, s .pre .1)) in
-    line-end (take (a .n) (a .list .now)) (a .out .now) (a .at) (i .out) (i .i) (i .p) (i .inv .1) (omega (arith, l, c .loop-test .left))
+    line-end (take (a .n) (a .list .now)) (a .out .now) (a .at) (i .out) (i .i) (i .p) (i .inv .2) (omega (arith, l, c .loop-test .left)) (omega (arith, s .pre .2, i .inv .1, i .inv .0))
 
 pub put-line-spec : {M : Type 1} → statement M
 put-line-spec =

@@ -49,10 +49,7 @@ add-put-count c = search needs
 
 -- src/text.rt:94:5
 put-count-requires : tie.Need-put-count-requires
-put-count-requires c κs =
-    let s = c .before .before .before .before in
-    let e = ap₂ (λ (n p : ℕ). length (line (n ∷ p ∷ []))) (c .before .before .number-of .ensures) (c .before .place-of .ensures) in
-    simp length-set (omega (arith, s .pre, e))
+put-count-requires c κs = simp length-set (omega (arith, c .before .before .before .before .pre))
 
 -- src/text.rt:88:1
 same-length : tie.Need-same-length

@@ -65,6 +65,7 @@ returns c =
     record {
       written = sym (i .inv .3 ∙ ap (λ (l : List ℕ). sets (i .out) (i .p) l) (ap (λ (k : ℕ). drop k (a .text .now)) e ∙ drop-length (a .text .now)));
       place = omega (arith, length-drop (a .from) (a .text .now), p .0);
+      within = omega (arith, length-drop (a .from) (a .text .now), p .0);
     }
 
 pub put-rest-spec : {M : Type 1} → statement M
