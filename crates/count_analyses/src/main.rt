@@ -18,7 +18,7 @@ use recognizer::rules::compile;
 use report::Page;
 use report::fill;
 
-// How many of a file's bytes stand in a buffer, and whether the length of the whole file is even. A file that cannot be opened or read counts as empty.
+// How many of a file's bytes stand in a buffer, and whether the length of the whole file is even.
 struct Loaded {
     bytes: usize,
     even: bool,
@@ -31,6 +31,14 @@ enum Piece {
     Failed,
 }
 
+// Whether a file's length is even; or that the file cannot be read to its end.
+enum Parity {
+    Even,
+    Odd,
+    Unknown,
+}
+
+// Reads once.
 fn read_piece(fd: i32) -> Piece {
     let mut space = io::large_buffer();
     let got = libc::read(fd, &mut space);
@@ -44,69 +52,77 @@ fn read_piece(fd: i32) -> Piece {
     Piece::Bytes(n)
 }
 
-fn is_even(n: usize) -> bool {
-    n % 2 == 0
-}
-
-// What is left of a file: a number that is even exactly when the file has an even number of bytes left; or that it cannot be read.
-fn read_rest(fd: i32) -> Piece {
-    let mut n: usize = 0;
+// The parity of a file of which n bytes are read: reads on to its end. The loop counts its turns down from a number that no run uses up.
+fn read_rest(fd: i32, n: usize) -> Parity {
+    let mut odd = n % 2;
     let mut turns = u64::MAX;
     while 0 < turns {
         let piece = read_piece(fd);
         match piece {
             Piece::Bytes(more) => {
-                n = (n + more % 2) % 2;
+                odd = (odd + more % 2) % 2;
             }
             Piece::End => {
-                return Piece::Bytes(n);
+                return if odd == 0 { Parity::Even } else { Parity::Odd };
             }
             Piece::Failed => {
-                return Piece::Failed;
+                return Parity::Unknown;
             }
         }
         turns -= 1;
     }
-    Piece::Failed
+    Parity::Unknown
 }
 
-// Reads as much of an open file as the buffer holds, and then to its end.
-fn load_open(fd: i32, buf: &mut [u8]) -> Loaded
+// The sentence file: as much of it as the buffer holds, and its parity. A file that cannot be opened or read counts as empty.
+fn load_sentence(buf: &mut [u8]) -> Loaded
     ensures { λ r. ⌜ Counts (r .bytes) (now (buf .exit)) ⌝ }
 {
-    let n = io::read_full(fd, buf);
-    let rest = read_rest(fd);
-    match rest {
-        Piece::Bytes(more) => Loaded {
-            bytes: n,
-            even: is_even(n % 2 + more % 2),
-        },
-        Piece::End => Loaded {
-            bytes: n,
-            even: is_even(n),
-        },
-        Piece::Failed => Loaded {
-            bytes: 0,
-            even: true,
-        },
-    }
-}
-
-fn load(path: &[u8], buf: &mut [u8]) -> Loaded
-    ensures { λ r. ⌜ Counts (r .bytes) (now (buf .exit)) ⌝ }
-{
-    let fd = os::open_read(path);
+    let fd = os::open_read(b"sentence");
     if fd < 0 {
         return Loaded {
             bytes: 0,
             even: true,
         };
     }
-    let loaded = load_open(fd, buf);
+    let n = io::read_full(fd, buf);
+    let parity = read_rest(fd, n);
     libc::close(fd);
-    loaded
+    match parity {
+        Parity::Even => Loaded {
+            bytes: n,
+            even: true,
+        },
+        Parity::Odd => Loaded {
+            bytes: n,
+            even: false,
+        },
+        Parity::Unknown => Loaded {
+            bytes: 0,
+            even: true,
+        },
+    }
 }
 
+// The grammar file, or as much of it as the buffer holds: how many bytes. A file that cannot be opened or read counts as empty.
+fn load_grammar(buf: &mut [u8]) -> usize
+    ensures { λ n. ⌜ Counts n (now (buf .exit)) ⌝ }
+{
+    let fd = os::open_read(b"grammar");
+    if fd < 0 {
+        return 0;
+    }
+    let n = io::read_full(fd, buf);
+    let piece = read_piece(fd);
+    libc::close(fd);
+    match piece {
+        Piece::Bytes(_) => n,
+        Piece::End => n,
+        Piece::Failed => 0,
+    }
+}
+
+// Prints the line of a refusal.
 fn print_refusal(r: Refusal) {
     let mut out = [0u8; 64];
     let n = report::put_refusal(r, &mut out, 0);
@@ -173,6 +189,7 @@ fn print_listing(file: &[u8], sentence: &[u16], n: usize, count: u64, effort: u6
     }
 }
 
+// Prints what the program answers for what it read of its files.
 fn print_all(file: &[u8], sentence: &[u16], n: u8, even: bool) {
     let v = report::program_verdict(file, sentence, n as u64, even);
     match v {
@@ -189,9 +206,8 @@ fn main() {
     let mut file = [0u8; 7169];
     let mut bytes = [0u8; 195];
     let mut words = [0u16; 97];
-    let g = load(b"grammar", &mut file);
-    let s = load(b"sentence", &mut bytes);
-    let m = g.bytes;
+    let m = load_grammar(&mut file);
+    let s = load_sentence(&mut bytes);
     let b = s.bytes;
     let k = report::read_words(&bytes[0..b], &mut words);
     print_all(

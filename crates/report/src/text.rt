@@ -89,14 +89,11 @@ pub fn put_refusal(r: Refusal, out: &mut [u8], at: usize) -> usize
     requires { ⌜ at + 44 ≤ length (now out) ⌝ }
     ensures { λ q. ⌜ Put (now (out .entry)) (now (out .exit)) at (printed (some r) []) q ⌝ }
 {
+    let number = model::number_of(r) as u64;
+    let place = model::place_of(r) as u64;
     out[at] = b'R';
     out[at + 1] = b' ';
-    put_count(
-        model::number_of(r) as u64,
-        model::place_of(r) as u64,
-        out,
-        at + 2,
-    )
+    put_count(number, place, out, at + 2)
 }
 
 // Writes the first n numbers of a list as a line, at most six bytes a number.
