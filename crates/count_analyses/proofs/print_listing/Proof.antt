@@ -1,0 +1,117 @@
+use mathlib.Core.Path.{_≡_, refl}
+use Prim.Native.Nat.{_≤_}
+use native.Mathlib.Omega.{arith}
+use lib.ListN.{length}
+use Rattle.report.specs.Page.{Lists}
+use Rattle.report.proofs.Pages.{lists-again}
+use borrow.Author.Needs.{needs}
+use Rattle.count_analyses.proofs.print_listing.Statement.{statement}
+use Rattle.count_analyses.proofs.print_listing.Tie as tie
+use Rattle.count_analyses.proofs.print_listing.Reads as reads
+use Rattle.count_analyses.proofs.print_listing.Lts as lts
+use Rattle.analyses.proofs.chain_rules.Reads as chain-rules-reads
+use Rattle.count_analyses.proofs.print_page.Reads as print-page-reads
+use Rattle.io.proofs.large_buffer.Reads as large-buffer-reads
+use Rattle.recognizer.proofs.rules.compile.Reads as compile-reads
+use Rattle.report.proofs.put_count.Reads as put-count-reads
+
+abbrev Inv-loop : tie.InvT-loop
+Inv-loop file sentence n count effort t chain path₀ out₀ at₀ len₀ pages₀ path out at len pages = Lists file t chain sentence n path len × (at ≤ length out)
+
+abbrev μ-loop : tie.MeasureT-loop
+μ-loop file sentence n count effort t chain path₀ out₀ at₀ len₀ pages₀ path out at len pages = pages
+
+-- src/main.rt:157:13
+compile-requires : tie.Need-compile-requires Inv-loop μ-loop
+compile-requires c κs = search needs
+
+-- src/main.rt:158:17
+chain-rules-requires : tie.Need-chain-rules-requires Inv-loop μ-loop
+chain-rules-requires c κs = search needs
+
+-- src/main.rt:160:21
+large-buffer-requires : tie.Need-large-buffer-requires Inv-loop μ-loop
+large-buffer-requires c κs = search needs
+
+-- src/main.rt:161:9
+slice-aggregate-out : tie.Need-slice-aggregate-out Inv-loop μ-loop
+slice-aggregate-out c = search needs
+
+-- src/main.rt:162:9
+put-count-requires : tie.Need-put-count-requires Inv-loop μ-loop
+put-count-requires c κs = search needs
+
+-- src/main.rt:165:5
+loop-holds : tie.Need-loop-holds Inv-loop μ-loop
+loop-holds c =
+    let s = c .before .before .before .before .before .before .before .before .before .before in
+    let p = s .pre in (
+      record {
+        accepted = p .0;
+        compiled = c .before .before .before .before .before .before .before .compile .ensures (p .0);
+        chained = c .before .before .before .before .before .before .chain-rules .ensures (p .0);
+        some-nodes = p .1;
+        few-nodes = p .2;
+        affordable = p .3;
+        listed = omega arith;
+        path-long = refl;
+      },
+      c .before .before .put-count .ensures .within,
+    )
+
+-- src/main.rt:166:13
+print-page-requires : tie.Need-print-page-requires Inv-loop μ-loop
+print-page-requires c κs = c .before .before .before .before .before .loop .inv
+
+-- src/main.rt:167:25
+enum-known-next : tie.Need-enum-known-next Inv-loop μ-loop
+enum-known-next c = search needs
+
+-- src/main.rt:168:13
+enum-told : tie.Need-enum-told Inv-loop μ-loop
+enum-told c = search needs
+
+-- src/main.rt:168:13
+returns : tie.Need-returns Inv-loop μ-loop
+returns c = search needs
+
+-- src/main.rt:172:9
+sub-pages : tie.Need-sub-pages Inv-loop μ-loop
+sub-pages c = search needs
+
+-- src/main.rt:165:5
+loop-less : tie.Need-loop-less Inv-loop μ-loop
+loop-less c = search needs
+
+-- src/main.rt:165:5
+loop-again : tie.Need-loop-again Inv-loop μ-loop
+loop-again c =
+    let i = c .before .before .before .before .before .before .before .before .before .before .before .loop in
+    let l = c .before .before .before .before .before .print-page in
+    let w = rw (c .before .next .given .1) at (l .ensures) in
+    (lists-again (i .inv .0) _ _ (w .0) (w .1), omega arith)
+
+-- src/main.rt:154:1
+returns-2 : tie.Need-returns-2 Inv-loop μ-loop
+returns-2 c = search needs
+
+pub print-listing-spec : {M : Type 1} → statement M
+print-listing-spec =
+    tie.close
+    (tie.spec
+    Inv-loop
+    μ-loop
+    compile-requires
+    chain-rules-requires
+    large-buffer-requires
+    slice-aggregate-out
+    put-count-requires
+    loop-holds
+    print-page-requires
+    enum-known-next
+    enum-told
+    returns
+    sub-pages
+    loop-less
+    loop-again
+    returns-2)

@@ -1,0 +1,5 @@
+pub mod Digits
+pub mod Placed
+pub mod Pairs
+pub mod Whole
+pub mod Pages

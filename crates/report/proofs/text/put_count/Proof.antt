@@ -1,0 +1,37 @@
+use mathlib.Core.Bool.{true, false}
+use Rattle.report.proofs.Placed.{item-long}
+use mathlib.Core.Path.{_≡_, refl, sym, ap, _∙_}
+use native.Mathlib.Omega.{arith}
+use Rattle.report.proofs.Placed.{put-long, put-join, put-same, count-line}
+use borrow.Author.Needs.{needs}
+use Rattle.report.proofs.text.put_count.Statement.{statement}
+use Rattle.report.proofs.text.put_count.Tie as tie
+use Rattle.report.proofs.text.put_count.Reads as reads
+use Rattle.report.proofs.text.put_count.Lts as lts
+use Rattle.report.proofs.text.put_item.Reads as put-item-reads
+
+-- src/text.rt:83:9
+put-item-requires : tie.Need-put-item-requires
+put-item-requires c κs =
+    let s = c .before .before in
+    omega (arith, s .pre, item-long (s .args .a) false)
+
+-- src/text.rt:84:5
+put-item-requires-2 : tie.Need-put-item-requires-2
+put-item-requires-2 c κs =
+    let s = c .before .before .before .before .before .before in
+    let w = c .before .before .before .put-item .ensures in
+    omega (arith, s .pre, item-long (s .args .a) false, item-long (s .args .b) true, w .place, put-long w)
+
+-- src/text.rt:79:1
+same-length : tie.Need-same-length
+same-length c = search needs
+
+-- src/text.rt:79:1
+returns : tie.Need-returns
+returns c =
+    let a = c .before .before .before .before .before .before .before .before .before .args in
+    put-same (put-join (c .before .before .before .before .before .before .put-item .ensures) (c .before .before .put-item2 .ensures)) (count-line (a .a) (a .b))
+
+pub put-count-spec : {M : Type 1} → statement M
+put-count-spec = tie.close (tie.spec put-item-requires put-item-requires-2 same-length returns)

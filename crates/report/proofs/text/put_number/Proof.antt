@@ -1,0 +1,30 @@
+use Rattle.report.proofs.Placed.{put-same}
+use borrow.Author.Needs.{needs}
+use Rattle.report.proofs.text.put_number.Statement.{statement}
+use Rattle.report.proofs.text.put_number.Tie as tie
+use Rattle.report.proofs.text.put_number.Reads as reads
+use Rattle.report.proofs.text.put_number.Lts as lts
+use Rattle.report.proofs.text.put_rest.Reads as put-rest-reads
+use Rattle.report.proofs.text.spell.Reads as spell-reads
+
+-- src/text.rt:57:9
+spell-requires : tie.Need-spell-requires
+spell-requires c κs = search needs
+
+-- src/text.rt:58:5
+put-rest-requires : tie.Need-put-rest-requires
+put-rest-requires c κs =
+    let s = c .before .before .spell in
+    let p = c .before .before .before .before .before .pre in
+    (s .ensures .1, s .ensures .0, rw (s .ensures .2) p)
+
+-- src/text.rt:52:1
+same-length : tie.Need-same-length
+same-length c = search needs
+
+-- src/text.rt:52:1
+returns : tie.Need-returns
+returns c = put-same (c .before .before .put-rest .ensures) (c .before .before .before .before .before .spell .ensures .2)
+
+pub put-number-spec : {M : Type 1} → statement M
+put-number-spec = tie.close (tie.spec spell-requires put-rest-requires same-length returns)

@@ -1,0 +1,30 @@
+// What the program reads out of the first bytes of the sentence file.
+ghost use mathlib.Core.Path.{_≡_};
+ghost use Prim.Native.Nat.{_≤_};
+ghost use lib.ListN.{length, take};
+ghost use Rattle.model.specs.Program.{limitIn, sentenceIn};
+use grammar::byte;
+use grammar::two_bytes;
+
+// N, the file's first byte; 0 in an empty file.
+pub fn read_limit(bytes: &[u8]) -> u8
+    ensures { λ n. ⌜ n ≡ limitIn (now (bytes .entry)) ⌝ }
+{
+    byte(bytes, 0)
+}
+
+// Writes the sentence's words, or the first 97 of them, at the front of `words`, and answers how many they are.
+pub fn read_words(bytes: &[u8], words: &mut [u16; 97]) -> usize
+    requires { ⌜ length (now words) ≡ 97 ⌝ }
+    ensures { λ k. ⌜ (k ≤ 97) × (length (now (words .exit)) ≡ 97) × (take k (now (words .exit)) ≡ take 97 (sentenceIn (now (bytes .entry)))) ⌝ }
+{
+    let mut k: usize = 0;
+    while k < 97 {
+        if bytes.len() <= 2 * k + 2 {
+            return k;
+        }
+        words[k] = two_bytes(bytes, 2 * k + 1);
+        k += 1;
+    }
+    k
+}
