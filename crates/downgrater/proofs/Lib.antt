@@ -1,1 +1,3 @@
 pub mod Unpacking
+pub mod Ranges
+pub mod Answers

@@ -1,12 +1,12 @@
 -- A packed verdict says what the verdict says: nothing is lost on the way to C.
 -- Assumes nothing.
-use mathlib.Core.Path.{_≡_, refl, ap, ap₂, _∙_}
+use mathlib.Core.Path.{_≡_, ap, _∙_}
 use mathlib.Core.Bool.{Bool, true, false}
-use mathlib.Core.List.{List, [], _∷_}
-use Prim.Native.Nat.{ℕ, _+_, _*_, _/_, _%_, _<_, _≤_}
+use mathlib.Core.List.{[], _∷_}
+use Prim.Native.Nat.{ℕ, _+_, _*_, _/_, _%_, _<_}
 use native.Mathlib.Omega.{arith}
 use borrow.Author.Tests.{lt-ltb, le-ltb}
-use lib.Dec.{ltb, eqb}
+use lib.Dec.{ltb}
 use Rattle.model.specs.declared.Refusal.{Refusal}
 use Rattle.model.specs.declared.Refusal.the-variants.{Grammar, Analysis, Desk}
 use Rattle.model.specs.declared.Verdict.{Verdict}
@@ -14,8 +14,8 @@ use Rattle.model.specs.declared.Verdict.the-variants.{Accepted, Refused}
 use Rattle.model.specs.declared.CountVerdict.{CountVerdict}
 use Rattle.model.specs.declared.CountVerdict.the-variants.{Counted, NotCounted}
 use Rattle.model.specs.Base.{if_then_else_}
-use Rattle.model.specs.Verdict.{Author, grammarAuthor, analysisAuthor, desk, author, number, place, Answer, values, refusal, refusalAnswer, verdictAnswer, countAnswer}
-use Rattle.downgrater.specs.Packing.{authorCode, packedRefusal, packedVerdict, packedCount, authorOf, unpackedRefusal, unpackedVerdict, unpackedCount, Fits, VerdictFits, CountFits}
+use Rattle.model.specs.Verdict.{author, number, place, Answer, values, refusal, refusalAnswer, verdictAnswer, countAnswer}
+use Rattle.downgrater.specs.Packing.{authorCode, packedRefusal, packedVerdict, packedCount, authorOf, unpackedRefusal, unpackedVerdict, unpackedCount, Fits, VerdictFits, CountFits, Says, SaysCount}
 
 abbrev packed : ℕ → ℕ → ℕ → ℕ
 packed w n p = 9223372036854775808 + 1099511627776 * w + 4294967296 * n + p
@@ -40,7 +40,7 @@ by-refusal : (r : Refusal) (a : Answer) → Fits r → (if ltb (packedRefusal r)
 by-refusal r a f = ap (λ (b : Bool). if b then a else unpackedRefusal (packedRefusal r)) (above (authorCode (author r)) (number r) (place r)) ∙ refusal-back r f
 
 pub verdict-back : (v : Verdict) → VerdictFits v → unpackedVerdict (packedVerdict v) ≡ verdictAnswer v
-verdict-back (Accepted n) f = rw (lt-ltb n 9223372036854775808 f)
+verdict-back (Accepted n) f = rw (lt-ltb n 9223372036854775808 (omega (arith, f)))
 verdict-back (Refused r) f = by-refusal r (values (packedRefusal r ∷ [])) f
 
 pub count-back : (v : CountVerdict) → CountFits v → unpackedCount (packedCount v) ≡ countAnswer v
@@ -51,3 +51,10 @@ count-back (Counted c e) f =
     let second : (c + 1073741824 * e) / 1073741824 ≡ e = omega (arith, f .0) in
     rw low (λ i. values (first i ∷ second i ∷ []))
 count-back (NotCounted r) f = by-refusal r (values (packedRefusal r % 1073741824 ∷ packedRefusal r / 1073741824 ∷ [])) f
+
+-- what a number says is what C reads from its bits
+pub says-back : (v : Verdict) (x : ℕ) → Says v x → unpackedVerdict x ≡ verdictAnswer v
+says-back v x s = ap unpackedVerdict (s .packed) ∙ verdict-back v (s .fits)
+
+pub says-count-back : (v : CountVerdict) (x : ℕ) → SaysCount v x → unpackedCount x ≡ countAnswer v
+says-count-back v x s = ap unpackedCount (s .packed) ∙ count-back v (s .fits)

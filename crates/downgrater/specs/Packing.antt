@@ -1,9 +1,9 @@
 -- A verdict as one 64-bit number, for C: bit 63 tells a refusal; of a refusal bits 40-47 are whose it is, bits 32-39 its number, bits 0-31 its place; of
 -- a count bits 0-29 are the count and bits 30-59 the effort.
 -- Assumes nothing.
+use mathlib.Core.Path.{_≡_}
 use Prim.Native.Nat.{ℕ, _+_, _*_, _/_, _%_, _<_}
-use mathlib.Core.Bool.{Bool, true, false}
-use mathlib.Core.List.{List, [], _∷_}
+use mathlib.Core.List.{[], _∷_}
 use lib.Dec.{ltb, eqb}
 use Rattle.model.specs.declared.Refusal.{Refusal}
 use Rattle.model.specs.declared.Verdict.{Verdict}
@@ -48,12 +48,29 @@ pub record Fits (r : Refusal) : Type 0 where
   pub number-fits : number r < 256
   pub place-fits : place r < 65536
 
--- an accepted value below 2^63, and a refusal whose number has 8 bits and whose place has 16, come back
+-- an accepted value has 32 bits; count and effort have 30 each
+abbrev pub ValueFits : Verdict → Type 0
+ValueFits (Accepted n) = n < 4294967296
+ValueFits (Refused r) = Unit {0}
+
+abbrev pub CountsFit : CountVerdict → Type 0
+CountsFit (Counted count effort) = (count < 1073741824) × (effort < 1073741824)
+CountsFit (NotCounted r) = Unit {0}
+
+-- every field of the answer fits its bits, so that it comes back
 abbrev pub VerdictFits : Verdict → Type 0
-VerdictFits (Accepted n) = n < 9223372036854775808
+VerdictFits (Accepted n) = n < 4294967296
 VerdictFits (Refused r) = Fits r
 
--- count and effort below 2^30 come back
 abbrev pub CountFits : CountVerdict → Type 0
 CountFits (Counted count effort) = (count < 1073741824) × (effort < 1073741824)
 CountFits (NotCounted r) = Fits r
+
+-- the number x says the verdict v: it is v packed, and every field of v fits its bits
+pub record Says (v : Verdict) (x : ℕ) : Type 0 where
+  pub packed : x ≡ packedVerdict v
+  pub fits : VerdictFits v
+
+pub record SaysCount (v : CountVerdict) (x : ℕ) : Type 0 where
+  pub packed : x ≡ packedCount v
+  pub fits : CountFits v

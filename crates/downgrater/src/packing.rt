@@ -1,13 +1,13 @@
 // A verdict as one 64-bit number.
 ghost use mathlib.Core.Path.{_≡_};
-ghost use Prim.Native.Nat.{_<_};
-ghost use Rattle.downgrater.specs.Packing.{packedRefusal, packedVerdict, packedCount, CountFits};
+ghost use Rattle.downgrater.specs.Packing.{packedRefusal, Fits, ValueFits, CountsFit, Says, SaysCount};
 use model::CountVerdict;
 use model::Refusal;
 use model::Verdict;
 
+// A refusal: bit 63, whose it is, its number and its place.
 fn refusal_bits(r: Refusal) -> u64
-    ensures { λ x. ⌜ x ≡ packedRefusal r ⌝ }
+    ensures { λ x. ⌜ (x ≡ packedRefusal r) × Fits r ⌝ }
 {
     match r {
         Refusal::Grammar(n, p) => 9223372036854775808 + 4294967296 * (n as u64) + p as u64,
@@ -20,8 +20,10 @@ fn refusal_bits(r: Refusal) -> u64
     }
 }
 
+// A verdict: its value, or its refusal.
 pub fn verdict_bits(v: Verdict) -> u64
-    ensures { λ x. ⌜ x ≡ packedVerdict v ⌝ }
+    requires { ⌜ ValueFits v ⌝ }
+    ensures { λ x. ⌜ Says v x ⌝ }
 {
     match v {
         Verdict::Accepted(n) => n,
@@ -29,9 +31,10 @@ pub fn verdict_bits(v: Verdict) -> u64
     }
 }
 
+// The count's verdict: count and effort, or its refusal.
 pub fn count_bits(v: CountVerdict) -> u64
-    requires { ⌜ CountFits v ⌝ }
-    ensures { λ x. ⌜ x ≡ packedCount v ⌝ }
+    requires { ⌜ CountsFit v ⌝ }
+    ensures { λ x. ⌜ SaysCount v x ⌝ }
 {
     match v {
         CountVerdict::Counted(count, effort) => count + 1073741824 * effort,

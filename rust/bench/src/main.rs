@@ -26,7 +26,7 @@ struct Measured {
 
 fn main() {
     let runs = env::args().nth(1).and_then(|word| word.parse().ok()).unwrap_or(7);
-    let library = library::library();
+    let library = downgrater::library();
     if library.is_none() {
         println!("there was no libdowngrater.a when this was built: plain Rust alone");
     }

@@ -5,14 +5,12 @@ use reference::listing::traces_of_trees;
 use reference::live::live_prefixes;
 
 use crate::analyses::{self, Analysis};
-use crate::compare::{Difference, Pair};
+use crate::compare::{Difference, Done, Pair};
 use crate::damage;
 use crate::grammars::{self, Made};
 use crate::rng::Rng;
 use crate::show::show_file;
 use crate::tally::Call;
-
-type Done = Result<(), Difference>;
 
 pub fn case(pair: &mut Pair, rng: &mut Rng) -> Done {
     let made = grammars::random(rng);
@@ -122,16 +120,23 @@ fn right_analysis(pair: &mut Pair, rng: &mut Rng, made: &Made, analysis: &Analys
     pair.check_tree(&made.file, sentence, tree)?;
     pair.trace_to_tree(&made.file, sentence, trace, output(rng))?;
     pair.tree_to_trace(&made.file, sentence, tree, output(rng))?;
+    round_trip_of_trace(pair, made, analysis)?;
+    // each list taken for the other
+    pair.check_trace(&made.file, sentence, tree)?;
+    pair.check_tree(&made.file, sentence, trace)?;
+    Ok(())
+}
+
+/// The trace's tree, and the trace of that tree, is the same trace.
+fn round_trip_of_trace(pair: &mut Pair, made: &Made, Analysis { sentence, trace, .. }: &Analysis) -> Done {
+    let Some(trees) = pair.tested.trees() else { return Ok(()) };
     let (mut there, mut back) = ([0; 96], [0; 96]);
-    pair.tested.trace_to_tree(&made.file, sentence, trace, &mut there);
-    pair.tested.tree_to_trace(&made.file, sentence, &there[..trace.len()], &mut back);
+    trees.trace_to_tree(&made.file, sentence, trace, &mut there);
+    trees.tree_to_trace(&made.file, sentence, &there[..trace.len()], &mut back);
     if back[..trace.len()] != trace[..] {
         return Err(Difference { call: Call::TreeToTrace, text: format!("the trace {trace:?} comes back as another one") });
     }
     pair.tally.round_trips += 1;
-    // each list taken for the other
-    pair.check_trace(&made.file, sentence, tree)?;
-    pair.check_tree(&made.file, sentence, trace)?;
     Ok(())
 }
 

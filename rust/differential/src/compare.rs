@@ -3,12 +3,12 @@
 use std::fmt;
 
 use reference::survey::survey_is_right;
-use reference::{Answer, Calls, Heading, Reference};
+use reference::{Answer, Calls, Heading, Reference, TreeCalls};
 
 use crate::show::{show_file, show_heading};
 use crate::tally::{Call, Tally};
 
-/// Both sides, and what they met so far.
+/// Both sides, and what they met so far. A call that the tested side does not have is not compared.
 pub struct Pair<'a> {
     pub tested: &'a dyn Calls,
     pub tally: Tally,
@@ -26,7 +26,7 @@ impl fmt::Display for Difference {
     }
 }
 
-pub type Outcome = Result<Answer, Difference>;
+pub type Done = Result<(), Difference>;
 
 /// Numbers on both sides of a lent buffer that no call may touch.
 const FENCE: usize = 8;
@@ -44,13 +44,25 @@ fn first_difference<T: PartialEq + fmt::Debug>(tested: &[T], expected: &[T]) -> 
     Some(format!("buffer at {place}: {:?}, not {:?}", tested[i], expected[i]))
 }
 
+/// What both sides answer, each lent a buffer of this length, and the first place where the buffers then differ.
+fn both<S: ?Sized, T>(out: usize, salt: usize, sides: [&S; 2], call: impl Fn(&S, &mut [T]) -> Answer) -> ((Answer, Answer), Option<String>)
+where
+    T: TryFrom<usize> + Clone + PartialEq + fmt::Debug,
+{
+    let mut tested: Vec<T> = lent(out, salt);
+    let mut expected = tested.clone();
+    let to = FENCE + out;
+    let answers = (call(sides[0], &mut tested[FENCE..to]), call(sides[1], &mut expected[FENCE..to]));
+    (answers, first_difference(&tested, &expected))
+}
+
 impl Pair<'_> {
     pub fn new(tested: &dyn Calls) -> Pair<'_> {
-        Pair { tested, tally: Tally::new() }
+        Pair { tested, tally: Tally::new(tested.trees().is_some()) }
     }
 
     /// Takes both answers and the difference of the buffers into the tally, or makes a report.
-    fn settle(&mut self, call: Call, answers: (Answer, Answer), buffer: Option<String>, input: impl FnOnce() -> String) -> Outcome {
+    fn settle(&mut self, call: Call, answers: (Answer, Answer), buffer: Option<String>, input: impl FnOnce() -> String) -> Done {
         let (tested, expected) = answers;
         if tested != expected || buffer.is_some() {
             let buffer = buffer.unwrap_or_default();
@@ -58,83 +70,66 @@ impl Pair<'_> {
             return Err(Difference { call, text });
         }
         self.tally.add(call, expected);
-        Ok(expected)
+        Ok(())
     }
 
-    pub fn read_grammar(&mut self, file: &[u8]) -> Outcome {
+    pub fn read_grammar(&mut self, file: &[u8]) -> Done {
         let answers = (self.tested.read_grammar(file), Reference.read_grammar(file));
         self.settle(Call::ReadGrammar, answers, None, || show_file(file))
     }
 
-    pub fn write_grammar(&mut self, heading: &Heading, records: &[u8], out: usize) -> Outcome {
-        let mut tested: Vec<u8> = lent(out, records.len());
-        let mut expected = tested.clone();
-        let to = FENCE + out;
-        let answers = (
-            self.tested.write_grammar(heading, records, &mut tested[FENCE..to]),
-            Reference.write_grammar(heading, records, &mut expected[FENCE..to]),
-        );
+    pub fn write_grammar(&mut self, heading: &Heading, records: &[u8], out: usize) -> Done {
+        let sides: [&dyn Calls; 2] = [self.tested, &Reference];
+        let (answers, buffer) = both(out, records.len(), sides, |side, out| side.write_grammar(heading, records, out));
         let input = || format!("output of {out}\n{}", show_heading(heading, records));
-        self.settle(Call::WriteGrammar, answers, first_difference(&tested, &expected), input)
+        self.settle(Call::WriteGrammar, answers, buffer, input)
     }
 
-    pub fn check_trace(&mut self, file: &[u8], sentence: &[u16], trace: &[u16]) -> Outcome {
+    pub fn check_trace(&mut self, file: &[u8], sentence: &[u16], trace: &[u16]) -> Done {
         let answers = (self.tested.check_trace(file, sentence, trace), Reference.check_trace(file, sentence, trace));
         let input = || format!("sentence {sentence:?}\ntrace {trace:?}\n{}", show_file(file));
         self.settle(Call::CheckTrace, answers, None, input)
     }
 
-    pub fn check_tree(&mut self, file: &[u8], sentence: &[u16], tree: &[u16]) -> Outcome {
-        let answers = (self.tested.check_tree(file, sentence, tree), Reference.check_tree(file, sentence, tree));
+    pub fn check_tree(&mut self, file: &[u8], sentence: &[u16], tree: &[u16]) -> Done {
+        let Some(trees) = self.tested.trees() else { return Ok(()) };
+        let answers = (trees.check_tree(file, sentence, tree), Reference.check_tree(file, sentence, tree));
         let input = || format!("sentence {sentence:?}\ntree {tree:?}\n{}", show_file(file));
         self.settle(Call::CheckTree, answers, None, input)
     }
 
-    pub fn trace_to_tree(&mut self, file: &[u8], sentence: &[u16], trace: &[u16], out: usize) -> Outcome {
-        let mut tested: Vec<u16> = lent(out, trace.len());
-        let mut expected = tested.clone();
-        let to = FENCE + out;
-        let answers = (
-            self.tested.trace_to_tree(file, sentence, trace, &mut tested[FENCE..to]),
-            Reference.trace_to_tree(file, sentence, trace, &mut expected[FENCE..to]),
-        );
+    pub fn trace_to_tree(&mut self, file: &[u8], sentence: &[u16], trace: &[u16], out: usize) -> Done {
+        let Some(trees) = self.tested.trees() else { return Ok(()) };
+        let sides: [&dyn TreeCalls; 2] = [trees, &Reference];
+        let (answers, buffer) = both(out, trace.len(), sides, |side, out| side.trace_to_tree(file, sentence, trace, out));
         let input = || format!("output of {out}\nsentence {sentence:?}\ntrace {trace:?}\n{}", show_file(file));
-        self.settle(Call::TraceToTree, answers, first_difference(&tested, &expected), input)
+        self.settle(Call::TraceToTree, answers, buffer, input)
     }
 
-    pub fn tree_to_trace(&mut self, file: &[u8], sentence: &[u16], tree: &[u16], out: usize) -> Outcome {
-        let mut tested: Vec<u16> = lent(out, tree.len());
-        let mut expected = tested.clone();
-        let to = FENCE + out;
-        let answers = (
-            self.tested.tree_to_trace(file, sentence, tree, &mut tested[FENCE..to]),
-            Reference.tree_to_trace(file, sentence, tree, &mut expected[FENCE..to]),
-        );
+    pub fn tree_to_trace(&mut self, file: &[u8], sentence: &[u16], tree: &[u16], out: usize) -> Done {
+        let Some(trees) = self.tested.trees() else { return Ok(()) };
+        let sides: [&dyn TreeCalls; 2] = [trees, &Reference];
+        let (answers, buffer) = both(out, tree.len(), sides, |side, out| side.tree_to_trace(file, sentence, tree, out));
         let input = || format!("output of {out}\nsentence {sentence:?}\ntree {tree:?}\n{}", show_file(file));
-        self.settle(Call::TreeToTrace, answers, first_difference(&tested, &expected), input)
+        self.settle(Call::TreeToTrace, answers, buffer, input)
     }
 
-    pub fn count(&mut self, file: &[u8], sentence: &[u16], node_limit: u64, effort_limit: u64) -> Outcome {
+    pub fn count(&mut self, file: &[u8], sentence: &[u16], node_limit: u64, effort_limit: u64) -> Done {
         let answers =
             (self.tested.count(file, sentence, node_limit, effort_limit), Reference.count(file, sentence, node_limit, effort_limit));
         let input = || format!("sentence {sentence:?}\nlimits {node_limit} {effort_limit}\n{}", show_file(file));
         self.settle(Call::Count, answers, None, input)
     }
 
-    pub fn entry(&mut self, file: &[u8], sentence: &[u16], limits: (u64, u64), m: u64, out: usize) -> Outcome {
-        let mut tested: Vec<u16> = lent(out, m as usize % 1000);
-        let mut expected = tested.clone();
-        let to = FENCE + out;
-        let answers = (
-            self.tested.entry(file, sentence, limits.0, limits.1, m, &mut tested[FENCE..to]),
-            Reference.entry(file, sentence, limits.0, limits.1, m, &mut expected[FENCE..to]),
-        );
+    pub fn entry(&mut self, file: &[u8], sentence: &[u16], limits: (u64, u64), m: u64, out: usize) -> Done {
+        let sides: [&dyn Calls; 2] = [self.tested, &Reference];
+        let (answers, buffer) = both(out, m as usize % 1000, sides, |side, out| side.entry(file, sentence, limits.0, limits.1, m, out));
         let input = || format!("output of {out}\nsentence {sentence:?}\nlimits {limits:?} entry {m}\n{}", show_file(file));
-        self.settle(Call::Entry, answers, first_difference(&tested, &expected), input)
+        self.settle(Call::Entry, answers, buffer, input)
     }
 
     /// The figures are free within document 01's line; all else is compared.
-    pub fn survey(&mut self, file: &[u8], out: usize) -> Outcome {
+    pub fn survey(&mut self, file: &[u8], out: usize) -> Done {
         let mut tested: Vec<u16> = lent(out, file.len());
         let mut expected = tested.clone();
         let to = FENCE + out;

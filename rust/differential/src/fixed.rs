@@ -2,12 +2,11 @@
 
 use reference::file::BLOCK;
 use reference::live::live_prefixes;
+use reference::samples::{COPY, PAIR, SHUFFLED, SMALL};
 
-use crate::compare::{Difference, Pair};
+use crate::compare::{Done, Pair};
 use crate::damage::seal;
-use crate::grammars::{Made, TEXTS};
-
-type Done = Result<(), Difference>;
+use crate::grammars::Made;
 
 pub fn fixed(pair: &mut Pair) -> Done {
     known(pair)?;
@@ -22,11 +21,11 @@ pub fn fixed(pair: &mut Pair) -> Done {
 }
 
 fn copy() -> Made {
-    Made::of_text(TEXTS[0])
+    Made::of_text(COPY)
 }
 
 fn pair_grammar() -> Made {
-    Made::of_text(TEXTS[1])
+    Made::of_text(PAIR)
 }
 
 /// A grammar of as many rules as words, all of one category.
@@ -108,7 +107,7 @@ fn lengths_of_outputs(pair: &mut Pair) -> Done {
 
 /// Every node limit from 0 to 100, and every effort limit up to past the effort.
 fn limits(pair: &mut Pair) -> Done {
-    for text in TEXTS {
+    for text in SMALL {
         let made = Made::of_text(text);
         for sentence in [&[][..], &[0], &[0, 0], &[0, 1, 0, 1], &[0, 0, 0, 0, 0, 0]] {
             for node_limit in 0..=100 {
@@ -128,7 +127,7 @@ fn limits(pair: &mut Pair) -> Done {
 
 /// Every entry of some listings, and those past the last.
 fn entries(pair: &mut Pair) -> Done {
-    for text in TEXTS {
+    for text in SMALL {
         let made = Made::of_text(text);
         for (sentence, node_limit) in [(&[0, 0, 0, 0, 0][..], 9), (&[0, 0, 0, 0], 10), (&[0, 1, 0, 1, 0, 1], 10), (&[0], 6)] {
             let Some(live) = live_prefixes(&made.grammar, sentence, node_limit, 3_000) else { continue };
@@ -167,7 +166,7 @@ fn writer(pair: &mut Pair) -> Done {
     for length in 0..=300 {
         pair.write_grammar(&made.heading, &records[..length], 1024)?;
     }
-    for out in (0..=40).chain(480..=540).chain(990..=1060) {
+    for out in (0..=200).chain(480..=540).chain(990..=1060) {
         pair.write_grammar(&made.heading, &made.records, out)?;
     }
     for length in 0..=130 {
@@ -217,7 +216,7 @@ fn lengths_of_files(pair: &mut Pair) -> Done {
 
 /// Every byte of some files changed, with the check made right again and not, for the reader and now and then for every call.
 fn bytes_of_files(pair: &mut Pair) -> Done {
-    for made in [copy(), Made::of_text(TEXTS[6]), words(43)] {
+    for made in [copy(), Made::of_text(SHUFFLED), words(43)] {
         for i in 0..made.file.len() {
             let old = made.file[i];
             for (turn, byte) in [0, 1, 2, 3, 4, 255, old ^ 16, old.wrapping_add(1)].into_iter().enumerate() {

@@ -5,7 +5,7 @@ use std::collections::HashSet;
 use reference::file::read;
 use reference::grammar::{Grammar, EMPTY_WORD};
 use reference::notation::parts;
-use reference::samples::{COPY, CROSSING, PAIR};
+use reference::samples::SMALL;
 use reference::writer::write;
 use reference::Heading;
 
@@ -32,22 +32,9 @@ impl Made {
     }
 }
 
-/// Small grammars with several analyses, empty words, empty components and long components.
-pub const TEXTS: [&str; 8] = [
-    COPY,
-    PAIR,
-    CROSSING,
-    "S(x) <- S(x)\nS(xy) <- S(x) S(y)\nS <- 0\nS <- 1",
-    "S(xy) <- S(x) S(y)\nS <- empty\nS <- 0",
-    "S(xy) <- P(x,y)\nP(y,x) <- P(x,y)\nP(xy,) <- P(x,y)\nP(,x) <- A(x)\nP(x,) <- A(x)\nA <- 0\nA <- empty",
-    "S(wxyz) <- Q(x,w,z,y)\nS(ywxz) <- Q(x,w,z,y)\nQ(a,b,c,d) <- P(a,c) P(b,d)\nQ(ab,,c,d) <- P(c,a) P(d,b)\n\
-     P(x,y) <- A(x) A(y)\nP(,xy) <- A(x) A(y)\nA <- 0\nA <- 1",
-    "S(abcdefghijkl) <- Q(e,a,k,b) Q(c,i,f,l) Q(j,g,d,h)\nQ(x,,y,) <- A(x) A(y)\nQ(,x,,y) <- A(x) A(y)\nA <- 0\nB <- 1\nA(x) <- B(x)",
-];
-
 pub fn random(rng: &mut Rng) -> Made {
     match rng.below(20) {
-        0 => Made::of_text(rng.pick(&TEXTS)),
+        0 => Made::of_text(rng.pick(&SMALL)),
         1..=8 => sized(rng, (1, 4), (1, 10), (1, 3)),
         9..=12 => sized(rng, (2, 8), (6, 21), (1, 5)),
         13..=15 => sized(rng, (3, 10), (8, 24), (1, 2)),

@@ -31,7 +31,7 @@ fn main() -> ExitCode {
         self_test::self_test(options.seed)
     } else if options.itself {
         run(&Reference, &options)
-    } else if let Some(library) = library::library() {
+    } else if let Some(library) = downgrater::library() {
         run(library.as_ref(), &options)
     } else {
         eprintln!("differential: there was no libdowngrater.a when this was built (DOWNGRATER_LIB, or target/staticlib)");

@@ -1,6 +1,6 @@
 //! The number that each function returns, taken apart: bit 63 says refused, and every bit without a meaning is 0.
 
-use reference::{Answer, Refusal, Whose};
+use interface::{Answer, Refusal, Whose};
 
 const REFUSED: u64 = 1 << 63;
 

@@ -1,8 +1,8 @@
-//! The functions of libdowngrater as include/downgrater.h declares them, behind the calls of the reference.
+//! The functions of libdowngrater as include/downgrater.h declares them, behind safe ones.
 
 use std::ptr;
 
-use reference::{Answer, Calls, Heading};
+use interface::{Answer, Calls, Heading, TreeCalls};
 
 use crate::answer::{counted, verdict};
 
@@ -21,27 +21,6 @@ extern "C" {
         out_len: usize,
     ) -> u64;
     fn dg_check_trace(file: *const u8, file_len: usize, sentence: *const u16, words: usize, trace: *const u16, trace_len: usize) -> u64;
-    fn dg_check_tree(file: *const u8, file_len: usize, sentence: *const u16, words: usize, tree: *const u16, tree_len: usize) -> u64;
-    fn dg_trace_to_tree(
-        file: *const u8,
-        file_len: usize,
-        sentence: *const u16,
-        words: usize,
-        trace: *const u16,
-        trace_len: usize,
-        out: *mut u16,
-        out_len: usize,
-    ) -> u64;
-    fn dg_tree_to_trace(
-        file: *const u8,
-        file_len: usize,
-        sentence: *const u16,
-        words: usize,
-        tree: *const u16,
-        tree_len: usize,
-        out: *mut u16,
-        out_len: usize,
-    ) -> u64;
     fn dg_count(file: *const u8, file_len: usize, sentence: *const u16, words: usize, node_limit: u64, effort_limit: u64) -> u64;
     fn dg_entry(
         file: *const u8,
@@ -58,7 +37,7 @@ extern "C" {
 }
 
 /// The slice's pointer, null where it is empty: the functions take that too.
-fn at<T>(slice: &[T]) -> *const T {
+pub fn at<T>(slice: &[T]) -> *const T {
     if slice.is_empty() {
         ptr::null()
     } else {
@@ -66,7 +45,7 @@ fn at<T>(slice: &[T]) -> *const T {
     }
 }
 
-fn at_mut<T>(slice: &mut [T]) -> *mut T {
+pub fn at_mut<T>(slice: &mut [T]) -> *mut T {
     if slice.is_empty() {
         ptr::null_mut()
     } else {
@@ -105,22 +84,6 @@ impl Calls for Library {
         verdict(unsafe { dg_check_trace(at(file), file.len(), at(sentence), sentence.len(), at(trace), trace.len()) })
     }
 
-    fn check_tree(&self, file: &[u8], sentence: &[u16], tree: &[u16]) -> Answer {
-        verdict(unsafe { dg_check_tree(at(file), file.len(), at(sentence), sentence.len(), at(tree), tree.len()) })
-    }
-
-    fn trace_to_tree(&self, file: &[u8], sentence: &[u16], trace: &[u16], out: &mut [u16]) -> Answer {
-        verdict(unsafe {
-            dg_trace_to_tree(at(file), file.len(), at(sentence), sentence.len(), at(trace), trace.len(), at_mut(out), out.len())
-        })
-    }
-
-    fn tree_to_trace(&self, file: &[u8], sentence: &[u16], tree: &[u16], out: &mut [u16]) -> Answer {
-        verdict(unsafe {
-            dg_tree_to_trace(at(file), file.len(), at(sentence), sentence.len(), at(tree), tree.len(), at_mut(out), out.len())
-        })
-    }
-
     fn count(&self, file: &[u8], sentence: &[u16], node_limit: u64, effort_limit: u64) -> Answer {
         counted(unsafe { dg_count(at(file), file.len(), at(sentence), sentence.len(), node_limit, effort_limit) })
     }
@@ -133,5 +96,12 @@ impl Calls for Library {
 
     fn survey(&self, file: &[u8], out: &mut [u16]) -> Answer {
         verdict(unsafe { dg_survey(at(file), file.len(), at_mut(out), out.len()) })
+    }
+
+    fn trees(&self) -> Option<&dyn TreeCalls> {
+        #[cfg(downgrater_trees)]
+        return Some(self);
+        #[cfg(not(downgrater_trees))]
+        None
     }
 }

@@ -3,11 +3,14 @@
 mod answer;
 #[cfg(downgrater_library)]
 mod calls;
+#[cfg(all(downgrater_library, downgrater_trees))]
+mod trees;
 
 pub use answer::{counted, verdict};
+pub use interface::{Answer, Calls, Heading, Refusal, TreeCalls, Whose};
 
 /// The proved library, or nothing where it was not there when this crate was built.
-pub fn library() -> Option<Box<dyn reference::Calls>> {
+pub fn library() -> Option<Box<dyn Calls>> {
     #[cfg(downgrater_library)]
     return Some(Box::new(calls::Library));
     #[cfg(not(downgrater_library))]

@@ -1,7 +1,6 @@
 //! Document 01 a second time, in plain Rust and from the document alone: literal, simple and not fast. Indices are lists of digits,
 //! the queue is sorted, trees are enumerated one by one. The proved library is compared with it, call by call.
 
-pub mod calls;
 pub mod derivations;
 pub mod file;
 pub mod grammar;
@@ -18,5 +17,6 @@ pub mod trace;
 pub mod tree;
 pub mod writer;
 
-pub use calls::{Answer, Calls, Heading, Refusal, Whose};
+pub use interface as calls;
+pub use interface::{Answer, Calls, Heading, Refusal, TreeCalls, Whose};
 pub use reference::Reference;

@@ -1,6 +1,6 @@
 //! The public calls: the grammar first, then the desk's tests, then the analysis.
 
-use crate::calls::{Answer, Calls, Heading, Refusal};
+use crate::calls::{Answer, Calls, Heading, Refusal, TreeCalls};
 use crate::file::read;
 use crate::listing::{entry, listing};
 use crate::survey::least_heights;
@@ -82,18 +82,6 @@ impl Calls for Reference {
         answer(read(file).and_then(|grammar| check_trace(&grammar, sentence, trace)).map(|_| trace.len()))
     }
 
-    fn check_tree(&self, file: &[u8], sentence: &[u16], tree: &[u16]) -> Answer {
-        answer(read(file).and_then(|grammar| check_tree(&grammar, sentence, tree)).map(|_| tree.len()))
-    }
-
-    fn trace_to_tree(&self, file: &[u8], sentence: &[u16], trace: &[u16], out: &mut [u16]) -> Answer {
-        answer(self.written_tree(file, sentence, trace, out))
-    }
-
-    fn tree_to_trace(&self, file: &[u8], sentence: &[u16], tree: &[u16], out: &mut [u16]) -> Answer {
-        answer(self.written_trace(file, sentence, tree, out))
-    }
-
     fn count(&self, file: &[u8], sentence: &[u16], node_limit: u64, effort_limit: u64) -> Answer {
         match read(file).and_then(|grammar| listing(&grammar, sentence, node_limit, effort_limit)) {
             Ok(listing) => Answer::Counted { count: listing.traces.len() as u32, effort: listing.effort as u32 },
@@ -107,5 +95,23 @@ impl Calls for Reference {
 
     fn survey(&self, file: &[u8], out: &mut [u16]) -> Answer {
         answer(self.written_survey(file, out))
+    }
+
+    fn trees(&self) -> Option<&dyn TreeCalls> {
+        Some(self)
+    }
+}
+
+impl TreeCalls for Reference {
+    fn check_tree(&self, file: &[u8], sentence: &[u16], tree: &[u16]) -> Answer {
+        answer(read(file).and_then(|grammar| check_tree(&grammar, sentence, tree)).map(|_| tree.len()))
+    }
+
+    fn trace_to_tree(&self, file: &[u8], sentence: &[u16], trace: &[u16], out: &mut [u16]) -> Answer {
+        answer(self.written_tree(file, sentence, trace, out))
+    }
+
+    fn tree_to_trace(&self, file: &[u8], sentence: &[u16], tree: &[u16], out: &mut [u16]) -> Answer {
+        answer(self.written_trace(file, sentence, tree, out))
     }
 }

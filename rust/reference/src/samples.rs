@@ -1,4 +1,4 @@
-//! Grammars of document 01 and of its source (W11-0605), in writing.
+//! Grammars of document 01 and of its source (W11-0605), and other small ones, in writing.
 
 /// The copy grammar of document 01: a string over two words, twice.
 pub const COPY: &str = "
@@ -29,3 +29,53 @@ B <- 1
 C <- 2
 D <- 3
 ";
+
+/// A chain of any length above each word.
+pub const CHAIN: &str = "
+S(x) <- S(x)
+S(xy) <- S(x) S(y)
+S <- 0
+S <- 1
+";
+
+/// Empty words.
+pub const SILENT: &str = "
+S(xy) <- S(x) S(y)
+S <- empty
+S <- 0
+";
+
+/// Empty components, and components that change places.
+pub const SWAPPED: &str = "
+S(xy) <- P(x,y)
+P(y,x) <- P(x,y)
+P(xy,) <- P(x,y)
+P(,x) <- A(x)
+P(x,) <- A(x)
+A <- 0
+A <- empty
+";
+
+/// Four components, shuffled.
+pub const SHUFFLED: &str = "
+S(wxyz) <- Q(x,w,z,y)
+S(ywxz) <- Q(x,w,z,y)
+Q(a,b,c,d) <- P(a,c) P(b,d)
+Q(ab,,c,d) <- P(c,a) P(d,b)
+P(x,y) <- A(x) A(y)
+P(,xy) <- A(x) A(y)
+A <- 0
+A <- 1
+";
+
+/// Twelve variables in one component.
+pub const TWELVE: &str = "
+S(abcdefghijkl) <- Q(e,a,k,b) Q(c,i,f,l) Q(j,g,d,h)
+Q(x,,y,) <- A(x) A(y)
+Q(,x,,y) <- A(x) A(y)
+A <- 0
+A <- 1
+";
+
+/// Small grammars with several analyses, empty words, empty components and components out of order.
+pub const SMALL: [&str; 8] = [COPY, PAIR, CROSSING, CHAIN, SILENT, SWAPPED, SHUFFLED, TWELVE];

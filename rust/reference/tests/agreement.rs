@@ -4,26 +4,9 @@ use reference::file::read;
 use reference::listing::traces_of_trees;
 use reference::live::live_prefixes;
 use reference::notation::grammar_file;
-use reference::samples::{COPY, CROSSING, PAIR};
+use reference::samples::{SMALL, TWELVE};
 use reference::survey::{least_heights, survey_is_right};
-use reference::{Answer, Calls, Reference};
-
-/// Small grammars with several analyses, empty words, empty components and components out of order.
-const SMALL: [&str; 8] = [
-    COPY,
-    PAIR,
-    CROSSING,
-    // a chain of any length above each word
-    "S(x) <- S(x)\nS(xy) <- S(x) S(y)\nS <- 0\nS <- 1",
-    // empty words
-    "S(xy) <- S(x) S(y)\nS <- empty\nS <- 0",
-    // empty components, and components that change places
-    "S(xy) <- P(x,y)\nP(y,x) <- P(x,y)\nP(xy,) <- P(x,y)\nP(,x) <- A(x)\nP(x,) <- A(x)\nA <- 0\nA <- empty",
-    // four components, shuffled
-    "S(wxyz) <- Q(x,w,z,y)\nS(ywxz) <- Q(x,w,z,y)\nQ(a,b,c,d) <- P(a,c) P(b,d)\nQ(ab,,c,d) <- P(c,a) P(d,b)\nP(x,y) <- A(x) A(y)\nP(,xy) <- A(x) A(y)\nA <- 0\nA <- 1",
-    // twelve variables in one component
-    "S(abcdefghijkl) <- Q(e,a,k,b) Q(c,i,f,l) Q(j,g,d,h)\nQ(x,,y,) <- A(x) A(y)\nQ(,x,,y) <- A(x) A(y)\nA <- 0\nA <- 1",
-];
+use reference::{Answer, Calls, Reference, TreeCalls};
 
 /// All sentences over the grammar's words with at most this many words.
 fn sentences(words: usize, most: usize) -> Vec<Vec<u16>> {
@@ -66,7 +49,7 @@ fn as_many_trees_as_complete_live_prefixes() {
 
 #[test]
 fn six_words_of_twelve_variables() {
-    let grammar = read(&grammar_file(SMALL[7])).unwrap();
+    let grammar = read(&grammar_file(TWELVE)).unwrap();
     for sentence in sentences(2, 6).iter().filter(|sentence| sentence.len() == 6) {
         let live = live_prefixes(&grammar, sentence, 10, 20_000).unwrap();
         assert_eq!(traces_of_trees(&grammar, sentence, 10, 100_000).unwrap(), live.complete);

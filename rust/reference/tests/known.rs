@@ -8,7 +8,7 @@ use reference::program::{output, sentence_file};
 use reference::queue::{compare, least, Prediction};
 use reference::samples::{COPY, CROSSING, PAIR};
 use reference::trace::{step, State};
-use reference::{Answer, Calls, Reference, Refusal};
+use reference::{Answer, Calls, Reference, Refusal, TreeCalls};
 
 fn analysis(number: u8, place: usize) -> Answer {
     Answer::Refused(Refusal::analysis(number, place))

@@ -4,7 +4,7 @@ use reference::file::{check, BLOCK};
 use reference::notation::{grammar_file, parts};
 use reference::program::{output, sentence_file};
 use reference::samples::{COPY, PAIR};
-use reference::{Answer, Calls, Reference, Refusal};
+use reference::{Answer, Calls, Reference, Refusal, TreeCalls};
 
 fn grammar(number: u8, place: usize) -> Answer {
     Answer::Refused(Refusal::grammar(number, place))

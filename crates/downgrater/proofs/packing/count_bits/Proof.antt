@@ -1,5 +1,6 @@
 -- `downgrater::packing::count_bits` meets its contract.
 -- Assumes nothing.
+use mathlib.Core.Path.{refl}
 use native.Mathlib.Omega.{arith}
 use borrow.Author.Needs.{needs}
 use Rattle.downgrater.proofs.packing.count_bits.Statement.{statement}
@@ -8,33 +9,26 @@ use Rattle.downgrater.proofs.packing.count_bits.Reads as reads
 use Rattle.downgrater.proofs.packing.count_bits.Lts as lts
 use Rattle.downgrater.proofs.packing.refusal_bits.Reads as refusal-bits-reads
 
--- src/packing.rt:37:31
 enum-known-v : tie.Need-enum-known-v
 enum-known-v c = search needs
 
--- src/packing.rt:37:57
 mul-result : tie.Need-mul-result
 mul-result c = let f = rw (c .before .v .given .1) at (c .before .before .before .pre) in omega (arith, f .1)
 
--- src/packing.rt:37:49
 add-result : tie.Need-add-result
 add-result c = let f = rw (c .before .v .given .1) at (c .before .before .before .pre) in omega (arith, f .0, f .1)
 
--- src/packing.rt:38:34
 enum-known-v-2 : tie.Need-enum-known-v-2
 enum-known-v-2 c = search needs
 
--- src/packing.rt:38:40
 refusal-bits-requires : tie.Need-refusal-bits-requires
 refusal-bits-requires c κs = search needs
 
--- src/packing.rt:32:1
 returns : tie.Need-returns
-returns c = rw (c .before .v .given .1)
+returns c = let f = rw (c .before .v .given .1) at (c .before .before .before .pre) in rw (c .before .v .given .1) (record { packed = refl; fits = f })
 
--- src/packing.rt:32:1
 returns-2 : tie.Need-returns-2
-returns-2 c = rw (c .before .before .v2 .given .1) (c .refusal-bits .ensures)
+returns-2 c = rw (c .before .before .v2 .given .1) (record { packed = c .refusal-bits .ensures .0; fits = c .refusal-bits .ensures .1 })
 
 pub count-bits-spec : {M : Type 1} → statement M
 count-bits-spec =

@@ -7,97 +7,74 @@ use Rattle.downgrater.proofs.packing.refusal_bits.Tie as tie
 use Rattle.downgrater.proofs.packing.refusal_bits.Reads as reads
 use Rattle.downgrater.proofs.packing.refusal_bits.Lts as lts
 
--- src/packing.rt:13:26
 enum-known-r : tie.Need-enum-known-r
 enum-known-r c = search needs
 
--- src/packing.rt:13:71
 cast-result : tie.Need-cast-result
 cast-result c = search needs
 
--- src/packing.rt:13:57
 mul-result : tie.Need-mul-result
 mul-result c = search needs
 
--- src/packing.rt:13:35
 add-result : tie.Need-add-result
 add-result c = search needs
 
--- src/packing.rt:13:83
 cast-result-2 : tie.Need-cast-result-2
 cast-result-2 c = search needs
 
--- src/packing.rt:13:35
 add-result-2 : tie.Need-add-result-2
 add-result-2 c = search needs
 
--- src/packing.rt:14:27
 enum-known-r-2 : tie.Need-enum-known-r-2
 enum-known-r-2 c = search needs
 
--- src/packing.rt:15:13
 add-result-3 : tie.Need-add-result-3
 add-result-3 c = search needs
 
--- src/packing.rt:15:65
 cast-result-3 : tie.Need-cast-result-3
 cast-result-3 c = search needs
 
--- src/packing.rt:15:51
 mul-result-2 : tie.Need-mul-result-2
 mul-result-2 c = search needs
 
--- src/packing.rt:15:13
 add-result-4 : tie.Need-add-result-4
 add-result-4 c = search needs
 
--- src/packing.rt:15:77
 cast-result-4 : tie.Need-cast-result-4
 cast-result-4 c = search needs
 
--- src/packing.rt:15:13
 add-result-5 : tie.Need-add-result-5
 add-result-5 c = search needs
 
--- src/packing.rt:17:23
 enum-known-r-3 : tie.Need-enum-known-r-3
 enum-known-r-3 c = search needs
 
--- src/packing.rt:18:13
 add-result-6 : tie.Need-add-result-6
 add-result-6 c = search needs
 
--- src/packing.rt:18:65
 cast-result-5 : tie.Need-cast-result-5
 cast-result-5 c = search needs
 
--- src/packing.rt:18:51
 mul-result-3 : tie.Need-mul-result-3
 mul-result-3 c = search needs
 
--- src/packing.rt:18:13
 add-result-7 : tie.Need-add-result-7
 add-result-7 c = search needs
 
--- src/packing.rt:18:77
 cast-result-6 : tie.Need-cast-result-6
 cast-result-6 c = search needs
 
--- src/packing.rt:18:13
 add-result-8 : tie.Need-add-result-8
 add-result-8 c = search needs
 
--- src/packing.rt:9:1
 returns : tie.Need-returns
-returns c = rw (c .before .r .given .1) (omega arith)
+returns c = rw (c .before .r .given .1) (omega arith, record { number-fits = omega arith; place-fits = omega arith })
 
--- src/packing.rt:9:1
 returns-2 : tie.Need-returns-2
-returns-2 c = rw (c .before .r2 .given .1) (omega arith)
+returns-2 c = rw (c .before .r2 .given .1) (omega arith, record { number-fits = omega arith; place-fits = omega arith })
 
--- src/packing.rt:9:1
 returns-3 : tie.Need-returns-3
-returns-3 c = rw (c .before .r3 .given .1) (omega arith)
+returns-3 c = rw (c .before .r3 .given .1) (omega arith, record { number-fits = omega arith; place-fits = omega arith })
 
 pub refusal-bits-spec : {M : Type 1} → statement M
 refusal-bits-spec =

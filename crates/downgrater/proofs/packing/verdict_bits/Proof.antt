@@ -1,5 +1,6 @@
 -- `downgrater::packing::verdict_bits` meets its contract.
 -- Assumes nothing.
+use mathlib.Core.Path.{refl}
 use borrow.Author.Needs.{needs}
 use Rattle.downgrater.proofs.packing.verdict_bits.Statement.{statement}
 use Rattle.downgrater.proofs.packing.verdict_bits.Tie as tie
@@ -7,25 +8,20 @@ use Rattle.downgrater.proofs.packing.verdict_bits.Reads as reads
 use Rattle.downgrater.proofs.packing.verdict_bits.Lts as lts
 use Rattle.downgrater.proofs.packing.refusal_bits.Reads as refusal-bits-reads
 
--- src/packing.rt:27:27
 enum-known-v : tie.Need-enum-known-v
 enum-known-v c = search needs
 
--- src/packing.rt:28:26
 enum-known-v-2 : tie.Need-enum-known-v-2
 enum-known-v-2 c = search needs
 
--- src/packing.rt:28:32
 refusal-bits-requires : tie.Need-refusal-bits-requires
 refusal-bits-requires c κs = search needs
 
--- src/packing.rt:23:1
 returns : tie.Need-returns
-returns c = search needs
+returns c = let f = rw (c .before .v .given .1) at (c .before .before .before .pre) in rw (c .before .v .given .1) (record { packed = refl; fits = f })
 
--- src/packing.rt:23:1
 returns-2 : tie.Need-returns-2
-returns-2 c = rw (c .before .before .v2 .given .1) (c .refusal-bits .ensures)
+returns-2 c = rw (c .before .before .v2 .given .1) (record { packed = c .refusal-bits .ensures .0; fits = c .refusal-bits .ensures .1 })
 
 pub verdict-bits-spec : {M : Type 1} → statement M
 verdict-bits-spec =

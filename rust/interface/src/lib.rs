@@ -58,10 +58,16 @@ pub trait Calls {
     fn read_grammar(&self, file: &[u8]) -> Answer;
     fn write_grammar(&self, heading: &Heading, records: &[u8], out: &mut [u8]) -> Answer;
     fn check_trace(&self, file: &[u8], sentence: &[u16], trace: &[u16]) -> Answer;
-    fn check_tree(&self, file: &[u8], sentence: &[u16], tree: &[u16]) -> Answer;
-    fn trace_to_tree(&self, file: &[u8], sentence: &[u16], trace: &[u16], out: &mut [u16]) -> Answer;
-    fn tree_to_trace(&self, file: &[u8], sentence: &[u16], tree: &[u16], out: &mut [u16]) -> Answer;
     fn count(&self, file: &[u8], sentence: &[u16], node_limit: u64, effort_limit: u64) -> Answer;
     fn entry(&self, file: &[u8], sentence: &[u16], node_limit: u64, effort_limit: u64, entry: u64, out: &mut [u16]) -> Answer;
     fn survey(&self, file: &[u8], out: &mut [u16]) -> Answer;
+    /// The calls on derivation trees, where this side has them.
+    fn trees(&self) -> Option<&dyn TreeCalls>;
+}
+
+/// The public calls on derivation trees.
+pub trait TreeCalls {
+    fn check_tree(&self, file: &[u8], sentence: &[u16], tree: &[u16]) -> Answer;
+    fn trace_to_tree(&self, file: &[u8], sentence: &[u16], trace: &[u16], out: &mut [u16]) -> Answer;
+    fn tree_to_trace(&self, file: &[u8], sentence: &[u16], tree: &[u16], out: &mut [u16]) -> Answer;
 }

@@ -1,0 +1,28 @@
+-- From what a call says to what its exported form says.
+-- Assumes nothing.
+use mathlib.Core.Path.{_≡_, refl, sym, subst}
+use mathlib.Core.List.{List}
+use Prim.Native.Nat.{ℕ}
+use Rattle.model.specs.declared.Verdict.{Verdict}
+use Rattle.model.specs.declared.CountVerdict.{CountVerdict}
+use Rattle.model.specs.Calls.{SurveyOutcome}
+use Rattle.downgrater.specs.Packing.{ValueFits, CountsFit, Says, SaysCount}
+use Rattle.downgrater.specs.Exports.{surveyVerdict}
+
+-- the verdict v that is packed is the model's w
+module _ (v w : Verdict) (is : v ≡ w) where
+  pub fitting : ValueFits w → ValueFits v
+  fitting f = subst ValueFits (sym is) f
+
+  pub said : (x : ℕ) → Says v x → Says w x
+  said x s = subst (λ (u : Verdict). Says u x) is s
+
+module _ (v w : CountVerdict) (is : v ≡ w) where
+  pub fitting-count : CountsFit w → CountsFit v
+  fitting-count f = subst CountsFit (sym is) f
+
+  pub said-count : (x : ℕ) → SaysCount v x → SaysCount w x
+  said-count x s = subst (λ (u : CountVerdict). SaysCount u x) is s
+
+pub surveyed : (file out : List ℕ) (v : Verdict) (after : List ℕ) → SurveyOutcome file out v after → SurveyOutcome file out (surveyVerdict file out) after
+surveyed file out v after s = record { figures = s .figures; figures-right = s .figures-right; verdict-is = refl; output-is = s .output-is }

@@ -1,0 +1,77 @@
+// The public calls as C functions: a slice is a pointer and a length, and the answer is the verdict as one 64-bit number (include/downgrater.h).
+ghost use mathlib.Core.Path.{_≡_};
+ghost use Rattle.model.specs.Calls.{readVerdict, writeVerdict, writeOutput, checkTraceVerdict, countCall, entryVerdict, entryOutput, SurveyOutcome};
+ghost use Rattle.writer.specs.Writing.{heading};
+ghost use Rattle.downgrater.specs.Packing.{Says, SaysCount};
+ghost use Rattle.downgrater.specs.Exports.{surveyVerdict};
+use crate::packing::count_bits;
+use crate::packing::verdict_bits;
+use analyses::count;
+use analyses::entry;
+use grammar::read_grammar;
+use recognizer::check_trace;
+use survey::survey;
+use writer::write_grammar;
+
+// The reader: the number of rules.
+#[no_mangle]
+pub extern "C" fn dg_read_grammar(file: &[u8]) -> u64
+    ensures { λ x. ⌜ Says (readVerdict (now (file .entry))) x ⌝ }
+{
+    verdict_bits(read_grammar(file))
+}
+
+// The writer: the file's length, with the file at the front of the output.
+#[no_mangle]
+pub extern "C" fn dg_write_grammar(
+    categories: u8,
+    start: u8,
+    words: u16,
+    rules: u16,
+    dimensions: &[u8],
+    records: &[u8],
+    out: &mut [u8],
+) -> u64
+    ensures { λ x. ⌜ Says (writeVerdict (heading categories start words rules (now (dimensions .entry))) (now (records .entry)) (now (out .entry))) x × (now (out .exit) ≡ writeOutput (heading categories start words rules (now (dimensions .entry))) (now (records .entry)) (now (out .entry))) ⌝ }
+{
+    verdict_bits(write_grammar(categories, start, words, rules, dimensions, records, out))
+}
+
+// The trace checker: the number of steps.
+#[no_mangle]
+pub extern "C" fn dg_check_trace(file: &[u8], sentence: &[u16], trace: &[u16]) -> u64
+    ensures { λ x. ⌜ Says (checkTraceVerdict (now (file .entry)) (now (sentence .entry)) (now (trace .entry))) x ⌝ }
+{
+    verdict_bits(check_trace(file, sentence, trace))
+}
+
+// The count of analyses under a node limit: count and effort.
+#[no_mangle]
+pub extern "C" fn dg_count(file: &[u8], sentence: &[u16], n: u64, limit: u64) -> u64
+    ensures { λ x. ⌜ SaysCount (countCall (now (file .entry)) (now (sentence .entry)) n limit) x ⌝ }
+{
+    count_bits(count(file, sentence, n, limit))
+}
+
+// An entry of the listing: the number of its steps, with the trace at the front of the output.
+#[no_mangle]
+pub extern "C" fn dg_entry(
+    file: &[u8],
+    sentence: &[u16],
+    n: u64,
+    limit: u64,
+    m: u64,
+    out: &mut [u16],
+) -> u64
+    ensures { λ x. ⌜ Says (entryVerdict (now (file .entry)) (now (sentence .entry)) n limit m (now (out .entry))) x × (now (out .exit) ≡ entryOutput (now (file .entry)) (now (sentence .entry)) n limit m (now (out .entry))) ⌝ }
+{
+    verdict_bits(entry(file, sentence, n, limit, m, out))
+}
+
+// The survey: the number of categories, with a figure for each at the front of the output.
+#[no_mangle]
+pub extern "C" fn dg_survey(file: &[u8], out: &mut [u16]) -> u64
+    ensures { λ x. ⌜ Says (surveyVerdict (now (file .entry)) (now (out .entry))) x × SurveyOutcome (now (file .entry)) (now (out .entry)) (surveyVerdict (now (file .entry)) (now (out .entry))) (now (out .exit)) ⌝ }
+{
+    verdict_bits(survey(file, out))
+}

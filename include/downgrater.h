@@ -1,0 +1,79 @@
+/* The C interface of libdowngrater (target/staticlib/libdowngrater.a, written by `rt staticlib downgrater`).
+ *
+ * A slice is a pointer and then a length in elements; where the length is 0 the pointer may be null. Every function asks for valid pointers, for an output
+ * that overlaps no input, and for nothing else: it refuses instead of failing, and a refused call changes no buffer. An output keeps what it held past the
+ * last entry written. The functions keep no state and may be called from several threads; they need less than 256 KB of stack.
+ *
+ * Every function returns one number:
+ *
+ *     bits      accepted      refused
+ *     63        0             1
+ *     40-47                   whose it is: 0 the grammar's author, 1 the analysis's, 2 the desk
+ *     32-39                   number
+ *     0-31      the value     place
+ *
+ * The value of the count is two: bits 0-29 the count, bits 30-59 the effort. Every bit not named here is 0. README.md has the refusals in words. */
+#ifndef DOWNGRATER_H
+#define DOWNGRATER_H
+
+#include <stddef.h>
+#include <stdint.h>
+
+/* 1 where the library has the three calls on derivation trees. */
+#define DOWNGRATER_TREES 0
+
+#ifdef __cplusplus
+extern "C" {
+#endif
+
+/* The reader; its value is the number of rules. */
+uint64_t dg_read_grammar(const uint8_t *file, size_t file_len);
+
+/* The writer of a grammar file; its value is the file's length. There are 64 dimension bytes and 24 bytes a record. */
+uint64_t dg_write_grammar(uint8_t categories, uint8_t start, uint16_t words, uint16_t rules,
+                          const uint8_t *dimensions, size_t dimensions_len,
+                          const uint8_t *records, size_t records_len,
+                          uint8_t *out, size_t out_len);
+
+/* The trace checker; its value is the number of steps. */
+uint64_t dg_check_trace(const uint8_t *file, size_t file_len, const uint16_t *sentence, size_t words,
+                        const uint16_t *trace, size_t trace_len);
+
+#if DOWNGRATER_TREES
+/* The tree checker; its value is the number of nodes. */
+uint64_t dg_check_tree(const uint8_t *file, size_t file_len, const uint16_t *sentence, size_t words,
+                       const uint16_t *tree, size_t tree_len);
+
+/* The conversions; their value is the number of nodes, and they ask an output of 96 numbers. */
+uint64_t dg_trace_to_tree(const uint8_t *file, size_t file_len, const uint16_t *sentence, size_t words,
+                          const uint16_t *trace, size_t trace_len, uint16_t *out, size_t out_len);
+uint64_t dg_tree_to_trace(const uint8_t *file, size_t file_len, const uint16_t *sentence, size_t words,
+                          const uint16_t *tree, size_t tree_len, uint16_t *out, size_t out_len);
+#endif
+
+/* The count of analyses with at most node_limit nodes; its value is count and effort. */
+uint64_t dg_count(const uint8_t *file, size_t file_len, const uint16_t *sentence, size_t words,
+                  uint64_t node_limit, uint64_t effort_limit);
+
+/* An entry of the listing, from 0 to one below the count; its value is the number of steps, and it asks an output of 96 numbers. */
+uint64_t dg_entry(const uint8_t *file, size_t file_len, const uint16_t *sentence, size_t words,
+                  uint64_t node_limit, uint64_t effort_limit, uint64_t entry,
+                  uint16_t *out, size_t out_len);
+
+/* The survey; its value is the number of categories, and it asks an output of 96 numbers. */
+uint64_t dg_survey(const uint8_t *file, size_t file_len, uint16_t *out, size_t out_len);
+
+/* An answer, taken apart. */
+static inline int dg_refused(uint64_t answer) { return (int)(answer >> 63); }
+static inline unsigned dg_whose(uint64_t answer) { return (unsigned)(answer >> 40) & 255; }
+static inline unsigned dg_number(uint64_t answer) { return (unsigned)(answer >> 32) & 255; }
+static inline uint32_t dg_place(uint64_t answer) { return (uint32_t)answer; }
+static inline uint32_t dg_value(uint64_t answer) { return (uint32_t)answer; }
+static inline uint32_t dg_counted(uint64_t answer) { return (uint32_t)answer & ((1u << 30) - 1); }
+static inline uint32_t dg_effort(uint64_t answer) { return (uint32_t)(answer >> 30) & ((1u << 30) - 1); }
+
+#ifdef __cplusplus
+}
+#endif
+
+#endif
