@@ -3,7 +3,7 @@ ghost use mathlib.Core.Path.{_≡_};
 ghost use Prim.Native.Nat.{_+_, _-_, _*_, _<_, _≤_};
 ghost use lib.ListN.{length, getD};
 ghost use Rattle.model.specs.GrammarFile.{grammarOf};
-ghost use Rattle.analyses.specs.Search.{standing, Ready, SearchedAt, SearchedTails, SearchedUnder, SearchedRules, Fronted};
+ghost use Rattle.analyses.specs.Search.{standing, Ready, SearchedAt, SearchedTails, Fronted};
 ghost use Rattle.analyses.specs.Tally.{spentOne, completed, noted};
 use model::Word;
 use recognizer::row::category;
@@ -67,44 +67,11 @@ pub fn search(
         }
         return true;
     }
-    rules_below(
-        file,
-        t,
-        chain,
-        s,
-        read,
-        q,
-        from,
-        to,
-        pending,
-        made,
-        fuel,
-        sheet,
-    )
-}
-
-// The search below each rule of the front's category, in order.
-fn rules_below(
-    file: &[u8],
-    t: &[u16; 8192],
-    chain: &[u16; 320],
-    s: &[u16],
-    read: usize,
-    q: &[u16; 384],
-    from: usize,
-    to: usize,
-    pending: usize,
-    made: u16,
-    fuel: usize,
-    sheet: &mut [u64; 100],
-) -> bool
-    requires { ⌜ Ready (now file) (now t) (now chain) (now s) read (now q) from to pending made fuel (now sheet) × (1 ≤ pending) ⌝ }
-    ensures { λ b. ⌜ SearchedRules (grammarOf (now (file .entry))) fuel (standing (now (s .entry)) read (now (q .entry)) from to pending made) (now (sheet .entry)) b (now (sheet .exit)) ⌝ }
-{
     let a = category(q[from]).0 as usize;
     let mut r = chain[a];
     while r < 256 {
-        if below(
+        let first = sheet[0];
+        let within = stepped(
             file,
             t,
             chain,
@@ -118,7 +85,9 @@ fn rules_below(
             fuel,
             sheet,
             r,
-        ) {
+        );
+        note(sheet, first, 96 - fuel, r);
+        if within {
             let i = r as usize;
             r = chain[64 + i];
         } else {
@@ -126,45 +95,6 @@ fn rules_below(
         }
     }
     true
-}
-
-// The search below rule r.
-fn below(
-    file: &[u8],
-    t: &[u16; 8192],
-    chain: &[u16; 320],
-    s: &[u16],
-    read: usize,
-    q: &[u16; 384],
-    from: usize,
-    to: usize,
-    pending: usize,
-    made: u16,
-    fuel: usize,
-    sheet: &mut [u64; 100],
-    r: u16,
-) -> bool
-    requires { ⌜ Ready (now file) (now t) (now chain) (now s) read (now q) from to pending made fuel (now sheet) × Fronted (now file) (now q) from pending r ⌝ }
-    ensures { λ b. ⌜ SearchedUnder (grammarOf (now (file .entry))) fuel (standing (now (s .entry)) read (now (q .entry)) from to pending made) r (now (sheet .entry)) b (now (sheet .exit)) ⌝ }
-{
-    let first = sheet[0];
-    let within = stepped(
-        file,
-        t,
-        chain,
-        s,
-        read,
-        q,
-        from,
-        to,
-        pending,
-        made,
-        fuel,
-        sheet,
-        r,
-    );
-    note(sheet, first, 96 - fuel, r);
-    within
 }
 
 // The search after the step of rule r, where it applies and leaves a queue that is no longer than the steps left.

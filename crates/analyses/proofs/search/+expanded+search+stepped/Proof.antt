@@ -1,7 +1,7 @@
--- `analyses::search::+below+expanded+rules_below+search+stepped` meets its contract.
+-- `analyses::search::+expanded+search+stepped` meets its contract.
 -- Assumes nothing.
 use mathlib.Core.Path.{_≡_, refl, sym, ap, subst, _∙_}
-use mathlib.Core.Bool.{true}
+use mathlib.Core.Bool.{true, false}
 use mathlib.Core.List.{List}
 use Prim.Native.Nat.{_+_, _-_, _*_, _≤_}
 use native.Mathlib.Omega.{arith}
@@ -10,29 +10,24 @@ use lib.Seq.{getD-set-other}
 use Rattle.model.specs.GrammarFile.{grammarOf}
 use Rattle.model.specs.Step.{wordFits}
 use Rattle.recognizer.specs.Row.{unpacked}
-use Rattle.analyses.specs.Search.{standing, Ready, SearchedAt, SearchedTails, SearchedUnder, SearchedRules, CameTo}
-use Rattle.analyses.proofs.Turns.{row-some, rule-small, head-here, fit, moved, empty-ready, empty-word, no-words, word-ready, next-word, other-word, queue-long, row-room, made-small, row-ready-by, next-row-by, noted-rule}
+use Rattle.analyses.specs.Tally.{spentOne}
+use Rattle.analyses.specs.Search.{standing, SearchedAt, SearchedUnder, CameTo}
+use Rattle.analyses.proofs.Turns.{row-some, rule-small, head-here, fit, empty-ready, empty-word, no-words, word-ready, next-word, other-word, queue-long, row-room, made-small, row-ready-by, next-row-by, noted-rule}
 use Rattle.analyses.proofs.AtState.{not-none, no-budget, all-read, words-left, rules-ready, below-rules}
 use Rattle.analyses.proofs.Loop.{came-first, fronted, ready-now, came-next, later, over-budget, came-last}
 use borrow.Author.Needs.{needs}
 use Prim.Native.Nat.{ℕ, _<_}
 use borrow.Fn.Kinds.{In}
 use borrow.Fn.PlainCycle.{Measures, is, falls, and}
-use Rattle.analyses.proofs.search.below.Reads as below
-use Rattle.analyses.proofs.search.below.Kinds as below-kinds
-use Rattle.analyses.proofs.search.+below+expanded+rules_below+search+stepped.Lts-below as below-lts
 use Rattle.analyses.proofs.search.expanded.Reads as expanded
 use Rattle.analyses.proofs.search.expanded.Kinds as expanded-kinds
-use Rattle.analyses.proofs.search.+below+expanded+rules_below+search+stepped.Lts-expanded as expanded-lts
-use Rattle.analyses.proofs.search.rules_below.Reads as rules-below
-use Rattle.analyses.proofs.search.rules_below.Kinds as rules-below-kinds
-use Rattle.analyses.proofs.search.+below+expanded+rules_below+search+stepped.Lts-rules_below as rules-below-lts
+use Rattle.analyses.proofs.search.+expanded+search+stepped.Lts-expanded as expanded-lts
 use Rattle.analyses.proofs.search.search.Reads as search′
 use Rattle.analyses.proofs.search.search.Kinds as search-kinds
-use Rattle.analyses.proofs.search.+below+expanded+rules_below+search+stepped.Lts-search as search-lts
+use Rattle.analyses.proofs.search.+expanded+search+stepped.Lts-search as search-lts
 use Rattle.analyses.proofs.search.stepped.Reads as stepped
 use Rattle.analyses.proofs.search.stepped.Kinds as stepped-kinds
-use Rattle.analyses.proofs.search.+below+expanded+rules_below+search+stepped.Lts-stepped as stepped-lts
+use Rattle.analyses.proofs.search.+expanded+search+stepped.Lts-stepped as stepped-lts
 use Rattle.analyses.proofs.search.complete.Reads as complete-reads
 use Rattle.analyses.proofs.search.note.Reads as note-reads
 use Rattle.recognizer.proofs.row.category.Reads as category-reads
@@ -40,29 +35,17 @@ use Rattle.recognizer.proofs.row.expand.Reads as expand-reads
 use Rattle.recognizer.proofs.rules.daughters.Reads as daughters-reads
 use Rattle.recognizer.proofs.rules.word.Reads as word-reads
 use Rattle.recognizer.proofs.step.fits.Reads as fits-reads
-use Rattle.analyses.proofs.search.+below+expanded+rules_below+search+stepped.{statement}
-use Rattle.analyses.proofs.search.+below+expanded+rules_below+search+stepped.Tie.{close}
-
-abbrev μ-below : Measures 6 below-kinds.ps ℕ
-μ-below κs a = 5 * a .1 .1 .1 .1 .1 .1 .1 .1 .1 .1 .0 + 2
+use Rattle.analyses.proofs.search.+expanded+search+stepped.{statement}
+use Rattle.analyses.proofs.search.+expanded+search+stepped.Tie.{close}
 
 abbrev μ-expanded : Measures 6 expanded-kinds.ps ℕ
-μ-expanded κs a = 5 * a .1 .1 .1 .1 .1 .1 .1 .1 .1 .1 .0 + 0
-
-abbrev μ-rules-below : Measures 6 rules-below-kinds.ps ℕ
-μ-rules-below κs a = 5 * a .1 .1 .1 .1 .1 .1 .1 .1 .1 .1 .0 + 3
+μ-expanded κs a = 3 * a .1 .1 .1 .1 .1 .1 .1 .1 .1 .1 .0 + 0
 
 abbrev μ-search : Measures 6 search-kinds.ps ℕ
-μ-search κs a = 5 * a .1 .1 .1 .1 .1 .1 .1 .1 .1 .1 .0 + 4
+μ-search κs a = 3 * a .1 .1 .1 .1 .1 .1 .1 .1 .1 .1 .0 + 2
 
 abbrev μ-stepped : Measures 6 stepped-kinds.ps ℕ
-μ-stepped κs a = 5 * a .1 .1 .1 .1 .1 .1 .1 .1 .1 .1 .0 + 1
-
-abbrev below-at : ℕ → In 6 below-kinds.ps
-below-at t = and 6 below-kinds.ps (is 6 below-kinds.ps μ-below t) below.Pre
-
-abbrev below-below : ℕ → In 6 below-kinds.ps
-below-below t = and 6 below-kinds.ps (falls 6 below-kinds.ps _<_ μ-below t) below.Pre
+μ-stepped κs a = 3 * a .1 .1 .1 .1 .1 .1 .1 .1 .1 .1 .0 + 1
 
 abbrev expanded-at : ℕ → In 6 expanded-kinds.ps
 expanded-at t = and 6 expanded-kinds.ps (is 6 expanded-kinds.ps μ-expanded t) expanded.Pre
@@ -70,14 +53,6 @@ expanded-at t = and 6 expanded-kinds.ps (is 6 expanded-kinds.ps μ-expanded t) e
 abbrev expanded-below : ℕ → In 6 expanded-kinds.ps
 expanded-below t =
     and 6 expanded-kinds.ps (falls 6 expanded-kinds.ps _<_ μ-expanded t) expanded.Pre
-
-abbrev rules-below-at : ℕ → In 6 rules-below-kinds.ps
-rules-below-at t =
-    and 6 rules-below-kinds.ps (is 6 rules-below-kinds.ps μ-rules-below t) rules-below.Pre
-
-abbrev rules-below-below : ℕ → In 6 rules-below-kinds.ps
-rules-below-below t =
-    and 6 rules-below-kinds.ps (falls 6 rules-below-kinds.ps _<_ μ-rules-below t) rules-below.Pre
 
 abbrev search-at : ℕ → In 6 search-kinds.ps
 search-at t = and 6 search-kinds.ps (is 6 search-kinds.ps μ-search t) search′.Pre
@@ -91,64 +66,7 @@ stepped-at t = and 6 stepped-kinds.ps (is 6 stepped-kinds.ps μ-stepped t) stepp
 abbrev stepped-below : ℕ → In 6 stepped-kinds.ps
 stepped-below t = and 6 stepped-kinds.ps (falls 6 stepped-kinds.ps _<_ μ-stepped t) stepped.Pre
 
--- src/search.rt:127:17
-below-element-copy-out-first : (t : ℕ) → below-lts.Need-element-copy-out-first (
-  stepped-below t,
-  stepped.Post,
-  note-reads.Asked,
-  note-reads.Learnt,
-) (below-at t) below.Post
-below-element-copy-out-first t c = search needs
-
--- src/search.rt:128:9
-below-stepped-requires : (t : ℕ) → below-lts.Need-stepped-requires (
-  stepped-below t,
-  stepped.Post,
-  note-reads.Asked,
-  note-reads.Learnt,
-) (below-at t) below.Post
-below-stepped-requires t c κs =
-    let s = c .before .before .before .before in
-    (omega (arith, s .pre .0), s .pre .1)
-
--- src/search.rt:131:24
-below-sub-note : (t : ℕ) → below-lts.Need-sub-note (
-  stepped-below t,
-  stepped.Post,
-  note-reads.Asked,
-  note-reads.Learnt,
-) (below-at t) below.Post
-below-sub-note t c =
-    let s = c .before .before .before .before .before .before in
-    omega (arith, s .pre .1 .0 .short)
-
--- src/search.rt:131:5
-below-note-requires : (t : ℕ) → below-lts.Need-note-requires (
-  stepped-below t,
-  stepped.Post,
-  note-reads.Asked,
-  note-reads.Learnt,
-) (below-at t) below.Post
-below-note-requires t c κs =
-    let s = c .before .before .before .before .before .before in
-    (c .before .stepped .ensures .long ∙ s .pre .1 .0 .long, omega (arith, s .pre .1 .0 .short))
-
--- src/search.rt:109:1
-below-returns : (t : ℕ) → below-lts.Need-returns (
-  stepped-below t,
-  stepped.Post,
-  note-reads.Asked,
-  note-reads.Learnt,
-) (below-at t) below.Post
-below-returns t c =
-    let s = c .before .before .before .before .before .before .before in
-    let a = s .args in
-    let p = s .pre .1 in
-    let k = c .before .before .stepped in
-    subst (λ (x : List ℕ). SearchedUnder (grammarOf (a .file .now)) (a .fuel) (standing (a .s .now) (a .read) (a .q .now) (a .from) (a .to) (a .pending) (a .made)) (a .r) (a .sheet .now) (k .result) x) (sym (c .note .ensures))
-    (noted-rule (a .file .now) (a .t .now) (a .chain .now) (a .s .now) (a .read) (a .q .now) (a .from) (a .to) (a .pending) (a .made) (a .fuel) (a .sheet .now) (p .0) (a .r) (p .1) (k .result) _ (k .ensures))
-
--- src/search.rt:224:46
+-- src/search.rt:202:46
 expanded-mul-expand : (t : ℕ) → expanded-lts.Need-mul-expand (
   expand-reads.Asked,
   expand-reads.Learnt,
@@ -157,7 +75,7 @@ expanded-mul-expand : (t : ℕ) → expanded-lts.Need-mul-expand (
 ) (expanded-at t) expanded.Post
 expanded-mul-expand t c = search needs
 
--- src/search.rt:224:9
+-- src/search.rt:202:9
 expanded-expand-requires : (t : ℕ) → expanded-lts.Need-expand-requires (
   expand-reads.Asked,
   expand-reads.Learnt,
@@ -172,7 +90,7 @@ expanded-expand-requires t c κs =
     let l : a .pending + getD (a .t .now) (32 * a .r) 0 ≤ a .fuel = omega (arith, p .2, p .4) in
     (fit (a .file .now) (a .t .now) (a .chain .now) (a .s .now) (a .read) (a .q .now) (a .from) (a .to) (a .pending) (a .made) (a .fuel) (a .sheet .now) (p .0) (a .r) (p .1), p .0 .held, head-here (a .file .now) (a .t .now) (a .chain .now) (a .s .now) (a .read) (a .q .now) (a .from) (a .to) (a .pending) (a .made) (a .fuel) (a .sheet .now) (p .0) (a .r) (p .1), made-small (a .file .now) (a .t .now) (a .chain .now) (a .s .now) (a .read) (a .q .now) (a .from) (a .to) (a .pending) (a .made) (a .fuel) (a .sheet .now) (p .0) (a .r) (p .1) h l, refl, row-room (a .file .now) (a .t .now) (a .chain .now) (a .s .now) (a .read) (a .q .now) (a .from) (a .to) (a .pending) (a .made) (a .fuel) (a .sheet .now) (p .0) (a .r) (p .1) h l)
 
--- src/search.rt:234:9
+-- src/search.rt:212:9
 expanded-sub-search : (t : ℕ) → expanded-lts.Need-sub-search (
   expand-reads.Asked,
   expand-reads.Learnt,
@@ -183,7 +101,7 @@ expanded-sub-search t c =
     let s = c .before .before .before .before .before in
     omega (arith, s .pre .1 .1 .predicted)
 
--- src/search.rt:234:9
+-- src/search.rt:212:9
 expanded-add-search : (t : ℕ) → expanded-lts.Need-add-search (
   expand-reads.Asked,
   expand-reads.Learnt,
@@ -194,7 +112,7 @@ expanded-add-search t c =
     let s = c .before .before .before .before .before in
     omega (arith, s .pre .1 .0 .short, s .pre .1 .4)
 
--- src/search.rt:235:9
+-- src/search.rt:213:9
 expanded-add-search-2 : (t : ℕ) → expanded-lts.Need-add-search-2 (
   expand-reads.Asked,
   expand-reads.Learnt,
@@ -205,7 +123,7 @@ expanded-add-search-2 t c =
     let s = c .before .before .before .before .before in
     omega (arith, s .pre .1 .0 .short, s .pre .1 .0 .numbered, s .pre .1 .0 .fits, s .pre .1 .4)
 
--- src/search.rt:236:9
+-- src/search.rt:214:9
 expanded-sub-search-2 : (t : ℕ) → expanded-lts.Need-sub-search-2 (
   expand-reads.Asked,
   expand-reads.Learnt,
@@ -216,7 +134,7 @@ expanded-sub-search-2 t c =
     let s = c .before .before .before .before .before in
     omega (arith, s .pre .1 .0 .fits, s .pre .1 .1 .predicted)
 
--- src/search.rt:225:5
+-- src/search.rt:203:5
 expanded-search-requires : (t : ℕ) → expanded-lts.Need-search-requires (
   expand-reads.Asked,
   expand-reads.Learnt,
@@ -230,7 +148,7 @@ expanded-search-requires t c κs =
     let x = c .before .before .expand in
     (omega (arith, s .pre .0, p .0 .fits, p .1 .predicted), row-ready-by (a .file .now) (a .t .now) (a .chain .now) (a .s .now) (a .read) (a .q .now) (a .from) (a .to) (a .pending) (a .made) (a .fuel) (a .sheet .now) (p .0) (a .r) (p .1) (a .d) (p .2) (p .3) (p .4) _ _ (x .result) (x .ensures) (x .ensures .kept))
 
--- src/search.rt:204:1
+-- src/search.rt:182:1
 expanded-returns : (t : ℕ) → expanded-lts.Need-returns (
   expand-reads.Asked,
   expand-reads.Learnt,
@@ -245,209 +163,38 @@ expanded-returns t c =
     let k = c .search in
     next-row-by (a .file .now) (a .t .now) (a .chain .now) (a .s .now) (a .read) (a .q .now) (a .from) (a .to) (a .pending) (a .made) (a .fuel) (a .sheet .now) (p .0) (a .r) (p .1) (a .d) (p .2) (p .3) (p .4) _ _ (x .result) (x .ensures) (x .ensures .kept) (k .result) _ (k .ensures)
 
-abbrev rules-below-Inv-loop : rules-below-lts.InvT-loop
-rules-below-Inv-loop file t chain s read q from to pending made fuel sheet₀ a r₀ sheet r =
+abbrev search-Inv-loop : search-lts.InvT-loop
+search-Inv-loop file t chain s read q from to pending made fuel sheet₀ budget a r₀ sheet r =
     (length sheet ≡ 100)
     × CameTo (grammarOf file) fuel (standing s read q from to pending made) (unpacked (getD q from 0) .category) sheet₀ sheet r
 
-abbrev rules-below-μ-loop : rules-below-lts.MeasureT-loop
-rules-below-μ-loop file t chain s read q from to pending made fuel sheet₀ a r₀ sheet r = 256 - r
-
--- src/search.rt:93:22
-rules-below-mul-category : (t : ℕ) → rules-below-lts.Need-mul-category (
-  category-reads.Asked,
-  category-reads.Learnt,
-  below-below t,
-  below.Post,
-) (rules-below-at t) rules-below.Post rules-below-Inv-loop rules-below-μ-loop
-rules-below-mul-category t c = search needs
-
--- src/search.rt:93:22
-rules-below-element-copy-out-category : (t : ℕ) → rules-below-lts.Need-element-copy-out-category (
-  category-reads.Asked,
-  category-reads.Learnt,
-  below-below t,
-  below.Post,
-) (rules-below-at t) rules-below.Post rules-below-Inv-loop rules-below-μ-loop
-rules-below-element-copy-out-category t c =
-    let s = c .before .before in
-    let a = s .args in
-    let p = s .pre .1 in
-    omega (arith, row-some (a .file .now) (a .t .now) (a .chain .now) (a .s .now) (a .read) (a .q .now) (a .from) (a .to) (a .pending) (a .made) (a .fuel) (a .sheet .now) (p .0) (p .1), p .0 .held .within)
-
--- src/search.rt:93:13
-rules-below-category-requires : (t : ℕ) → rules-below-lts.Need-category-requires (
-  category-reads.Asked,
-  category-reads.Learnt,
-  below-below t,
-  below.Post,
-) (rules-below-at t) rules-below.Post rules-below-Inv-loop rules-below-μ-loop
-rules-below-category-requires t c κs = search needs
-
--- src/search.rt:93:13
-rules-below-cast-a : (t : ℕ) → rules-below-lts.Need-cast-a (
-  category-reads.Asked,
-  category-reads.Learnt,
-  below-below t,
-  below.Post,
-) (rules-below-at t) rules-below.Post rules-below-Inv-loop rules-below-μ-loop
-rules-below-cast-a t c = search needs
-
--- src/search.rt:94:17
-rules-below-mul-r : (t : ℕ) → rules-below-lts.Need-mul-r (
-  category-reads.Asked,
-  category-reads.Learnt,
-  below-below t,
-  below.Post,
-) (rules-below-at t) rules-below.Post rules-below-Inv-loop rules-below-μ-loop
-rules-below-mul-r t c = search needs
-
--- src/search.rt:94:17
-rules-below-element-copy-out-r : (t : ℕ) → rules-below-lts.Need-element-copy-out-r (
-  category-reads.Asked,
-  category-reads.Learnt,
-  below-below t,
-  below.Post,
-) (rules-below-at t) rules-below.Post rules-below-Inv-loop rules-below-μ-loop
-rules-below-element-copy-out-r t c = omega (arith, c .before .category .ensures)
-
--- src/search.rt:95:5
-rules-below-loop-holds : (t : ℕ) → rules-below-lts.Need-loop-holds (
-  category-reads.Asked,
-  category-reads.Learnt,
-  below-below t,
-  below.Post,
-) (rules-below-at t) rules-below.Post rules-below-Inv-loop rules-below-μ-loop
-rules-below-loop-holds t c =
-    let s = c .before .before .before .before .before .before in
-    let a = s .args in
-    let p = s .pre .1 in
-    (p .0 .long, came-first (a .file .now) (a .t .now) (a .chain .now) (a .s .now) (a .read) (a .q .now) (a .from) (a .to) (a .pending) (a .made) (a .fuel) (a .sheet .now) (p .0) (p .1) _ (ap (λ (k : ℕ). getD (a .chain .now) k 0) (c .before .before .category .ensures)))
-
--- src/search.rt:96:12
-rules-below-below-requires : (t : ℕ) → rules-below-lts.Need-below-requires (
-  category-reads.Asked,
-  category-reads.Learnt,
-  below-below t,
-  below.Post,
-) (rules-below-at t) rules-below.Post rules-below-Inv-loop rules-below-μ-loop
-rules-below-below-requires t c κs =
-    let t = c .before .before in
-    let s = t .before .before .before .before .before .before .before in
-    let a = s .args in
-    let p = s .pre .1 in
-    (omega (arith, s .pre .0), (ready-now (a .file .now) (a .t .now) (a .chain .now) (a .s .now) (a .read) (a .q .now) (a .from) (a .to) (a .pending) (a .made) (a .fuel) (a .sheet .now) (p .0) (p .1) (t .loop .sheet) (t .loop .r) (t .loop .inv .1) (c .before .loop-test .taken), fronted (a .file .now) (a .t .now) (a .chain .now) (a .s .now) (a .read) (a .q .now) (a .from) (a .to) (a .pending) (a .made) (a .fuel) (a .sheet .now) (p .0) (p .1) (t .loop .sheet) (t .loop .r) (t .loop .inv .1) (c .before .loop-test .taken)))
-
--- src/search.rt:99:21
-rules-below-cast-i : (t : ℕ) → rules-below-lts.Need-cast-i (
-  category-reads.Asked,
-  category-reads.Learnt,
-  below-below t,
-  below.Post,
-) (rules-below-at t) rules-below.Post rules-below-Inv-loop rules-below-μ-loop
-rules-below-cast-i t c = search needs
-
--- src/search.rt:100:23
-rules-below-add-r : (t : ℕ) → rules-below-lts.Need-add-r (
-  category-reads.Asked,
-  category-reads.Learnt,
-  below-below t,
-  below.Post,
-) (rules-below-at t) rules-below.Post rules-below-Inv-loop rules-below-μ-loop
-rules-below-add-r t c = search needs
-
--- src/search.rt:100:17
-rules-below-mul-r-2 : (t : ℕ) → rules-below-lts.Need-mul-r-2 (
-  category-reads.Asked,
-  category-reads.Learnt,
-  below-below t,
-  below.Post,
-) (rules-below-at t) rules-below.Post rules-below-Inv-loop rules-below-μ-loop
-rules-below-mul-r-2 t c = search needs
-
--- src/search.rt:100:17
-rules-below-element-copy-out-r-2 : (t : ℕ) → rules-below-lts.Need-element-copy-out-r-2 (
-  category-reads.Asked,
-  category-reads.Learnt,
-  below-below t,
-  below.Post,
-) (rules-below-at t) rules-below.Post rules-below-Inv-loop rules-below-μ-loop
-rules-below-element-copy-out-r-2 t c = search needs
-
--- src/search.rt:95:5
-rules-below-loop-less : (t : ℕ) → rules-below-lts.Need-loop-less (
-  category-reads.Asked,
-  category-reads.Learnt,
-  below-below t,
-  below.Post,
-) (rules-below-at t) rules-below.Post rules-below-Inv-loop rules-below-μ-loop
-rules-below-loop-less t c =
-    let u = c .before .before .before .before .before in
-    let s = u .before .before .before .before .before .before .before in
-    let a = s .args in
-    let p = s .pre .1 in
-    later (a .file .now) (a .t .now) (a .chain .now) (a .s .now) (a .read) (a .q .now) (a .from) (a .to) (a .pending) (a .made) (a .fuel) (a .sheet .now) (p .0) (p .1) (u .loop .sheet) (u .loop .r) (u .loop .inv .1) (c .before .before .before .before .loop-test .taken) _ refl
-
--- src/search.rt:95:5
-rules-below-loop-again : (t : ℕ) → rules-below-lts.Need-loop-again (
-  category-reads.Asked,
-  category-reads.Learnt,
-  below-below t,
-  below.Post,
-) (rules-below-at t) rules-below.Post rules-below-Inv-loop rules-below-μ-loop
-rules-below-loop-again t c =
-    let u = c .before .before .before .before .before in
-    let s = u .before .before .before .before .before .before .before in
-    let a = s .args in
-    let p = s .pre .1 in
-    let k = c .before .before .below in
-    (k .ensures .long ∙ u .loop .inv .0, came-next (a .file .now) (a .t .now) (a .chain .now) (a .s .now) (a .read) (a .q .now) (a .from) (a .to) (a .pending) (a .made) (a .fuel) (a .sheet .now) (p .0) (p .1) (u .loop .sheet) (u .loop .r) (u .loop .inv .1) (c .before .before .before .before .loop-test .taken) _ _ (rw (c .before .if1 .taken) at (k .ensures)) refl)
-
--- src/search.rt:102:13
-rules-below-returns : (t : ℕ) → rules-below-lts.Need-returns (
-  category-reads.Asked,
-  category-reads.Learnt,
-  below-below t,
-  below.Post,
-) (rules-below-at t) rules-below.Post rules-below-Inv-loop rules-below-μ-loop
-rules-below-returns t c =
-    let u = c .before .before .before .before in
-    let s = u .before .before .before .before .before .before .before in
-    let a = s .args in
-    let p = s .pre .1 in
-    let k = c .before .below in
-    over-budget (a .file .now) (a .t .now) (a .chain .now) (a .s .now) (a .read) (a .q .now) (a .from) (a .to) (a .pending) (a .made) (a .fuel) (a .sheet .now) (p .0) (p .1) (u .loop .sheet) (u .loop .r) (u .loop .inv .1) (c .before .before .before .loop-test .taken) _ (rw (c .if1 .left) at (k .ensures))
-
--- src/search.rt:76:1
-rules-below-returns-2 : (t : ℕ) → rules-below-lts.Need-returns-2 (
-  category-reads.Asked,
-  category-reads.Learnt,
-  below-below t,
-  below.Post,
-) (rules-below-at t) rules-below.Post rules-below-Inv-loop rules-below-μ-loop
-rules-below-returns-2 t c =
-    let u = c .before in
-    let s = u .before .before .before .before .before .before .before in
-    let a = s .args in
-    let p = s .pre .1 in
-    came-last (a .file .now) (a .t .now) (a .chain .now) (a .s .now) (a .read) (a .q .now) (a .from) (a .to) (a .pending) (a .made) (a .fuel) (a .sheet .now) (p .0) (p .1) (u .loop .sheet) (u .loop .r) (u .loop .inv .1) (c .loop-test .left)
+abbrev search-μ-loop : search-lts.MeasureT-loop
+search-μ-loop file t chain s read q from to pending made fuel sheet₀ budget a r₀ sheet r = 256 - r
 
 -- src/search.rt:59:18
 search-element-copy-out-budget : (t : ℕ) → search-lts.Need-element-copy-out-budget (
   complete-reads.Asked,
   complete-reads.Learnt,
-  rules-below-below t,
-  rules-below.Post,
-) (search-at t) search′.Post
+  category-reads.Asked,
+  category-reads.Learnt,
+  stepped-below t,
+  stepped.Post,
+  note-reads.Asked,
+  note-reads.Learnt,
+) (search-at t) search′.Post search-Inv-loop search-μ-loop
 search-element-copy-out-budget t c = search needs
 
 -- src/search.rt:61:9
 search-returns : (t : ℕ) → search-lts.Need-returns (
   complete-reads.Asked,
   complete-reads.Learnt,
-  rules-below-below t,
-  rules-below.Post,
-) (search-at t) search′.Post
+  category-reads.Asked,
+  category-reads.Learnt,
+  stepped-below t,
+  stepped.Post,
+  note-reads.Asked,
+  note-reads.Learnt,
+) (search-at t) search′.Post search-Inv-loop search-μ-loop
 search-returns t c =
     let s = c .before .before .before .before in
     let a = s .args in
@@ -458,27 +205,39 @@ search-returns t c =
 search-sub-sheet : (t : ℕ) → search-lts.Need-sub-sheet (
   complete-reads.Asked,
   complete-reads.Learnt,
-  rules-below-below t,
-  rules-below.Post,
-) (search-at t) search′.Post
+  category-reads.Asked,
+  category-reads.Learnt,
+  stepped-below t,
+  stepped.Post,
+  note-reads.Asked,
+  note-reads.Learnt,
+) (search-at t) search′.Post search-Inv-loop search-μ-loop
 search-sub-sheet t c = search needs
 
 -- src/search.rt:63:5
 search-element-write-sheet : (t : ℕ) → search-lts.Need-element-write-sheet (
   complete-reads.Asked,
   complete-reads.Learnt,
-  rules-below-below t,
-  rules-below.Post,
-) (search-at t) search′.Post
+  category-reads.Asked,
+  category-reads.Learnt,
+  stepped-below t,
+  stepped.Post,
+  note-reads.Asked,
+  note-reads.Learnt,
+) (search-at t) search′.Post search-Inv-loop search-μ-loop
 search-element-write-sheet t c = search needs
 
 -- src/search.rt:66:29
 search-sub-complete : (t : ℕ) → search-lts.Need-sub-complete (
   complete-reads.Asked,
   complete-reads.Learnt,
-  rules-below-below t,
-  rules-below.Post,
-) (search-at t) search′.Post
+  category-reads.Asked,
+  category-reads.Learnt,
+  stepped-below t,
+  stepped.Post,
+  note-reads.Asked,
+  note-reads.Learnt,
+) (search-at t) search′.Post search-Inv-loop search-μ-loop
 search-sub-complete t c =
     let s = c .before .before .before .before .before .before .before in
     omega (arith, s .pre .1 .short)
@@ -487,9 +246,13 @@ search-sub-complete t c =
 search-complete-requires : (t : ℕ) → search-lts.Need-complete-requires (
   complete-reads.Asked,
   complete-reads.Learnt,
-  rules-below-below t,
-  rules-below.Post,
-) (search-at t) search′.Post
+  category-reads.Asked,
+  category-reads.Learnt,
+  stepped-below t,
+  stepped.Post,
+  note-reads.Asked,
+  note-reads.Learnt,
+) (search-at t) search′.Post search-Inv-loop search-μ-loop
 search-complete-requires t c κs =
     let s = c .before .before .before .before .before .before .before in
     let a = s .args in
@@ -500,9 +263,13 @@ search-complete-requires t c κs =
 search-returns-2 : (t : ℕ) → search-lts.Need-returns-2 (
   complete-reads.Asked,
   complete-reads.Learnt,
-  rules-below-below t,
-  rules-below.Post,
-) (search-at t) search′.Post
+  category-reads.Asked,
+  category-reads.Learnt,
+  stepped-below t,
+  stepped.Post,
+  note-reads.Asked,
+  note-reads.Learnt,
+) (search-at t) search′.Post search-Inv-loop search-μ-loop
 search-returns-2 t c =
     let s = c .before .before .before .before .before .before .before .before in
     let a = s .args in
@@ -513,45 +280,331 @@ search-returns-2 t c =
 search-returns-3 : (t : ℕ) → search-lts.Need-returns-3 (
   complete-reads.Asked,
   complete-reads.Learnt,
-  rules-below-below t,
-  rules-below.Post,
-) (search-at t) search′.Post
+  category-reads.Asked,
+  category-reads.Learnt,
+  stepped-below t,
+  stepped.Post,
+  note-reads.Asked,
+  note-reads.Learnt,
+) (search-at t) search′.Post search-Inv-loop search-μ-loop
 search-returns-3 t c =
     let s = c .before .before .before .before .before .before in
     let a = s .args in
     let p = s .pre .1 in
     words-left (a .file .now) (a .t .now) (a .chain .now) (a .s .now) (a .read) (a .q .now) (a .from) (a .to) (a .pending) (a .made) (a .fuel) (a .sheet .now) p (c .before .before .if1 .left) (c .before .if2 .taken) (c .if3 .left)
 
--- src/search.rt:70:5
-search-rules-below-requires : (t : ℕ) → search-lts.Need-rules-below-requires (
+-- src/search.rt:70:22
+search-mul-category : (t : ℕ) → search-lts.Need-mul-category (
   complete-reads.Asked,
   complete-reads.Learnt,
-  rules-below-below t,
-  rules-below.Post,
-) (search-at t) search′.Post
-search-rules-below-requires t c κs =
-    let s = c .before .before .before .before .before .before in
+  category-reads.Asked,
+  category-reads.Learnt,
+  stepped-below t,
+  stepped.Post,
+  note-reads.Asked,
+  note-reads.Learnt,
+) (search-at t) search′.Post search-Inv-loop search-μ-loop
+search-mul-category t c = search needs
+
+-- src/search.rt:70:22
+search-element-copy-out-category : (t : ℕ) → search-lts.Need-element-copy-out-category (
+  complete-reads.Asked,
+  complete-reads.Learnt,
+  category-reads.Asked,
+  category-reads.Learnt,
+  stepped-below t,
+  stepped.Post,
+  note-reads.Asked,
+  note-reads.Learnt,
+) (search-at t) search′.Post search-Inv-loop search-μ-loop
+search-element-copy-out-category t c =
+    let s = c .before .before .before .before .before in
     let a = s .args in
     let p = s .pre .1 in
-    let h = not-none (a .pending) (c .before .if2 .left) in
-    (omega (arith, s .pre .0), (rules-ready (a .file .now) (a .t .now) (a .chain .now) (a .s .now) (a .read) (a .q .now) (a .from) (a .to) (a .pending) (a .made) (a .fuel) (a .sheet .now) p (c .before .before .if1 .left) h, h))
+    omega (arith, row-some (a .file .now) (a .t .now) (a .chain .now) (a .s .now) (a .read) (a .q .now) (a .from) (a .to) (a .pending) (a .made) (a .fuel) (a .sheet .now) p (not-none (a .pending) (c .if2 .left)), p .held .within)
 
--- src/search.rt:42:1
+-- src/search.rt:70:13
+search-category-requires : (t : ℕ) → search-lts.Need-category-requires (
+  complete-reads.Asked,
+  complete-reads.Learnt,
+  category-reads.Asked,
+  category-reads.Learnt,
+  stepped-below t,
+  stepped.Post,
+  note-reads.Asked,
+  note-reads.Learnt,
+) (search-at t) search′.Post search-Inv-loop search-μ-loop
+search-category-requires t c κs = search needs
+
+-- src/search.rt:70:13
+search-cast-a : (t : ℕ) → search-lts.Need-cast-a (
+  complete-reads.Asked,
+  complete-reads.Learnt,
+  category-reads.Asked,
+  category-reads.Learnt,
+  stepped-below t,
+  stepped.Post,
+  note-reads.Asked,
+  note-reads.Learnt,
+) (search-at t) search′.Post search-Inv-loop search-μ-loop
+search-cast-a t c = search needs
+
+-- src/search.rt:71:17
+search-mul-r : (t : ℕ) → search-lts.Need-mul-r (
+  complete-reads.Asked,
+  complete-reads.Learnt,
+  category-reads.Asked,
+  category-reads.Learnt,
+  stepped-below t,
+  stepped.Post,
+  note-reads.Asked,
+  note-reads.Learnt,
+) (search-at t) search′.Post search-Inv-loop search-μ-loop
+search-mul-r t c = search needs
+
+-- src/search.rt:71:17
+search-element-copy-out-r : (t : ℕ) → search-lts.Need-element-copy-out-r (
+  complete-reads.Asked,
+  complete-reads.Learnt,
+  category-reads.Asked,
+  category-reads.Learnt,
+  stepped-below t,
+  stepped.Post,
+  note-reads.Asked,
+  note-reads.Learnt,
+) (search-at t) search′.Post search-Inv-loop search-μ-loop
+search-element-copy-out-r t c = omega (arith, c .before .category .ensures)
+
+-- src/search.rt:72:5
+search-loop-holds : (t : ℕ) → search-lts.Need-loop-holds (
+  complete-reads.Asked,
+  complete-reads.Learnt,
+  category-reads.Asked,
+  category-reads.Learnt,
+  stepped-below t,
+  stepped.Post,
+  note-reads.Asked,
+  note-reads.Learnt,
+) (search-at t) search′.Post search-Inv-loop search-μ-loop
+search-loop-holds t c =
+    let s = c .before .before .before .before .before .before .before .before .before in
+    let a = s .args in
+    let h = not-none (a .pending) (c .before .before .before .before .if2 .left) in
+    let ready = rules-ready (a .file .now) (a .t .now) (a .chain .now) (a .s .now) (a .read) (a .q .now) (a .from) (a .to) (a .pending) (a .made) (a .fuel) (a .sheet .now) (s .pre .1) (c .before .before .before .before .before .if1 .left) h in
+    (ready .long, came-first (a .file .now) (a .t .now) (a .chain .now) (a .s .now) (a .read) (a .q .now) (a .from) (a .to) (a .pending) (a .made) (a .fuel) (spentOne (a .sheet .now)) ready h _ (ap (λ (k : ℕ). getD (a .chain .now) k 0) (c .before .before .category .ensures)))
+
+-- src/search.rt:73:21
+search-element-copy-out-first : (t : ℕ) → search-lts.Need-element-copy-out-first (
+  complete-reads.Asked,
+  complete-reads.Learnt,
+  category-reads.Asked,
+  category-reads.Learnt,
+  stepped-below t,
+  stepped.Post,
+  note-reads.Asked,
+  note-reads.Learnt,
+) (search-at t) search′.Post search-Inv-loop search-μ-loop
+search-element-copy-out-first t c = search needs
+
+-- src/search.rt:74:13
+search-stepped-requires : (t : ℕ) → search-lts.Need-stepped-requires (
+  complete-reads.Asked,
+  complete-reads.Learnt,
+  category-reads.Asked,
+  category-reads.Learnt,
+  stepped-below t,
+  stepped.Post,
+  note-reads.Asked,
+  note-reads.Learnt,
+) (search-at t) search′.Post search-Inv-loop search-μ-loop
+search-stepped-requires t c κs =
+    let u = c .before .before .before in
+    let s = u .before .before .before .before .before .before .before .before .before .before in
+    let a = s .args in
+    let p = s .pre .1 in
+    let b = u .before .before .before .before .before .before .if1 .left in
+    let h = not-none (a .pending) (u .before .before .before .before .before .if2 .left) in
+    let ready = rules-ready (a .file .now) (a .t .now) (a .chain .now) (a .s .now) (a .read) (a .q .now) (a .from) (a .to) (a .pending) (a .made) (a .fuel) (a .sheet .now) p b h in
+    let test = c .before .before .loop-test .taken in
+    (omega (arith, s .pre .0), (ready-now (a .file .now) (a .t .now) (a .chain .now) (a .s .now) (a .read) (a .q .now) (a .from) (a .to) (a .pending) (a .made) (a .fuel) (spentOne (a .sheet .now)) ready h (u .loop .sheet) (u .loop .r) (u .loop .inv .1) test, fronted (a .file .now) (a .t .now) (a .chain .now) (a .s .now) (a .read) (a .q .now) (a .from) (a .to) (a .pending) (a .made) (a .fuel) (spentOne (a .sheet .now)) ready h (u .loop .sheet) (u .loop .r) (u .loop .inv .1) test))
+
+-- src/search.rt:89:28
+search-sub-note : (t : ℕ) → search-lts.Need-sub-note (
+  complete-reads.Asked,
+  complete-reads.Learnt,
+  category-reads.Asked,
+  category-reads.Learnt,
+  stepped-below t,
+  stepped.Post,
+  note-reads.Asked,
+  note-reads.Learnt,
+) (search-at t) search′.Post search-Inv-loop search-μ-loop
+search-sub-note t c =
+    let s = c .before .before .before .before .before .before .before .before .before .before .before .before .before .before .before in
+    omega (arith, s .pre .1 .short)
+
+-- src/search.rt:89:9
+search-note-requires : (t : ℕ) → search-lts.Need-note-requires (
+  complete-reads.Asked,
+  complete-reads.Learnt,
+  category-reads.Asked,
+  category-reads.Learnt,
+  stepped-below t,
+  stepped.Post,
+  note-reads.Asked,
+  note-reads.Learnt,
+) (search-at t) search′.Post search-Inv-loop search-μ-loop
+search-note-requires t c κs =
+    let s = c .before .before .before .before .before .before .before .before .before .before .before .before .before .before .before in
+    (c .before .stepped .ensures .long ∙ c .before .before .before .before .before .loop .inv .0, omega (arith, s .pre .1 .short))
+
+-- src/search.rt:91:21
+search-cast-i : (t : ℕ) → search-lts.Need-cast-i (
+  complete-reads.Asked,
+  complete-reads.Learnt,
+  category-reads.Asked,
+  category-reads.Learnt,
+  stepped-below t,
+  stepped.Post,
+  note-reads.Asked,
+  note-reads.Learnt,
+) (search-at t) search′.Post search-Inv-loop search-μ-loop
+search-cast-i t c = search needs
+
+-- src/search.rt:92:23
+search-add-r : (t : ℕ) → search-lts.Need-add-r (
+  complete-reads.Asked,
+  complete-reads.Learnt,
+  category-reads.Asked,
+  category-reads.Learnt,
+  stepped-below t,
+  stepped.Post,
+  note-reads.Asked,
+  note-reads.Learnt,
+) (search-at t) search′.Post search-Inv-loop search-μ-loop
+search-add-r t c = search needs
+
+-- src/search.rt:92:17
+search-mul-r-2 : (t : ℕ) → search-lts.Need-mul-r-2 (
+  complete-reads.Asked,
+  complete-reads.Learnt,
+  category-reads.Asked,
+  category-reads.Learnt,
+  stepped-below t,
+  stepped.Post,
+  note-reads.Asked,
+  note-reads.Learnt,
+) (search-at t) search′.Post search-Inv-loop search-μ-loop
+search-mul-r-2 t c = search needs
+
+-- src/search.rt:92:17
+search-element-copy-out-r-2 : (t : ℕ) → search-lts.Need-element-copy-out-r-2 (
+  complete-reads.Asked,
+  complete-reads.Learnt,
+  category-reads.Asked,
+  category-reads.Learnt,
+  stepped-below t,
+  stepped.Post,
+  note-reads.Asked,
+  note-reads.Learnt,
+) (search-at t) search′.Post search-Inv-loop search-μ-loop
+search-element-copy-out-r-2 t c = search needs
+
+-- src/search.rt:72:5
+search-loop-less : (t : ℕ) → search-lts.Need-loop-less (
+  complete-reads.Asked,
+  complete-reads.Learnt,
+  category-reads.Asked,
+  category-reads.Learnt,
+  stepped-below t,
+  stepped.Post,
+  note-reads.Asked,
+  note-reads.Learnt,
+) (search-at t) search′.Post search-Inv-loop search-μ-loop
+search-loop-less t c =
+    let u = c .before .before .before .before .before .before .before .before in
+    let s = u .before .before .before .before .before .before .before .before .before .before in
+    let a = s .args in
+    let p = s .pre .1 in
+    let b = u .before .before .before .before .before .before .if1 .left in
+    let h = not-none (a .pending) (u .before .before .before .before .before .if2 .left) in
+    let ready = rules-ready (a .file .now) (a .t .now) (a .chain .now) (a .s .now) (a .read) (a .q .now) (a .from) (a .to) (a .pending) (a .made) (a .fuel) (a .sheet .now) p b h in
+    later (a .file .now) (a .t .now) (a .chain .now) (a .s .now) (a .read) (a .q .now) (a .from) (a .to) (a .pending) (a .made) (a .fuel) (spentOne (a .sheet .now)) ready h (u .loop .sheet) (u .loop .r) (u .loop .inv .1) (c .before .before .before .before .before .before .before .loop-test .taken) _ refl
+
+-- src/search.rt:72:5
+search-loop-again : (t : ℕ) → search-lts.Need-loop-again (
+  complete-reads.Asked,
+  complete-reads.Learnt,
+  category-reads.Asked,
+  category-reads.Learnt,
+  stepped-below t,
+  stepped.Post,
+  note-reads.Asked,
+  note-reads.Learnt,
+) (search-at t) search′.Post search-Inv-loop search-μ-loop
+search-loop-again t c =
+    let u = c .before .before .before .before .before .before .before .before in
+    let s = u .before .before .before .before .before .before .before .before .before .before in
+    let a = s .args in
+    let p = s .pre .1 in
+    let b = u .before .before .before .before .before .before .if1 .left in
+    let h = not-none (a .pending) (u .before .before .before .before .before .if2 .left) in
+    let ready = rules-ready (a .file .now) (a .t .now) (a .chain .now) (a .s .now) (a .read) (a .q .now) (a .from) (a .to) (a .pending) (a .made) (a .fuel) (a .sheet .now) p b h in
+    let test = c .before .before .before .before .before .before .before .loop-test .taken in
+    let k = c .before .before .before .before .stepped in
+    let w =
+    subst (λ (x : List ℕ). SearchedUnder (grammarOf (a .file .now)) (a .fuel) (standing (a .s .now) (a .read) (a .q .now) (a .from) (a .to) (a .pending) (a .made)) (u .loop .r) (u .loop .sheet) true x) (sym (c .before .before .note .ensures))
+    (noted-rule (a .file .now) (a .t .now) (a .chain .now) (a .s .now) (a .read) (a .q .now) (a .from) (a .to) (a .pending) (a .made) (a .fuel) (u .loop .sheet) (ready-now (a .file .now) (a .t .now) (a .chain .now) (a .s .now) (a .read) (a .q .now) (a .from) (a .to) (a .pending) (a .made) (a .fuel) (spentOne (a .sheet .now)) ready h (u .loop .sheet) (u .loop .r) (u .loop .inv .1) test) (u .loop .r) (fronted (a .file .now) (a .t .now) (a .chain .now) (a .s .now) (a .read) (a .q .now) (a .from) (a .to) (a .pending) (a .made) (a .fuel) (spentOne (a .sheet .now)) ready h (u .loop .sheet) (u .loop .r) (u .loop .inv .1) test) true _ (rw (c .before .if4 .taken) at (k .ensures))) in
+    (w .long ∙ u .loop .inv .0, came-next (a .file .now) (a .t .now) (a .chain .now) (a .s .now) (a .read) (a .q .now) (a .from) (a .to) (a .pending) (a .made) (a .fuel) (spentOne (a .sheet .now)) ready h (u .loop .sheet) (u .loop .r) (u .loop .inv .1) test _ _ w refl)
+
+-- src/search.rt:94:13
 search-returns-4 : (t : ℕ) → search-lts.Need-returns-4 (
   complete-reads.Asked,
   complete-reads.Learnt,
-  rules-below-below t,
-  rules-below.Post,
-) (search-at t) search′.Post
+  category-reads.Asked,
+  category-reads.Learnt,
+  stepped-below t,
+  stepped.Post,
+  note-reads.Asked,
+  note-reads.Learnt,
+) (search-at t) search′.Post search-Inv-loop search-μ-loop
 search-returns-4 t c =
-    let s = c .before .before .before .before .before .before .before in
+    let u = c .before .before .before .before .before .before .before in
+    let s = u .before .before .before .before .before .before .before .before .before .before in
     let a = s .args in
     let p = s .pre .1 in
-    let h = not-none (a .pending) (c .before .before .if2 .left) in
-    let k = c .rules-below in
-    below-rules (a .file .now) (a .t .now) (a .chain .now) (a .s .now) (a .read) (a .q .now) (a .from) (a .to) (a .pending) (a .made) (a .fuel) (a .sheet .now) p (c .before .before .before .if1 .left) h (k .result) _ (k .ensures)
+    let b = u .before .before .before .before .before .before .if1 .left in
+    let h = not-none (a .pending) (u .before .before .before .before .before .if2 .left) in
+    let ready = rules-ready (a .file .now) (a .t .now) (a .chain .now) (a .s .now) (a .read) (a .q .now) (a .from) (a .to) (a .pending) (a .made) (a .fuel) (a .sheet .now) p b h in
+    let test = c .before .before .before .before .before .before .loop-test .taken in
+    let k = c .before .before .before .stepped in
+    let w =
+    subst (λ (x : List ℕ). SearchedUnder (grammarOf (a .file .now)) (a .fuel) (standing (a .s .now) (a .read) (a .q .now) (a .from) (a .to) (a .pending) (a .made)) (u .loop .r) (u .loop .sheet) false x) (sym (c .before .note .ensures))
+    (noted-rule (a .file .now) (a .t .now) (a .chain .now) (a .s .now) (a .read) (a .q .now) (a .from) (a .to) (a .pending) (a .made) (a .fuel) (u .loop .sheet) (ready-now (a .file .now) (a .t .now) (a .chain .now) (a .s .now) (a .read) (a .q .now) (a .from) (a .to) (a .pending) (a .made) (a .fuel) (spentOne (a .sheet .now)) ready h (u .loop .sheet) (u .loop .r) (u .loop .inv .1) test) (u .loop .r) (fronted (a .file .now) (a .t .now) (a .chain .now) (a .s .now) (a .read) (a .q .now) (a .from) (a .to) (a .pending) (a .made) (a .fuel) (spentOne (a .sheet .now)) ready h (u .loop .sheet) (u .loop .r) (u .loop .inv .1) test) false _ (rw (c .if4 .left) at (k .ensures))) in
+    below-rules (a .file .now) (a .t .now) (a .chain .now) (a .s .now) (a .read) (a .q .now) (a .from) (a .to) (a .pending) (a .made) (a .fuel) (a .sheet .now) p b h false _ (over-budget (a .file .now) (a .t .now) (a .chain .now) (a .s .now) (a .read) (a .q .now) (a .from) (a .to) (a .pending) (a .made) (a .fuel) (spentOne (a .sheet .now)) ready h (u .loop .sheet) (u .loop .r) (u .loop .inv .1) test _ w)
 
--- src/search.rt:154:14
+-- src/search.rt:42:1
+search-returns-5 : (t : ℕ) → search-lts.Need-returns-5 (
+  complete-reads.Asked,
+  complete-reads.Learnt,
+  category-reads.Asked,
+  category-reads.Learnt,
+  stepped-below t,
+  stepped.Post,
+  note-reads.Asked,
+  note-reads.Learnt,
+) (search-at t) search′.Post search-Inv-loop search-μ-loop
+search-returns-5 t c =
+    let u = c .before in
+    let s = u .before .before .before .before .before .before .before .before .before .before in
+    let a = s .args in
+    let p = s .pre .1 in
+    let b = u .before .before .before .before .before .before .if1 .left in
+    let h = not-none (a .pending) (u .before .before .before .before .before .if2 .left) in
+    let ready = rules-ready (a .file .now) (a .t .now) (a .chain .now) (a .s .now) (a .read) (a .q .now) (a .from) (a .to) (a .pending) (a .made) (a .fuel) (a .sheet .now) p b h in
+    below-rules (a .file .now) (a .t .now) (a .chain .now) (a .s .now) (a .read) (a .q .now) (a .from) (a .to) (a .pending) (a .made) (a .fuel) (a .sheet .now) p b h true _ (came-last (a .file .now) (a .t .now) (a .chain .now) (a .s .now) (a .read) (a .q .now) (a .from) (a .to) (a .pending) (a .made) (a .fuel) (spentOne (a .sheet .now)) ready h (u .loop .sheet) (u .loop .r) (u .loop .inv .1) (c .loop-test .left))
+
+-- src/search.rt:119:14
 stepped-mul-at : (t : ℕ) → stepped-lts.Need-mul-at (
   daughters-reads.Asked,
   daughters-reads.Learnt,
@@ -566,7 +619,7 @@ stepped-mul-at : (t : ℕ) → stepped-lts.Need-mul-at (
 ) (stepped-at t) stepped.Post
 stepped-mul-at t c = search needs
 
--- src/search.rt:155:9
+-- src/search.rt:120:9
 stepped-daughters-requires : (t : ℕ) → stepped-lts.Need-daughters-requires (
   daughters-reads.Asked,
   daughters-reads.Learnt,
@@ -585,7 +638,7 @@ stepped-daughters-requires t c κs =
     let p = s .pre .1 in
     omega (arith, rule-small (a .file .now) (a .t .now) (a .chain .now) (a .s .now) (a .read) (a .q .now) (a .from) (a .to) (a .pending) (a .made) (a .fuel) (a .sheet .now) (p .0) (a .r) (p .1))
 
--- src/search.rt:157:13
+-- src/search.rt:122:13
 stepped-word-requires : (t : ℕ) → stepped-lts.Need-word-requires (
   daughters-reads.Asked,
   daughters-reads.Learnt,
@@ -604,7 +657,7 @@ stepped-word-requires t c κs =
     let p = s .pre .1 in
     omega (arith, rule-small (a .file .now) (a .t .now) (a .chain .now) (a .s .now) (a .read) (a .q .now) (a .from) (a .to) (a .pending) (a .made) (a .fuel) (a .sheet .now) (p .0) (a .r) (p .1))
 
--- src/search.rt:166:17
+-- src/search.rt:131:17
 stepped-add-search : (t : ℕ) → stepped-lts.Need-add-search (
   daughters-reads.Asked,
   daughters-reads.Learnt,
@@ -623,7 +676,7 @@ stepped-add-search t c =
     let p = s .pre .1 in
     omega (arith, p .0 .held .ordered, p .0 .held .within)
 
--- src/search.rt:168:17
+-- src/search.rt:133:17
 stepped-sub-search : (t : ℕ) → stepped-lts.Need-sub-search (
   daughters-reads.Asked,
   daughters-reads.Learnt,
@@ -642,7 +695,7 @@ stepped-sub-search t c =
     let p = s .pre .1 in
     omega (arith, p .1 .predicted)
 
--- src/search.rt:170:17
+-- src/search.rt:135:17
 stepped-sub-search-2 : (t : ℕ) → stepped-lts.Need-sub-search-2 (
   daughters-reads.Asked,
   daughters-reads.Learnt,
@@ -661,7 +714,7 @@ stepped-sub-search-2 t c =
     let p = s .pre .1 in
     omega (arith, p .1 .predicted, p .0 .fits)
 
--- src/search.rt:159:13
+-- src/search.rt:124:13
 stepped-search-requires : (t : ℕ) → stepped-lts.Need-search-requires (
   daughters-reads.Asked,
   daughters-reads.Learnt,
@@ -680,7 +733,7 @@ stepped-search-requires t c κs =
     let p = s .pre .1 in
     (omega (arith, s .pre .0, p .1 .predicted, p .0 .fits), empty-ready (a .file .now) (a .t .now) (a .chain .now) (a .s .now) (a .read) (a .q .now) (a .from) (a .to) (a .pending) (a .made) (a .fuel) (a .sheet .now) (p .0) (a .r) (p .1) (sym (c .before .before .before .before .before .daughters .ensures) ∙ (c .before .before .before .before .if1 .taken)) (sym (c .before .before .before .word .ensures) ∙ (c .before .if2 .taken)))
 
--- src/search.rt:159:13
+-- src/search.rt:124:13
 stepped-returns : (t : ℕ) → stepped-lts.Need-returns (
   daughters-reads.Asked,
   daughters-reads.Learnt,
@@ -700,7 +753,7 @@ stepped-returns t c =
     let k = c .search in
     empty-word (a .file .now) (a .t .now) (a .chain .now) (a .s .now) (a .read) (a .q .now) (a .from) (a .to) (a .pending) (a .made) (a .fuel) (a .sheet .now) (p .0) (a .r) (p .1) (sym (c .before .before .before .before .before .before .daughters .ensures) ∙ (c .before .before .before .before .before .if1 .taken)) (sym (c .before .before .before .before .word .ensures) ∙ (c .before .before .if2 .taken)) (k .result) _ (k .ensures)
 
--- src/search.rt:175:13
+-- src/search.rt:140:13
 stepped-returns-2 : (t : ℕ) → stepped-lts.Need-returns-2 (
   daughters-reads.Asked,
   daughters-reads.Learnt,
@@ -719,7 +772,7 @@ stepped-returns-2 t c =
     let p = s .pre .1 in
     no-words (a .file .now) (a .t .now) (a .chain .now) (a .s .now) (a .read) (a .q .now) (a .from) (a .to) (a .pending) (a .made) (a .fuel) (a .sheet .now) (p .0) (a .r) (p .1) (sym (c .before .before .before .before .before .daughters .ensures) ∙ (c .before .before .before .before .if1 .taken)) (λ z. (c .before .if2 .left) ((c .before .before .before .word .ensures) ∙ z)) (c .if3 .taken)
 
--- src/search.rt:177:20
+-- src/search.rt:142:20
 stepped-mul-fits : (t : ℕ) → stepped-lts.Need-mul-fits (
   daughters-reads.Asked,
   daughters-reads.Learnt,
@@ -734,7 +787,7 @@ stepped-mul-fits : (t : ℕ) → stepped-lts.Need-mul-fits (
 ) (stepped-at t) stepped.Post
 stepped-mul-fits t c = search needs
 
--- src/search.rt:177:20
+-- src/search.rt:142:20
 stepped-shared-slice-read-fits : (t : ℕ) → stepped-lts.Need-shared-slice-read-fits (
   daughters-reads.Asked,
   daughters-reads.Learnt,
@@ -749,7 +802,7 @@ stepped-shared-slice-read-fits : (t : ℕ) → stepped-lts.Need-shared-slice-rea
 ) (stepped-at t) stepped.Post
 stepped-shared-slice-read-fits t c = search needs
 
--- src/search.rt:177:12
+-- src/search.rt:142:12
 stepped-fits-requires : (t : ℕ) → stepped-lts.Need-fits-requires (
   daughters-reads.Asked,
   daughters-reads.Learnt,
@@ -764,7 +817,7 @@ stepped-fits-requires : (t : ℕ) → stepped-lts.Need-fits-requires (
 ) (stepped-at t) stepped.Post
 stepped-fits-requires t c κs = search needs
 
--- src/search.rt:183:17
+-- src/search.rt:148:17
 stepped-add-search-2 : (t : ℕ) → stepped-lts.Need-add-search-2 (
   daughters-reads.Asked,
   daughters-reads.Learnt,
@@ -783,7 +836,7 @@ stepped-add-search-2 t c =
     let p = s .pre .1 in
     omega (arith, (c .before .before .before .if3 .left))
 
--- src/search.rt:185:17
+-- src/search.rt:150:17
 stepped-add-search-3 : (t : ℕ) → stepped-lts.Need-add-search-3 (
   daughters-reads.Asked,
   daughters-reads.Learnt,
@@ -802,7 +855,7 @@ stepped-add-search-3 t c =
     let p = s .pre .1 in
     omega (arith, p .0 .held .ordered, p .0 .held .within)
 
--- src/search.rt:187:17
+-- src/search.rt:152:17
 stepped-sub-search-3 : (t : ℕ) → stepped-lts.Need-sub-search-3 (
   daughters-reads.Asked,
   daughters-reads.Learnt,
@@ -821,7 +874,7 @@ stepped-sub-search-3 t c =
     let p = s .pre .1 in
     omega (arith, p .1 .predicted)
 
--- src/search.rt:189:17
+-- src/search.rt:154:17
 stepped-sub-search-4 : (t : ℕ) → stepped-lts.Need-sub-search-4 (
   daughters-reads.Asked,
   daughters-reads.Learnt,
@@ -840,7 +893,7 @@ stepped-sub-search-4 t c =
     let p = s .pre .1 in
     omega (arith, p .1 .predicted, p .0 .fits)
 
--- src/search.rt:178:13
+-- src/search.rt:143:13
 stepped-search-requires-2 : (t : ℕ) → stepped-lts.Need-search-requires-2 (
   daughters-reads.Asked,
   daughters-reads.Learnt,
@@ -859,7 +912,7 @@ stepped-search-requires-2 t c κs =
     let p = s .pre .1 in
     (omega (arith, s .pre .0, p .1 .predicted, p .0 .fits), word-ready (a .file .now) (a .t .now) (a .chain .now) (a .s .now) (a .read) (a .q .now) (a .from) (a .to) (a .pending) (a .made) (a .fuel) (a .sheet .now) (p .0) (a .r) (p .1) (sym (c .before .before .before .before .before .before .before .before .before .daughters .ensures) ∙ (c .before .before .before .before .before .before .before .before .if1 .taken)) (λ z. (c .before .before .before .before .before .if2 .left) ((c .before .before .before .before .before .before .before .word .ensures) ∙ z)) (c .before .before .before .before .if3 .left) (ap (λ (w : ℕ). wordFits w (getD (a .s .now) (a .read) 0)) (sym (c .before .before .before .before .before .before .before .word .ensures)) ∙ sym (c .before .before .fits2 .ensures) ∙ (c .before .if4 .taken)))
 
--- src/search.rt:178:13
+-- src/search.rt:143:13
 stepped-returns-3 : (t : ℕ) → stepped-lts.Need-returns-3 (
   daughters-reads.Asked,
   daughters-reads.Learnt,
@@ -879,7 +932,7 @@ stepped-returns-3 t c =
     let k = c .search2 in
     next-word (a .file .now) (a .t .now) (a .chain .now) (a .s .now) (a .read) (a .q .now) (a .from) (a .to) (a .pending) (a .made) (a .fuel) (a .sheet .now) (p .0) (a .r) (p .1) (sym (c .before .before .before .before .before .before .before .before .before .before .daughters .ensures) ∙ (c .before .before .before .before .before .before .before .before .before .if1 .taken)) (λ z. (c .before .before .before .before .before .before .if2 .left) ((c .before .before .before .before .before .before .before .before .word .ensures) ∙ z)) (c .before .before .before .before .before .if3 .left) (ap (λ (w : ℕ). wordFits w (getD (a .s .now) (a .read) 0)) (sym (c .before .before .before .before .before .before .before .before .word .ensures)) ∙ sym (c .before .before .before .fits2 .ensures) ∙ (c .before .before .if4 .taken)) (k .result) _ (k .ensures)
 
--- src/search.rt:193:9
+-- src/search.rt:158:9
 stepped-returns-4 : (t : ℕ) → stepped-lts.Need-returns-4 (
   daughters-reads.Asked,
   daughters-reads.Learnt,
@@ -898,7 +951,7 @@ stepped-returns-4 t c =
     let p = s .pre .1 in
     other-word (a .file .now) (a .t .now) (a .chain .now) (a .s .now) (a .read) (a .q .now) (a .from) (a .to) (a .pending) (a .made) (a .fuel) (a .sheet .now) (p .0) (a .r) (p .1) (sym (c .before .before .before .before .before .before .before .before .daughters .ensures) ∙ (c .before .before .before .before .before .before .before .if1 .taken)) (λ z. (c .before .before .before .before .if2 .left) ((c .before .before .before .before .before .before .word .ensures) ∙ z)) (c .before .before .before .if3 .left) (ap (λ (w : ℕ). wordFits w (getD (a .s .now) (a .read) 0)) (sym (c .before .before .before .before .before .before .word .ensures)) ∙ sym (c .before .fits2 .ensures) ∙ c .if4 .left)
 
--- src/search.rt:195:25
+-- src/search.rt:160:25
 stepped-cast-if5 : (t : ℕ) → stepped-lts.Need-cast-if5 (
   daughters-reads.Asked,
   daughters-reads.Learnt,
@@ -913,7 +966,7 @@ stepped-cast-if5 : (t : ℕ) → stepped-lts.Need-cast-if5 (
 ) (stepped-at t) stepped.Post
 stepped-cast-if5 t c = search needs
 
--- src/search.rt:195:15
+-- src/search.rt:160:15
 stepped-add-if5 : (t : ℕ) → stepped-lts.Need-add-if5 (
   daughters-reads.Asked,
   daughters-reads.Learnt,
@@ -932,7 +985,7 @@ stepped-add-if5 t c =
     let p = s .pre .1 in
     omega (arith, p .0 .fits, p .0 .short, fit (a .file .now) (a .t .now) (a .chain .now) (a .s .now) (a .read) (a .q .now) (a .from) (a .to) (a .pending) (a .made) (a .fuel) (a .sheet .now) (p .0) (a .r) (p .1) .few, (c .before .daughters .ensures))
 
--- src/search.rt:196:9
+-- src/search.rt:161:9
 stepped-returns-5 : (t : ℕ) → stepped-lts.Need-returns-5 (
   daughters-reads.Asked,
   daughters-reads.Learnt,
@@ -951,7 +1004,7 @@ stepped-returns-5 t c =
     let p = s .pre .1 in
     queue-long (a .file .now) (a .t .now) (a .chain .now) (a .s .now) (a .read) (a .q .now) (a .from) (a .to) (a .pending) (a .made) (a .fuel) (a .sheet .now) (p .0) (a .r) (p .1) (not-none (getD (a .t .now) (32 * a .r) 0) (λ z. (c .before .if1 .left) ((c .before .before .daughters .ensures) ∙ z))) (omega (arith, c .if5 .taken, (c .before .before .daughters .ensures)))
 
--- src/search.rt:198:5
+-- src/search.rt:163:5
 stepped-expanded-requires : (t : ℕ) → stepped-lts.Need-expanded-requires (
   daughters-reads.Asked,
   daughters-reads.Learnt,
@@ -971,7 +1024,7 @@ stepped-expanded-requires t c κs =
     let e = (c .before .before .before .daughters .ensures) in
     (omega (arith, s .pre .0), (p .0, p .1, e, omega (arith, e, (not-none (getD (a .t .now) (32 * a .r) 0) (λ z. (c .before .before .if1 .left) ((c .before .before .before .daughters .ensures) ∙ z)))), omega (arith, (c .before .if5 .left))))
 
--- src/search.rt:136:1
+-- src/search.rt:101:1
 stepped-returns-6 : (t : ℕ) → stepped-lts.Need-returns-6 (
   daughters-reads.Asked,
   daughters-reads.Learnt,
@@ -986,27 +1039,13 @@ stepped-returns-6 : (t : ℕ) → stepped-lts.Need-returns-6 (
 ) (stepped-at t) stepped.Post
 stepped-returns-6 t c = c .expanded .ensures
 
-pub +below+expanded+rules-below+search+stepped-spec : {M : Type 1} → statement M
-+below+expanded+rules-below+search+stepped-spec =
-    close μ-below μ-expanded μ-rules-below μ-search μ-stepped (λ t. below-lts.spec (
-      stepped-below t,
-      stepped.Post,
-      note-reads.Asked,
-      note-reads.Learnt,
-    )
-    (below-at t)
-    below.Post
-    (below-element-copy-out-first t)
-    (below-stepped-requires t)
-    (below-sub-note t)
-    (below-note-requires t)
-    (below-returns t))
-    (λ t. expanded-lts.spec (
-      expand-reads.Asked,
-      expand-reads.Learnt,
-      search-below t,
-      search′.Post,
-    )
+pub +expanded+search+stepped-spec : {M : Type 1} → statement M
++expanded+search+stepped-spec = close μ-expanded μ-search μ-stepped (λ t. expanded-lts.spec (
+  expand-reads.Asked,
+  expand-reads.Learnt,
+  search-below t,
+  search′.Post,
+)
     (expanded-at t)
     expanded.Post
     (expanded-mul-expand t)
@@ -1017,40 +1056,20 @@ pub +below+expanded+rules-below+search+stepped-spec : {M : Type 1} → statement
     (expanded-sub-search-2 t)
     (expanded-search-requires t)
     (expanded-returns t))
-    (λ t. rules-below-lts.spec (
-      category-reads.Asked,
-      category-reads.Learnt,
-      below-below t,
-      below.Post,
-    )
-    (rules-below-at t)
-    rules-below.Post
-    rules-below-Inv-loop
-    rules-below-μ-loop
-    (rules-below-mul-category t)
-    (rules-below-element-copy-out-category t)
-    (rules-below-category-requires t)
-    (rules-below-cast-a t)
-    (rules-below-mul-r t)
-    (rules-below-element-copy-out-r t)
-    (rules-below-loop-holds t)
-    (rules-below-below-requires t)
-    (rules-below-cast-i t)
-    (rules-below-add-r t)
-    (rules-below-mul-r-2 t)
-    (rules-below-element-copy-out-r-2 t)
-    (rules-below-loop-less t)
-    (rules-below-loop-again t)
-    (rules-below-returns t)
-    (rules-below-returns-2 t))
     (λ t. search-lts.spec (
       complete-reads.Asked,
       complete-reads.Learnt,
-      rules-below-below t,
-      rules-below.Post,
+      category-reads.Asked,
+      category-reads.Learnt,
+      stepped-below t,
+      stepped.Post,
+      note-reads.Asked,
+      note-reads.Learnt,
     )
     (search-at t)
     search′.Post
+    search-Inv-loop
+    search-μ-loop
     (search-element-copy-out-budget t)
     (search-returns t)
     (search-sub-sheet t)
@@ -1059,8 +1078,25 @@ pub +below+expanded+rules-below+search+stepped-spec : {M : Type 1} → statement
     (search-complete-requires t)
     (search-returns-2 t)
     (search-returns-3 t)
-    (search-rules-below-requires t)
-    (search-returns-4 t))
+    (search-mul-category t)
+    (search-element-copy-out-category t)
+    (search-category-requires t)
+    (search-cast-a t)
+    (search-mul-r t)
+    (search-element-copy-out-r t)
+    (search-loop-holds t)
+    (search-element-copy-out-first t)
+    (search-stepped-requires t)
+    (search-sub-note t)
+    (search-note-requires t)
+    (search-cast-i t)
+    (search-add-r t)
+    (search-mul-r-2 t)
+    (search-element-copy-out-r-2 t)
+    (search-loop-less t)
+    (search-loop-again t)
+    (search-returns-4 t)
+    (search-returns-5 t))
     λ t. stepped-lts.spec (
       daughters-reads.Asked,
       daughters-reads.Learnt,
