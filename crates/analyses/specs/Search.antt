@@ -86,3 +86,30 @@ done rules r = if ltb r rules then r else rules
 pub record CameTo (g : Grammar) (fuel : ℕ) (t : RowState) (a : ℕ) (before now : List ℕ) (r : ℕ) : Type 0 where
   pub so-far : SearchedUpTo g fuel t (done (length (g .rules)) r) before true now
   pub rule-here : r < 256 → (r < length (g .rules)) × (isOf g a r ≡ true)
+
+-- the tables are those of some accepted file, for which the search is ready: code that has the tables alone needs no more
+pub record Known (table chain sentence : List ℕ) (read : ℕ) (q : List ℕ) (from to pending made fuel : ℕ) (sheet : List ℕ) : Type 0 where
+  pub file : List ℕ
+  pub ready : Ready file table chain sentence read q from to pending made fuel sheet
+
+-- and rule r is one of the head's category
+pub record KnownRule (table chain sentence : List ℕ) (read : ℕ) (q : List ℕ) (from to pending made fuel : ℕ) (sheet : List ℕ) (r : ℕ) : Type 0 where
+  pub file : List ℕ
+  pub ready : Ready file table chain sentence read q from to pending made fuel sheet
+  pub fronted : Fronted file q from pending r
+
+-- what is found, for every file whose tables they are
+abbrev pub KnownAt : List ℕ → List ℕ → List ℕ → ℕ → List ℕ → ℕ → ℕ → ℕ → ℕ → ℕ → List ℕ → Bool → List ℕ → Type 0
+KnownAt table chain sentence read q from to pending made fuel before within after =
+    (file : List ℕ) → Ready file table chain sentence read q from to pending made fuel before
+    → SearchedAt (grammarOf file) fuel (standing sentence read q from to pending made) before within after
+
+abbrev pub KnownTails : List ℕ → List ℕ → List ℕ → ℕ → List ℕ → ℕ → ℕ → ℕ → ℕ → ℕ → ℕ → List ℕ → Bool → List ℕ → Type 0
+KnownTails table chain sentence read q from to pending made fuel r before within after =
+    (file : List ℕ) → Ready file table chain sentence read q from to pending made fuel before → Fronted file q from pending r
+    → SearchedTails (grammarOf file) fuel (standing sentence read q from to pending made) r before within after
+
+abbrev pub KnownTo : List ℕ → List ℕ → List ℕ → ℕ → List ℕ → ℕ → ℕ → ℕ → ℕ → ℕ → List ℕ → List ℕ → ℕ → Type 0
+KnownTo table chain sentence read q from to pending made fuel before now r =
+    (file : List ℕ) → Ready file table chain sentence read q from to pending made fuel before
+    → CameTo (grammarOf file) fuel (standing sentence read q from to pending made) (unpacked (getD q from 0) .category) before now r

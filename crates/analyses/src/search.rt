@@ -2,8 +2,7 @@
 ghost use mathlib.Core.Path.{_≡_};
 ghost use Prim.Native.Nat.{_+_, _-_, _*_, _<_, _≤_};
 ghost use lib.ListN.{length, getD};
-ghost use Rattle.model.specs.GrammarFile.{grammarOf};
-ghost use Rattle.analyses.specs.Search.{standing, Ready, SearchedAt, SearchedTails, SearchedUnder, SearchedRules, Fronted};
+ghost use Rattle.analyses.specs.Search.{Known, KnownRule, KnownAt, KnownTails};
 ghost use Rattle.analyses.specs.Tally.{spentOne, completed, noted};
 use model::Word;
 use recognizer::row::category;
@@ -40,7 +39,6 @@ fn note(sheet: &mut [u64; 100], first: u64, place: usize, r: u16)
 // The search below the row q[from..to], with `read` words read and `fuel` steps left. The sheet has count, budget and the entry asked for; the tables t
 // and chain are those of the file. Says whether the budget sufficed. Costs a few operations a live prefix, and one for each slot of a row that is written.
 pub fn search(
-    file: &[u8],
     t: &[u16; 8192],
     chain: &[u16; 320],
     s: &[u16],
@@ -53,8 +51,8 @@ pub fn search(
     fuel: usize,
     sheet: &mut [u64; 100],
 ) -> bool
-    requires { ⌜ Ready (now file) (now t) (now chain) (now s) read (now q) from to pending made fuel (now sheet) ⌝ }
-    ensures { λ b. ⌜ SearchedAt (grammarOf (now (file .entry))) fuel (standing (now (s .entry)) read (now (q .entry)) from to pending made) (now (sheet .entry)) b (now (sheet .exit)) ⌝ }
+    requires { ⌜ Known (now t) (now chain) (now s) read (now q) from to pending made fuel (now sheet) ⌝ }
+    ensures { λ b. ⌜ KnownAt (now (t .entry)) (now (chain .entry)) (now (s .entry)) read (now (q .entry)) from to pending made fuel (now (sheet .entry)) b (now (sheet .exit)) ⌝ }
 {
     let budget = sheet[1];
     if budget == 0 {
@@ -67,45 +65,11 @@ pub fn search(
         }
         return true;
     }
-    rules_below(
-        file,
-        t,
-        chain,
-        s,
-        read,
-        q,
-        from,
-        to,
-        pending,
-        made,
-        fuel,
-        sheet,
-    )
-}
-
-// The search below each rule of the front's category, in order.
-fn rules_below(
-    file: &[u8],
-    t: &[u16; 8192],
-    chain: &[u16; 320],
-    s: &[u16],
-    read: usize,
-    q: &[u16; 384],
-    from: usize,
-    to: usize,
-    pending: usize,
-    made: u16,
-    fuel: usize,
-    sheet: &mut [u64; 100],
-) -> bool
-    requires { ⌜ Ready (now file) (now t) (now chain) (now s) read (now q) from to pending made fuel (now sheet) × (1 ≤ pending) ⌝ }
-    ensures { λ b. ⌜ SearchedRules (grammarOf (now (file .entry))) fuel (standing (now (s .entry)) read (now (q .entry)) from to pending made) (now (sheet .entry)) b (now (sheet .exit)) ⌝ }
-{
     let a = category(q[from]).0 as usize;
     let mut r = chain[a];
     while r < 256 {
-        if below(
-            file,
+        let first = sheet[0];
+        let within = stepped(
             t,
             chain,
             s,
@@ -118,7 +82,9 @@ fn rules_below(
             fuel,
             sheet,
             r,
-        ) {
+        );
+        note(sheet, first, 96 - fuel, r);
+        if within {
             let i = r as usize;
             r = chain[64 + i];
         } else {
@@ -128,48 +94,8 @@ fn rules_below(
     true
 }
 
-// The search below rule r.
-fn below(
-    file: &[u8],
-    t: &[u16; 8192],
-    chain: &[u16; 320],
-    s: &[u16],
-    read: usize,
-    q: &[u16; 384],
-    from: usize,
-    to: usize,
-    pending: usize,
-    made: u16,
-    fuel: usize,
-    sheet: &mut [u64; 100],
-    r: u16,
-) -> bool
-    requires { ⌜ Ready (now file) (now t) (now chain) (now s) read (now q) from to pending made fuel (now sheet) × Fronted (now file) (now q) from pending r ⌝ }
-    ensures { λ b. ⌜ SearchedUnder (grammarOf (now (file .entry))) fuel (standing (now (s .entry)) read (now (q .entry)) from to pending made) r (now (sheet .entry)) b (now (sheet .exit)) ⌝ }
-{
-    let first = sheet[0];
-    let within = stepped(
-        file,
-        t,
-        chain,
-        s,
-        read,
-        q,
-        from,
-        to,
-        pending,
-        made,
-        fuel,
-        sheet,
-        r,
-    );
-    note(sheet, first, 96 - fuel, r);
-    within
-}
-
 // The search after the step of rule r, where it applies and leaves a queue that is no longer than the steps left.
 fn stepped(
-    file: &[u8],
     t: &[u16; 8192],
     chain: &[u16; 320],
     s: &[u16],
@@ -183,8 +109,8 @@ fn stepped(
     sheet: &mut [u64; 100],
     r: u16,
 ) -> bool
-    requires { ⌜ Ready (now file) (now t) (now chain) (now s) read (now q) from to pending made fuel (now sheet) × Fronted (now file) (now q) from pending r ⌝ }
-    ensures { λ b. ⌜ SearchedTails (grammarOf (now (file .entry))) fuel (standing (now (s .entry)) read (now (q .entry)) from to pending made) r (now (sheet .entry)) b (now (sheet .exit)) ⌝ }
+    requires { ⌜ KnownRule (now t) (now chain) (now s) read (now q) from to pending made fuel (now sheet) r ⌝ }
+    ensures { λ b. ⌜ KnownTails (now (t .entry)) (now (chain .entry)) (now (s .entry)) read (now (q .entry)) from to pending made fuel r (now (sheet .entry)) b (now (sheet .exit)) ⌝ }
 {
     let at = 32 * (r as usize);
     let d = daughters(t, at);
@@ -192,7 +118,6 @@ fn stepped(
         let w = word(t, at);
         if w.0 == 65535 {
             return search(
-                file,
                 t,
                 chain,
                 s,
@@ -211,7 +136,6 @@ fn stepped(
         }
         if fits(w, s[read]) {
             return search(
-                file,
                 t,
                 chain,
                 s,
@@ -231,7 +155,6 @@ fn stepped(
         return true;
     }
     expanded(
-        file,
         t,
         chain,
         s,
@@ -250,7 +173,6 @@ fn stepped(
 
 // The search after a nonlexical step, from the row that it writes.
 fn expanded(
-    file: &[u8],
     t: &[u16; 8192],
     chain: &[u16; 320],
     s: &[u16],
@@ -265,13 +187,12 @@ fn expanded(
     r: u16,
     d: u16,
 ) -> bool
-    requires { ⌜ Ready (now file) (now t) (now chain) (now s) read (now q) from to pending made fuel (now sheet) × Fronted (now file) (now q) from pending r × (d ≡ getD (now t) (32 * r) 0) × (0 < d) × (pending + d ≤ fuel) ⌝ }
-    ensures { λ b. ⌜ SearchedTails (grammarOf (now (file .entry))) fuel (standing (now (s .entry)) read (now (q .entry)) from to pending made) r (now (sheet .entry)) b (now (sheet .exit)) ⌝ }
+    requires { ⌜ KnownRule (now t) (now chain) (now s) read (now q) from to pending made fuel (now sheet) r × (d ≡ getD (now t) (32 * r) 0) × (0 < d) × (pending + d ≤ fuel) ⌝ }
+    ensures { λ b. ⌜ KnownTails (now (t .entry)) (now (chain .entry)) (now (s .entry)) read (now (q .entry)) from to pending made fuel r (now (sheet .entry)) b (now (sheet .exit)) ⌝ }
 {
     let mut out = [0u16; 384];
     let n = expand(t, q, from, to, &mut out, 32 * (r as usize), made);
     search(
-        file,
         t,
         chain,
         s,

@@ -1,0 +1,1196 @@
+-- `analyses::search::+expanded+search+stepped` meets its contract.
+-- Assumes nothing.
+use mathlib.Core.Path.{_≡_, refl, sym, ap, subst, _∙_}
+use mathlib.Core.Bool.{true, false}
+use mathlib.Core.List.{List}
+use Prim.Native.Nat.{_+_, _-_, _*_, _≤_}
+use native.Mathlib.Omega.{arith}
+use lib.ListN.{length, getD, length-set}
+use lib.Seq.{getD-set-other}
+use Rattle.model.specs.GrammarFile.{grammarOf}
+use Rattle.model.specs.Step.{wordFits}
+use Rattle.recognizer.specs.Row.{unpacked}
+use Rattle.analyses.specs.Tally.{spentOne}
+use Rattle.analyses.specs.Search.{standing, SearchedAt, SearchedUnder, Ready, KnownTo}
+use Rattle.analyses.proofs.Turns.{row-some, rule-small, head-here, fit, empty-ready, empty-word, no-words, word-ready, next-word, other-word, queue-long, row-room, made-small, row-ready-by, next-row-by, noted-rule}
+use Rattle.analyses.proofs.AtState.{not-none, no-budget, all-read, words-left, rules-ready, below-rules}
+use Rattle.analyses.proofs.Loop.{came-first, fronted, ready-now, came-next, later, over-budget, came-last}
+use borrow.Author.Needs.{needs}
+use Prim.Native.Nat.{ℕ, _<_}
+use borrow.Fn.Kinds.{In}
+use borrow.Fn.PlainCycle.{Measures, is, falls, and}
+use Rattle.analyses.proofs.search.expanded.Reads as expanded
+use Rattle.analyses.proofs.search.expanded.Kinds as expanded-kinds
+use Rattle.analyses.proofs.search.+expanded+search+stepped.Lts-expanded as expanded-lts
+use Rattle.analyses.proofs.search.search.Reads as search′
+use Rattle.analyses.proofs.search.search.Kinds as search-kinds
+use Rattle.analyses.proofs.search.+expanded+search+stepped.Lts-search as search-lts
+use Rattle.analyses.proofs.search.stepped.Reads as stepped
+use Rattle.analyses.proofs.search.stepped.Kinds as stepped-kinds
+use Rattle.analyses.proofs.search.+expanded+search+stepped.Lts-stepped as stepped-lts
+use Rattle.analyses.proofs.search.complete.Reads as complete-reads
+use Rattle.analyses.proofs.search.note.Reads as note-reads
+use Rattle.recognizer.proofs.row.category.Reads as category-reads
+use Rattle.recognizer.proofs.row.expand.Reads as expand-reads
+use Rattle.recognizer.proofs.rules.daughters.Reads as daughters-reads
+use Rattle.recognizer.proofs.rules.word.Reads as word-reads
+use Rattle.recognizer.proofs.step.fits.Reads as fits-reads
+use Rattle.analyses.proofs.search.+expanded+search+stepped.{statement}
+use Rattle.analyses.proofs.search.+expanded+search+stepped.Tie.{close}
+
+abbrev μ-expanded : Measures 5 expanded-kinds.ps ℕ
+μ-expanded κs a = 3 * a .1 .1 .1 .1 .1 .1 .1 .1 .1 .0 + 0
+
+abbrev μ-search : Measures 5 search-kinds.ps ℕ
+μ-search κs a = 3 * a .1 .1 .1 .1 .1 .1 .1 .1 .1 .0 + 2
+
+abbrev μ-stepped : Measures 5 stepped-kinds.ps ℕ
+μ-stepped κs a = 3 * a .1 .1 .1 .1 .1 .1 .1 .1 .1 .0 + 1
+
+abbrev expanded-at : ℕ → In 5 expanded-kinds.ps
+expanded-at t = and 5 expanded-kinds.ps (is 5 expanded-kinds.ps μ-expanded t) expanded.Pre
+
+abbrev expanded-below : ℕ → In 5 expanded-kinds.ps
+expanded-below t =
+    and 5 expanded-kinds.ps (falls 5 expanded-kinds.ps _<_ μ-expanded t) expanded.Pre
+
+abbrev search-at : ℕ → In 5 search-kinds.ps
+search-at t = and 5 search-kinds.ps (is 5 search-kinds.ps μ-search t) search′.Pre
+
+abbrev search-below : ℕ → In 5 search-kinds.ps
+search-below t = and 5 search-kinds.ps (falls 5 search-kinds.ps _<_ μ-search t) search′.Pre
+
+abbrev stepped-at : ℕ → In 5 stepped-kinds.ps
+stepped-at t = and 5 stepped-kinds.ps (is 5 stepped-kinds.ps μ-stepped t) stepped.Pre
+
+abbrev stepped-below : ℕ → In 5 stepped-kinds.ps
+stepped-below t = and 5 stepped-kinds.ps (falls 5 stepped-kinds.ps _<_ μ-stepped t) stepped.Pre
+
+-- src/search.rt:194:46
+expanded-mul-expand : (t : ℕ) → expanded-lts.Need-mul-expand (
+  expand-reads.Asked,
+  expand-reads.Learnt,
+  search-below t,
+  search′.Post,
+) (expanded-at t) expanded.Post
+expanded-mul-expand t c = search needs
+
+-- src/search.rt:194:9
+expanded-expand-requires : (t : ℕ) → expanded-lts.Need-expand-requires (
+  expand-reads.Asked,
+  expand-reads.Learnt,
+  search-below t,
+  search′.Post,
+) (expanded-at t) expanded.Post
+expanded-expand-requires t c κs =
+    let s = c .before .before in
+    let a = s .args in
+    let p = s .pre .1 in
+    let f = p .0 .file in
+    let rd = p .0 .ready in
+    let fr = p .0 .fronted in
+    let h : 0 < getD (a .t .now) (32 * a .r) 0 = omega (arith, p .1, p .2) in
+    let l : a .pending + getD (a .t .now) (32 * a .r) 0 ≤ a .fuel = omega (arith, p .1, p .3) in
+    (fit f (a .t .now) (a .chain .now) (a .s .now) (a .read) (a .q .now) (a .from) (a .to) (a .pending) (a .made) (a .fuel) (a .sheet .now) rd (a .r) fr, rd .held, head-here f (a .t .now) (a .chain .now) (a .s .now) (a .read) (a .q .now) (a .from) (a .to) (a .pending) (a .made) (a .fuel) (a .sheet .now) rd (a .r) fr, made-small f (a .t .now) (a .chain .now) (a .s .now) (a .read) (a .q .now) (a .from) (a .to) (a .pending) (a .made) (a .fuel) (a .sheet .now) rd (a .r) fr h l, refl, row-room f (a .t .now) (a .chain .now) (a .s .now) (a .read) (a .q .now) (a .from) (a .to) (a .pending) (a .made) (a .fuel) (a .sheet .now) rd (a .r) fr h l)
+
+-- src/search.rt:203:9
+expanded-sub-search : (t : ℕ) → expanded-lts.Need-sub-search (
+  expand-reads.Asked,
+  expand-reads.Learnt,
+  search-below t,
+  search′.Post,
+) (expanded-at t) expanded.Post
+expanded-sub-search t c =
+    let s = c .before .before .before .before in
+    omega (arith, s .pre .1 .0 .fronted .predicted)
+
+-- src/search.rt:203:9
+expanded-add-search : (t : ℕ) → expanded-lts.Need-add-search (
+  expand-reads.Asked,
+  expand-reads.Learnt,
+  search-below t,
+  search′.Post,
+) (expanded-at t) expanded.Post
+expanded-add-search t c =
+    let s = c .before .before .before .before in
+    omega (arith, s .pre .1 .0 .ready .short, s .pre .1 .3)
+
+-- src/search.rt:204:9
+expanded-add-search-2 : (t : ℕ) → expanded-lts.Need-add-search-2 (
+  expand-reads.Asked,
+  expand-reads.Learnt,
+  search-below t,
+  search′.Post,
+) (expanded-at t) expanded.Post
+expanded-add-search-2 t c =
+    let s = c .before .before .before .before in
+    omega (arith, s .pre .1 .0 .ready .short, s .pre .1 .0 .ready .numbered, s .pre .1 .0 .ready .fits, s .pre .1 .3)
+
+-- src/search.rt:205:9
+expanded-sub-search-2 : (t : ℕ) → expanded-lts.Need-sub-search-2 (
+  expand-reads.Asked,
+  expand-reads.Learnt,
+  search-below t,
+  search′.Post,
+) (expanded-at t) expanded.Post
+expanded-sub-search-2 t c =
+    let s = c .before .before .before .before in
+    omega (arith, s .pre .1 .0 .ready .fits, s .pre .1 .0 .fronted .predicted)
+
+-- src/search.rt:195:5
+expanded-search-requires : (t : ℕ) → expanded-lts.Need-search-requires (
+  expand-reads.Asked,
+  expand-reads.Learnt,
+  search-below t,
+  search′.Post,
+) (expanded-at t) expanded.Post
+expanded-search-requires t c κs =
+    let s = c .before .before .before .before .before in
+    let a = s .args in
+    let p = s .pre .1 in
+    let f = p .0 .file in
+    let rd = p .0 .ready in
+    let fr = p .0 .fronted in
+    let x = c .before .before .expand in
+    (omega (arith, s .pre .0, rd .fits, fr .predicted), record { file = f; ready = row-ready-by f (a .t .now) (a .chain .now) (a .s .now) (a .read) (a .q .now) (a .from) (a .to) (a .pending) (a .made) (a .fuel) (a .sheet .now) rd (a .r) fr (a .d) (p .1) (p .2) (p .3) _ _ (x .result) (x .ensures) (x .ensures .kept) })
+
+-- src/search.rt:175:1
+expanded-returns : (t : ℕ) → expanded-lts.Need-returns (
+  expand-reads.Asked,
+  expand-reads.Learnt,
+  search-below t,
+  search′.Post,
+) (expanded-at t) expanded.Post
+expanded-returns t c =
+    let s = c .before .before .before .before .before .before in
+    let a = s .args in
+    let p = s .pre .1 in
+    λ f rd fr.
+    let x = c .before .before .before .expand in
+    let k = c .search in
+    next-row-by f (a .t .now) (a .chain .now) (a .s .now) (a .read) (a .q .now) (a .from) (a .to) (a .pending) (a .made) (a .fuel) (a .sheet .now) rd (a .r) fr (a .d) (p .1) (p .2) (p .3) _ _ (x .result) (x .ensures) (x .ensures .kept) (k .result) _ (k .ensures f (row-ready-by f (a .t .now) (a .chain .now) (a .s .now) (a .read) (a .q .now) (a .from) (a .to) (a .pending) (a .made) (a .fuel) (a .sheet .now) rd (a .r) fr (a .d) (p .1) (p .2) (p .3) _ _ (x .result) (x .ensures) (x .ensures .kept)))
+
+abbrev search-Inv-loop : search-lts.InvT-loop
+search-Inv-loop t chain s read q from to pending made fuel sheet₀ budget a r₀ sheet r =
+    (length sheet ≡ 100) × KnownTo t chain s read q from to pending made fuel sheet₀ sheet r
+
+abbrev search-μ-loop : search-lts.MeasureT-loop
+search-μ-loop t chain s read q from to pending made fuel sheet₀ budget a r₀ sheet r = 256 - r
+
+-- src/search.rt:57:18
+search-element-copy-out-budget : (t : ℕ) → search-lts.Need-element-copy-out-budget (
+  complete-reads.Asked,
+  complete-reads.Learnt,
+  category-reads.Asked,
+  category-reads.Learnt,
+  stepped-below t,
+  stepped.Post,
+  note-reads.Asked,
+  note-reads.Learnt,
+) (search-at t) search′.Post search-Inv-loop search-μ-loop
+search-element-copy-out-budget t c = search needs
+
+-- src/search.rt:59:9
+search-returns : (t : ℕ) → search-lts.Need-returns (
+  complete-reads.Asked,
+  complete-reads.Learnt,
+  category-reads.Asked,
+  category-reads.Learnt,
+  stepped-below t,
+  stepped.Post,
+  note-reads.Asked,
+  note-reads.Learnt,
+) (search-at t) search′.Post search-Inv-loop search-μ-loop
+search-returns t c =
+    let s = c .before .before .before in
+    let a = s .args in
+    λ f p.
+    no-budget f (a .t .now) (a .chain .now) (a .s .now) (a .read) (a .q .now) (a .from) (a .to) (a .pending) (a .made) (a .fuel) (a .sheet .now) p (c .if1 .taken)
+
+-- src/search.rt:61:16
+search-sub-sheet : (t : ℕ) → search-lts.Need-sub-sheet (
+  complete-reads.Asked,
+  complete-reads.Learnt,
+  category-reads.Asked,
+  category-reads.Learnt,
+  stepped-below t,
+  stepped.Post,
+  note-reads.Asked,
+  note-reads.Learnt,
+) (search-at t) search′.Post search-Inv-loop search-μ-loop
+search-sub-sheet t c = search needs
+
+-- src/search.rt:61:5
+search-element-write-sheet : (t : ℕ) → search-lts.Need-element-write-sheet (
+  complete-reads.Asked,
+  complete-reads.Learnt,
+  category-reads.Asked,
+  category-reads.Learnt,
+  stepped-below t,
+  stepped.Post,
+  note-reads.Asked,
+  note-reads.Learnt,
+) (search-at t) search′.Post search-Inv-loop search-μ-loop
+search-element-write-sheet t c = search needs
+
+-- src/search.rt:64:29
+search-sub-complete : (t : ℕ) → search-lts.Need-sub-complete (
+  complete-reads.Asked,
+  complete-reads.Learnt,
+  category-reads.Asked,
+  category-reads.Learnt,
+  stepped-below t,
+  stepped.Post,
+  note-reads.Asked,
+  note-reads.Learnt,
+) (search-at t) search′.Post search-Inv-loop search-μ-loop
+search-sub-complete t c =
+    let s = c .before .before .before .before .before .before in
+    omega (arith, s .pre .1 .ready .short)
+
+-- src/search.rt:64:13
+search-complete-requires : (t : ℕ) → search-lts.Need-complete-requires (
+  complete-reads.Asked,
+  complete-reads.Learnt,
+  category-reads.Asked,
+  category-reads.Learnt,
+  stepped-below t,
+  stepped.Post,
+  note-reads.Asked,
+  note-reads.Learnt,
+) (search-at t) search′.Post search-Inv-loop search-μ-loop
+search-complete-requires t c κs =
+    let s = c .before .before .before .before .before .before in
+    let a = s .args in
+    let p = s .pre .1 .ready in
+    (length-set (a .sheet .now) 1 _ ∙ p .long, omega (arith, getD-set-other (a .sheet .now) 1 0 (getD (a .sheet .now) 1 0 - 1) 0 (λ z. omega arith), p .bounded))
+
+-- src/search.rt:66:9
+search-returns-2 : (t : ℕ) → search-lts.Need-returns-2 (
+  complete-reads.Asked,
+  complete-reads.Learnt,
+  category-reads.Asked,
+  category-reads.Learnt,
+  stepped-below t,
+  stepped.Post,
+  note-reads.Asked,
+  note-reads.Learnt,
+) (search-at t) search′.Post search-Inv-loop search-μ-loop
+search-returns-2 t c =
+    let s = c .before .before .before .before .before .before .before in
+    let a = s .args in
+    λ f p.
+    subst (λ (x : List ℕ). SearchedAt (grammarOf f) (a .fuel) (standing (a .s .now) (a .read) (a .q .now) (a .from) (a .to) (a .pending) (a .made)) (a .sheet .now) true x) (sym (c .complete .ensures)) (all-read f (a .t .now) (a .chain .now) (a .s .now) (a .read) (a .q .now) (a .from) (a .to) (a .pending) (a .made) (a .fuel) (a .sheet .now) p (c .before .before .before .before .if1 .left) (c .before .before .before .if2 .taken) (c .before .before .if3 .taken))
+
+-- src/search.rt:66:9
+search-returns-3 : (t : ℕ) → search-lts.Need-returns-3 (
+  complete-reads.Asked,
+  complete-reads.Learnt,
+  category-reads.Asked,
+  category-reads.Learnt,
+  stepped-below t,
+  stepped.Post,
+  note-reads.Asked,
+  note-reads.Learnt,
+) (search-at t) search′.Post search-Inv-loop search-μ-loop
+search-returns-3 t c =
+    let s = c .before .before .before .before .before in
+    let a = s .args in
+    λ f p.
+    words-left f (a .t .now) (a .chain .now) (a .s .now) (a .read) (a .q .now) (a .from) (a .to) (a .pending) (a .made) (a .fuel) (a .sheet .now) p (c .before .before .if1 .left) (c .before .if2 .taken) (c .if3 .left)
+
+-- src/search.rt:68:22
+search-mul-category : (t : ℕ) → search-lts.Need-mul-category (
+  complete-reads.Asked,
+  complete-reads.Learnt,
+  category-reads.Asked,
+  category-reads.Learnt,
+  stepped-below t,
+  stepped.Post,
+  note-reads.Asked,
+  note-reads.Learnt,
+) (search-at t) search′.Post search-Inv-loop search-μ-loop
+search-mul-category t c = search needs
+
+-- src/search.rt:68:22
+search-element-copy-out-category : (t : ℕ) → search-lts.Need-element-copy-out-category (
+  complete-reads.Asked,
+  complete-reads.Learnt,
+  category-reads.Asked,
+  category-reads.Learnt,
+  stepped-below t,
+  stepped.Post,
+  note-reads.Asked,
+  note-reads.Learnt,
+) (search-at t) search′.Post search-Inv-loop search-μ-loop
+search-element-copy-out-category t c =
+    let s = c .before .before .before .before in
+    let a = s .args in
+    let f = s .pre .1 .file in
+    let p = s .pre .1 .ready in
+    omega (arith, row-some f (a .t .now) (a .chain .now) (a .s .now) (a .read) (a .q .now) (a .from) (a .to) (a .pending) (a .made) (a .fuel) (a .sheet .now) p (not-none (a .pending) (c .if2 .left)), p .held .within)
+
+-- src/search.rt:68:13
+search-category-requires : (t : ℕ) → search-lts.Need-category-requires (
+  complete-reads.Asked,
+  complete-reads.Learnt,
+  category-reads.Asked,
+  category-reads.Learnt,
+  stepped-below t,
+  stepped.Post,
+  note-reads.Asked,
+  note-reads.Learnt,
+) (search-at t) search′.Post search-Inv-loop search-μ-loop
+search-category-requires t c κs = search needs
+
+-- src/search.rt:68:13
+search-cast-a : (t : ℕ) → search-lts.Need-cast-a (
+  complete-reads.Asked,
+  complete-reads.Learnt,
+  category-reads.Asked,
+  category-reads.Learnt,
+  stepped-below t,
+  stepped.Post,
+  note-reads.Asked,
+  note-reads.Learnt,
+) (search-at t) search′.Post search-Inv-loop search-μ-loop
+search-cast-a t c = search needs
+
+-- src/search.rt:69:17
+search-mul-r : (t : ℕ) → search-lts.Need-mul-r (
+  complete-reads.Asked,
+  complete-reads.Learnt,
+  category-reads.Asked,
+  category-reads.Learnt,
+  stepped-below t,
+  stepped.Post,
+  note-reads.Asked,
+  note-reads.Learnt,
+) (search-at t) search′.Post search-Inv-loop search-μ-loop
+search-mul-r t c = search needs
+
+-- src/search.rt:69:17
+search-element-copy-out-r : (t : ℕ) → search-lts.Need-element-copy-out-r (
+  complete-reads.Asked,
+  complete-reads.Learnt,
+  category-reads.Asked,
+  category-reads.Learnt,
+  stepped-below t,
+  stepped.Post,
+  note-reads.Asked,
+  note-reads.Learnt,
+) (search-at t) search′.Post search-Inv-loop search-μ-loop
+search-element-copy-out-r t c = omega (arith, c .before .category .ensures)
+
+-- src/search.rt:70:5
+search-loop-holds : (t : ℕ) → search-lts.Need-loop-holds (
+  complete-reads.Asked,
+  complete-reads.Learnt,
+  category-reads.Asked,
+  category-reads.Learnt,
+  stepped-below t,
+  stepped.Post,
+  note-reads.Asked,
+  note-reads.Learnt,
+) (search-at t) search′.Post search-Inv-loop search-μ-loop
+search-loop-holds t c =
+    let s = c .before .before .before .before .before .before .before .before in
+    let a = s .args in
+    let h = not-none (a .pending) (c .before .before .before .before .if2 .left) in
+    (length-set (a .sheet .now) 1 _ ∙ s .pre .1 .ready .long, λ f ready. came-first f (a .t .now) (a .chain .now) (a .s .now) (a .read) (a .q .now) (a .from) (a .to) (a .pending) (a .made) (a .fuel) (spentOne (a .sheet .now)) ready h _ (ap (λ (k : ℕ). getD (a .chain .now) k 0) (c .before .before .category .ensures)))
+
+-- src/search.rt:71:21
+search-element-copy-out-first : (t : ℕ) → search-lts.Need-element-copy-out-first (
+  complete-reads.Asked,
+  complete-reads.Learnt,
+  category-reads.Asked,
+  category-reads.Learnt,
+  stepped-below t,
+  stepped.Post,
+  note-reads.Asked,
+  note-reads.Learnt,
+) (search-at t) search′.Post search-Inv-loop search-μ-loop
+search-element-copy-out-first t c = search needs
+
+-- src/search.rt:72:13
+search-stepped-requires : (t : ℕ) → search-lts.Need-stepped-requires (
+  complete-reads.Asked,
+  complete-reads.Learnt,
+  category-reads.Asked,
+  category-reads.Learnt,
+  stepped-below t,
+  stepped.Post,
+  note-reads.Asked,
+  note-reads.Learnt,
+) (search-at t) search′.Post search-Inv-loop search-μ-loop
+search-stepped-requires t c κs =
+    let u = c .before .before .before in
+    let s = u .before .before .before .before .before .before .before .before .before in
+    let a = s .args in
+    let b = u .before .before .before .before .before .before .if1 .left in
+    let h = not-none (a .pending) (u .before .before .before .before .before .if2 .left) in
+    let f = s .pre .1 .file in
+    let p = s .pre .1 .ready in
+    let ready = rules-ready f (a .t .now) (a .chain .now) (a .s .now) (a .read) (a .q .now) (a .from) (a .to) (a .pending) (a .made) (a .fuel) (a .sheet .now) p b h in
+    let test = c .before .before .loop-test .taken in
+    (omega (arith, s .pre .0), record { file = f; ready = ready-now f (a .t .now) (a .chain .now) (a .s .now) (a .read) (a .q .now) (a .from) (a .to) (a .pending) (a .made) (a .fuel) (spentOne (a .sheet .now)) ready h (u .loop .sheet) (u .loop .r) (u .loop .inv .1 f ready) test; fronted = fronted f (a .t .now) (a .chain .now) (a .s .now) (a .read) (a .q .now) (a .from) (a .to) (a .pending) (a .made) (a .fuel) (spentOne (a .sheet .now)) ready h (u .loop .sheet) (u .loop .r) (u .loop .inv .1 f ready) test })
+
+-- src/search.rt:86:28
+search-sub-note : (t : ℕ) → search-lts.Need-sub-note (
+  complete-reads.Asked,
+  complete-reads.Learnt,
+  category-reads.Asked,
+  category-reads.Learnt,
+  stepped-below t,
+  stepped.Post,
+  note-reads.Asked,
+  note-reads.Learnt,
+) (search-at t) search′.Post search-Inv-loop search-μ-loop
+search-sub-note t c =
+    let s = c .before .before .before .before .before .before .before .before .before .before .before .before .before .before in
+    omega (arith, s .pre .1 .ready .short)
+
+-- src/search.rt:86:9
+search-note-requires : (t : ℕ) → search-lts.Need-note-requires (
+  complete-reads.Asked,
+  complete-reads.Learnt,
+  category-reads.Asked,
+  category-reads.Learnt,
+  stepped-below t,
+  stepped.Post,
+  note-reads.Asked,
+  note-reads.Learnt,
+) (search-at t) search′.Post search-Inv-loop search-μ-loop
+search-note-requires t c κs =
+    let u = c .before .before .before .before .before in
+    let s = u .before .before .before .before .before .before .before .before .before in
+    let a = s .args in
+    let b = u .before .before .before .before .before .before .if1 .left in
+    let h = not-none (a .pending) (u .before .before .before .before .before .if2 .left) in
+    let f = s .pre .1 .file in
+    let p = s .pre .1 .ready in
+    let ready = rules-ready f (a .t .now) (a .chain .now) (a .s .now) (a .read) (a .q .now) (a .from) (a .to) (a .pending) (a .made) (a .fuel) (a .sheet .now) p b h in
+    let test = c .before .before .before .before .loop-test .taken in
+    (c .before .stepped .ensures f (ready-now f (a .t .now) (a .chain .now) (a .s .now) (a .read) (a .q .now) (a .from) (a .to) (a .pending) (a .made) (a .fuel) (spentOne (a .sheet .now)) ready h (u .loop .sheet) (u .loop .r) (u .loop .inv .1 f ready) test) (fronted f (a .t .now) (a .chain .now) (a .s .now) (a .read) (a .q .now) (a .from) (a .to) (a .pending) (a .made) (a .fuel) (spentOne (a .sheet .now)) ready h (u .loop .sheet) (u .loop .r) (u .loop .inv .1 f ready) test) .long ∙ u .loop .inv .0, omega (arith, p .short))
+
+-- src/search.rt:88:21
+search-cast-i : (t : ℕ) → search-lts.Need-cast-i (
+  complete-reads.Asked,
+  complete-reads.Learnt,
+  category-reads.Asked,
+  category-reads.Learnt,
+  stepped-below t,
+  stepped.Post,
+  note-reads.Asked,
+  note-reads.Learnt,
+) (search-at t) search′.Post search-Inv-loop search-μ-loop
+search-cast-i t c = search needs
+
+-- src/search.rt:89:23
+search-add-r : (t : ℕ) → search-lts.Need-add-r (
+  complete-reads.Asked,
+  complete-reads.Learnt,
+  category-reads.Asked,
+  category-reads.Learnt,
+  stepped-below t,
+  stepped.Post,
+  note-reads.Asked,
+  note-reads.Learnt,
+) (search-at t) search′.Post search-Inv-loop search-μ-loop
+search-add-r t c = search needs
+
+-- src/search.rt:89:17
+search-mul-r-2 : (t : ℕ) → search-lts.Need-mul-r-2 (
+  complete-reads.Asked,
+  complete-reads.Learnt,
+  category-reads.Asked,
+  category-reads.Learnt,
+  stepped-below t,
+  stepped.Post,
+  note-reads.Asked,
+  note-reads.Learnt,
+) (search-at t) search′.Post search-Inv-loop search-μ-loop
+search-mul-r-2 t c = search needs
+
+-- src/search.rt:89:17
+search-element-copy-out-r-2 : (t : ℕ) → search-lts.Need-element-copy-out-r-2 (
+  complete-reads.Asked,
+  complete-reads.Learnt,
+  category-reads.Asked,
+  category-reads.Learnt,
+  stepped-below t,
+  stepped.Post,
+  note-reads.Asked,
+  note-reads.Learnt,
+) (search-at t) search′.Post search-Inv-loop search-μ-loop
+search-element-copy-out-r-2 t c = search needs
+
+-- src/search.rt:70:5
+search-loop-less : (t : ℕ) → search-lts.Need-loop-less (
+  complete-reads.Asked,
+  complete-reads.Learnt,
+  category-reads.Asked,
+  category-reads.Learnt,
+  stepped-below t,
+  stepped.Post,
+  note-reads.Asked,
+  note-reads.Learnt,
+) (search-at t) search′.Post search-Inv-loop search-μ-loop
+search-loop-less t c =
+    let u = c .before .before .before .before .before .before .before .before in
+    let s = u .before .before .before .before .before .before .before .before .before in
+    let a = s .args in
+    let b = u .before .before .before .before .before .before .if1 .left in
+    let h = not-none (a .pending) (u .before .before .before .before .before .if2 .left) in
+    let f = s .pre .1 .file in
+    let p = s .pre .1 .ready in
+    let ready = rules-ready f (a .t .now) (a .chain .now) (a .s .now) (a .read) (a .q .now) (a .from) (a .to) (a .pending) (a .made) (a .fuel) (a .sheet .now) p b h in
+    later f (a .t .now) (a .chain .now) (a .s .now) (a .read) (a .q .now) (a .from) (a .to) (a .pending) (a .made) (a .fuel) (spentOne (a .sheet .now)) ready h (u .loop .sheet) (u .loop .r) (u .loop .inv .1 f ready) (c .before .before .before .before .before .before .before .loop-test .taken) _ refl
+
+-- src/search.rt:70:5
+search-loop-again : (t : ℕ) → search-lts.Need-loop-again (
+  complete-reads.Asked,
+  complete-reads.Learnt,
+  category-reads.Asked,
+  category-reads.Learnt,
+  stepped-below t,
+  stepped.Post,
+  note-reads.Asked,
+  note-reads.Learnt,
+) (search-at t) search′.Post search-Inv-loop search-μ-loop
+search-loop-again t c =
+    let u = c .before .before .before .before .before .before .before .before in
+    let s = u .before .before .before .before .before .before .before .before .before in
+    let a = s .args in
+    let b = u .before .before .before .before .before .before .if1 .left in
+    let h = not-none (a .pending) (u .before .before .before .before .before .if2 .left) in
+    let test = c .before .before .before .before .before .before .before .loop-test .taken in
+    let k = c .before .before .before .before .stepped in
+    let w : (f : List ℕ) → Ready f (a .t .now) (a .chain .now) (a .s .now) (a .read) (a .q .now) (a .from) (a .to) (a .pending) (a .made) (a .fuel) (spentOne (a .sheet .now)) → SearchedUnder (grammarOf f) (a .fuel) (standing (a .s .now) (a .read) (a .q .now) (a .from) (a .to) (a .pending) (a .made)) (u .loop .r) (u .loop .sheet) true _ =
+    λ f ready.
+    let now = ready-now f (a .t .now) (a .chain .now) (a .s .now) (a .read) (a .q .now) (a .from) (a .to) (a .pending) (a .made) (a .fuel) (spentOne (a .sheet .now)) ready h (u .loop .sheet) (u .loop .r) (u .loop .inv .1 f ready) test in
+    let fr = fronted f (a .t .now) (a .chain .now) (a .s .now) (a .read) (a .q .now) (a .from) (a .to) (a .pending) (a .made) (a .fuel) (spentOne (a .sheet .now)) ready h (u .loop .sheet) (u .loop .r) (u .loop .inv .1 f ready) test in
+    subst (λ (x : List ℕ). SearchedUnder (grammarOf f) (a .fuel) (standing (a .s .now) (a .read) (a .q .now) (a .from) (a .to) (a .pending) (a .made)) (u .loop .r) (u .loop .sheet) true x) (sym (c .before .before .note .ensures))
+    (noted-rule f (a .t .now) (a .chain .now) (a .s .now) (a .read) (a .q .now) (a .from) (a .to) (a .pending) (a .made) (a .fuel) (u .loop .sheet) now (u .loop .r) fr true _ (rw (c .before .if4 .taken) at (k .ensures f now fr))) in
+    let f₀ = s .pre .1 .file in
+    (w f₀ (rules-ready f₀ (a .t .now) (a .chain .now) (a .s .now) (a .read) (a .q .now) (a .from) (a .to) (a .pending) (a .made) (a .fuel) (a .sheet .now) (s .pre .1 .ready) b h) .long ∙ u .loop .inv .0, λ f ready. came-next f (a .t .now) (a .chain .now) (a .s .now) (a .read) (a .q .now) (a .from) (a .to) (a .pending) (a .made) (a .fuel) (spentOne (a .sheet .now)) ready h (u .loop .sheet) (u .loop .r) (u .loop .inv .1 f ready) test _ _ (w f ready) refl)
+
+-- src/search.rt:91:13
+search-returns-4 : (t : ℕ) → search-lts.Need-returns-4 (
+  complete-reads.Asked,
+  complete-reads.Learnt,
+  category-reads.Asked,
+  category-reads.Learnt,
+  stepped-below t,
+  stepped.Post,
+  note-reads.Asked,
+  note-reads.Learnt,
+) (search-at t) search′.Post search-Inv-loop search-μ-loop
+search-returns-4 t c =
+    let u = c .before .before .before .before .before .before .before in
+    let s = u .before .before .before .before .before .before .before .before .before in
+    let a = s .args in
+    let b = u .before .before .before .before .before .before .if1 .left in
+    let h = not-none (a .pending) (u .before .before .before .before .before .if2 .left) in
+    λ f p.
+    let ready = rules-ready f (a .t .now) (a .chain .now) (a .s .now) (a .read) (a .q .now) (a .from) (a .to) (a .pending) (a .made) (a .fuel) (a .sheet .now) p b h in
+    let test = c .before .before .before .before .before .before .loop-test .taken in
+    let k = c .before .before .before .stepped in
+    let now = ready-now f (a .t .now) (a .chain .now) (a .s .now) (a .read) (a .q .now) (a .from) (a .to) (a .pending) (a .made) (a .fuel) (spentOne (a .sheet .now)) ready h (u .loop .sheet) (u .loop .r) (u .loop .inv .1 f ready) test in
+    let fr = fronted f (a .t .now) (a .chain .now) (a .s .now) (a .read) (a .q .now) (a .from) (a .to) (a .pending) (a .made) (a .fuel) (spentOne (a .sheet .now)) ready h (u .loop .sheet) (u .loop .r) (u .loop .inv .1 f ready) test in
+    let w =
+    subst (λ (x : List ℕ). SearchedUnder (grammarOf f) (a .fuel) (standing (a .s .now) (a .read) (a .q .now) (a .from) (a .to) (a .pending) (a .made)) (u .loop .r) (u .loop .sheet) false x) (sym (c .before .note .ensures))
+    (noted-rule f (a .t .now) (a .chain .now) (a .s .now) (a .read) (a .q .now) (a .from) (a .to) (a .pending) (a .made) (a .fuel) (u .loop .sheet) now (u .loop .r) fr false _ (rw (c .if4 .left) at (k .ensures f now fr))) in
+    below-rules f (a .t .now) (a .chain .now) (a .s .now) (a .read) (a .q .now) (a .from) (a .to) (a .pending) (a .made) (a .fuel) (a .sheet .now) p b h false _ (over-budget f (a .t .now) (a .chain .now) (a .s .now) (a .read) (a .q .now) (a .from) (a .to) (a .pending) (a .made) (a .fuel) (spentOne (a .sheet .now)) ready h (u .loop .sheet) (u .loop .r) (u .loop .inv .1 f ready) test _ w)
+
+-- src/search.rt:41:1
+search-returns-5 : (t : ℕ) → search-lts.Need-returns-5 (
+  complete-reads.Asked,
+  complete-reads.Learnt,
+  category-reads.Asked,
+  category-reads.Learnt,
+  stepped-below t,
+  stepped.Post,
+  note-reads.Asked,
+  note-reads.Learnt,
+) (search-at t) search′.Post search-Inv-loop search-μ-loop
+search-returns-5 t c =
+    let u = c .before in
+    let s = u .before .before .before .before .before .before .before .before .before in
+    let a = s .args in
+    let b = u .before .before .before .before .before .before .if1 .left in
+    let h = not-none (a .pending) (u .before .before .before .before .before .if2 .left) in
+    λ f p.
+    let ready = rules-ready f (a .t .now) (a .chain .now) (a .s .now) (a .read) (a .q .now) (a .from) (a .to) (a .pending) (a .made) (a .fuel) (a .sheet .now) p b h in
+    below-rules f (a .t .now) (a .chain .now) (a .s .now) (a .read) (a .q .now) (a .from) (a .to) (a .pending) (a .made) (a .fuel) (a .sheet .now) p b h true _ (came-last f (a .t .now) (a .chain .now) (a .s .now) (a .read) (a .q .now) (a .from) (a .to) (a .pending) (a .made) (a .fuel) (spentOne (a .sheet .now)) ready h (u .loop .sheet) (u .loop .r) (u .loop .inv .1 f ready) (c .loop-test .left))
+
+-- src/search.rt:115:14
+stepped-mul-at : (t : ℕ) → stepped-lts.Need-mul-at (
+  daughters-reads.Asked,
+  daughters-reads.Learnt,
+  word-reads.Asked,
+  word-reads.Learnt,
+  search-below t,
+  search′.Post,
+  fits-reads.Asked,
+  fits-reads.Learnt,
+  expanded-below t,
+  expanded.Post,
+) (stepped-at t) stepped.Post
+stepped-mul-at t c = search needs
+
+-- src/search.rt:116:9
+stepped-daughters-requires : (t : ℕ) → stepped-lts.Need-daughters-requires (
+  daughters-reads.Asked,
+  daughters-reads.Learnt,
+  word-reads.Asked,
+  word-reads.Learnt,
+  search-below t,
+  search′.Post,
+  fits-reads.Asked,
+  fits-reads.Learnt,
+  expanded-below t,
+  expanded.Post,
+) (stepped-at t) stepped.Post
+stepped-daughters-requires t c κs =
+    let s = c .before in
+    let a = s .args in
+    let p = s .pre .1 in
+    let f = p .file in
+    let rd = p .ready in
+    let fr = p .fronted in
+    omega (arith, rule-small f (a .t .now) (a .chain .now) (a .s .now) (a .read) (a .q .now) (a .from) (a .to) (a .pending) (a .made) (a .fuel) (a .sheet .now) rd (a .r) fr)
+
+-- src/search.rt:118:13
+stepped-word-requires : (t : ℕ) → stepped-lts.Need-word-requires (
+  daughters-reads.Asked,
+  daughters-reads.Learnt,
+  word-reads.Asked,
+  word-reads.Learnt,
+  search-below t,
+  search′.Post,
+  fits-reads.Asked,
+  fits-reads.Learnt,
+  expanded-below t,
+  expanded.Post,
+) (stepped-at t) stepped.Post
+stepped-word-requires t c κs =
+    let s = c .before .before .before in
+    let a = s .args in
+    let p = s .pre .1 in
+    let f = p .file in
+    let rd = p .ready in
+    let fr = p .fronted in
+    omega (arith, rule-small f (a .t .now) (a .chain .now) (a .s .now) (a .read) (a .q .now) (a .from) (a .to) (a .pending) (a .made) (a .fuel) (a .sheet .now) rd (a .r) fr)
+
+-- src/search.rt:126:17
+stepped-add-search : (t : ℕ) → stepped-lts.Need-add-search (
+  daughters-reads.Asked,
+  daughters-reads.Learnt,
+  word-reads.Asked,
+  word-reads.Learnt,
+  search-below t,
+  search′.Post,
+  fits-reads.Asked,
+  fits-reads.Learnt,
+  expanded-below t,
+  expanded.Post,
+) (stepped-at t) stepped.Post
+stepped-add-search t c =
+    let s = c .before .before .before .before .before .before in
+    let a = s .args in
+    let p = s .pre .1 in
+    let f = p .file in
+    let rd = p .ready in
+    let fr = p .fronted in
+    omega (arith, rd .held .ordered, rd .held .within)
+
+-- src/search.rt:128:17
+stepped-sub-search : (t : ℕ) → stepped-lts.Need-sub-search (
+  daughters-reads.Asked,
+  daughters-reads.Learnt,
+  word-reads.Asked,
+  word-reads.Learnt,
+  search-below t,
+  search′.Post,
+  fits-reads.Asked,
+  fits-reads.Learnt,
+  expanded-below t,
+  expanded.Post,
+) (stepped-at t) stepped.Post
+stepped-sub-search t c =
+    let s = c .before .before .before .before .before .before in
+    let a = s .args in
+    let p = s .pre .1 in
+    let f = p .file in
+    let rd = p .ready in
+    let fr = p .fronted in
+    omega (arith, fr .predicted)
+
+-- src/search.rt:130:17
+stepped-sub-search-2 : (t : ℕ) → stepped-lts.Need-sub-search-2 (
+  daughters-reads.Asked,
+  daughters-reads.Learnt,
+  word-reads.Asked,
+  word-reads.Learnt,
+  search-below t,
+  search′.Post,
+  fits-reads.Asked,
+  fits-reads.Learnt,
+  expanded-below t,
+  expanded.Post,
+) (stepped-at t) stepped.Post
+stepped-sub-search-2 t c =
+    let s = c .before .before .before .before .before .before in
+    let a = s .args in
+    let p = s .pre .1 in
+    let f = p .file in
+    let rd = p .ready in
+    let fr = p .fronted in
+    omega (arith, fr .predicted, rd .fits)
+
+-- src/search.rt:120:13
+stepped-search-requires : (t : ℕ) → stepped-lts.Need-search-requires (
+  daughters-reads.Asked,
+  daughters-reads.Learnt,
+  word-reads.Asked,
+  word-reads.Learnt,
+  search-below t,
+  search′.Post,
+  fits-reads.Asked,
+  fits-reads.Learnt,
+  expanded-below t,
+  expanded.Post,
+) (stepped-at t) stepped.Post
+stepped-search-requires t c κs =
+    let s = c .before .before .before .before .before .before .before in
+    let a = s .args in
+    let p = s .pre .1 in
+    let f = p .file in
+    let rd = p .ready in
+    let fr = p .fronted in
+    (omega (arith, s .pre .0, fr .predicted, rd .fits), record { file = f; ready = empty-ready f (a .t .now) (a .chain .now) (a .s .now) (a .read) (a .q .now) (a .from) (a .to) (a .pending) (a .made) (a .fuel) (a .sheet .now) rd (a .r) fr (sym (c .before .before .before .before .before .daughters .ensures) ∙ (c .before .before .before .before .if1 .taken)) (sym (c .before .before .before .word .ensures) ∙ (c .before .if2 .taken)) })
+
+-- src/search.rt:120:13
+stepped-returns : (t : ℕ) → stepped-lts.Need-returns (
+  daughters-reads.Asked,
+  daughters-reads.Learnt,
+  word-reads.Asked,
+  word-reads.Learnt,
+  search-below t,
+  search′.Post,
+  fits-reads.Asked,
+  fits-reads.Learnt,
+  expanded-below t,
+  expanded.Post,
+) (stepped-at t) stepped.Post
+stepped-returns t c =
+    let s = c .before .before .before .before .before .before .before .before in
+    let a = s .args in
+    λ f rd fr.
+    let k = c .search in
+    empty-word f (a .t .now) (a .chain .now) (a .s .now) (a .read) (a .q .now) (a .from) (a .to) (a .pending) (a .made) (a .fuel) (a .sheet .now) rd (a .r) fr (sym (c .before .before .before .before .before .before .daughters .ensures) ∙ (c .before .before .before .before .before .if1 .taken)) (sym (c .before .before .before .before .word .ensures) ∙ (c .before .before .if2 .taken)) (k .result) _ (k .ensures f (empty-ready f (a .t .now) (a .chain .now) (a .s .now) (a .read) (a .q .now) (a .from) (a .to) (a .pending) (a .made) (a .fuel) (a .sheet .now) rd (a .r) fr (sym (c .before .before .before .before .before .before .daughters .ensures) ∙ (c .before .before .before .before .before .if1 .taken)) (sym (c .before .before .before .before .word .ensures) ∙ (c .before .before .if2 .taken))))
+
+-- src/search.rt:135:13
+stepped-returns-2 : (t : ℕ) → stepped-lts.Need-returns-2 (
+  daughters-reads.Asked,
+  daughters-reads.Learnt,
+  word-reads.Asked,
+  word-reads.Learnt,
+  search-below t,
+  search′.Post,
+  fits-reads.Asked,
+  fits-reads.Learnt,
+  expanded-below t,
+  expanded.Post,
+) (stepped-at t) stepped.Post
+stepped-returns-2 t c =
+    let s = c .before .before .before .before .before .before .before in
+    let a = s .args in
+    λ f rd fr.
+    no-words f (a .t .now) (a .chain .now) (a .s .now) (a .read) (a .q .now) (a .from) (a .to) (a .pending) (a .made) (a .fuel) (a .sheet .now) rd (a .r) fr (sym (c .before .before .before .before .before .daughters .ensures) ∙ (c .before .before .before .before .if1 .taken)) (λ z. (c .before .if2 .left) ((c .before .before .before .word .ensures) ∙ z)) (c .if3 .taken)
+
+-- src/search.rt:137:20
+stepped-mul-fits : (t : ℕ) → stepped-lts.Need-mul-fits (
+  daughters-reads.Asked,
+  daughters-reads.Learnt,
+  word-reads.Asked,
+  word-reads.Learnt,
+  search-below t,
+  search′.Post,
+  fits-reads.Asked,
+  fits-reads.Learnt,
+  expanded-below t,
+  expanded.Post,
+) (stepped-at t) stepped.Post
+stepped-mul-fits t c = search needs
+
+-- src/search.rt:137:20
+stepped-shared-slice-read-fits : (t : ℕ) → stepped-lts.Need-shared-slice-read-fits (
+  daughters-reads.Asked,
+  daughters-reads.Learnt,
+  word-reads.Asked,
+  word-reads.Learnt,
+  search-below t,
+  search′.Post,
+  fits-reads.Asked,
+  fits-reads.Learnt,
+  expanded-below t,
+  expanded.Post,
+) (stepped-at t) stepped.Post
+stepped-shared-slice-read-fits t c = search needs
+
+-- src/search.rt:137:12
+stepped-fits-requires : (t : ℕ) → stepped-lts.Need-fits-requires (
+  daughters-reads.Asked,
+  daughters-reads.Learnt,
+  word-reads.Asked,
+  word-reads.Learnt,
+  search-below t,
+  search′.Post,
+  fits-reads.Asked,
+  fits-reads.Learnt,
+  expanded-below t,
+  expanded.Post,
+) (stepped-at t) stepped.Post
+stepped-fits-requires t c κs = search needs
+
+-- src/search.rt:142:17
+stepped-add-search-2 : (t : ℕ) → stepped-lts.Need-add-search-2 (
+  daughters-reads.Asked,
+  daughters-reads.Learnt,
+  word-reads.Asked,
+  word-reads.Learnt,
+  search-below t,
+  search′.Post,
+  fits-reads.Asked,
+  fits-reads.Learnt,
+  expanded-below t,
+  expanded.Post,
+) (stepped-at t) stepped.Post
+stepped-add-search-2 t c =
+    let s = c .before .before .before .before .before .before .before .before .before .before in
+    let a = s .args in
+    let p = s .pre .1 in
+    let f = p .file in
+    let rd = p .ready in
+    let fr = p .fronted in
+    omega (arith, (c .before .before .before .if3 .left))
+
+-- src/search.rt:144:17
+stepped-add-search-3 : (t : ℕ) → stepped-lts.Need-add-search-3 (
+  daughters-reads.Asked,
+  daughters-reads.Learnt,
+  word-reads.Asked,
+  word-reads.Learnt,
+  search-below t,
+  search′.Post,
+  fits-reads.Asked,
+  fits-reads.Learnt,
+  expanded-below t,
+  expanded.Post,
+) (stepped-at t) stepped.Post
+stepped-add-search-3 t c =
+    let s = c .before .before .before .before .before .before .before .before .before .before in
+    let a = s .args in
+    let p = s .pre .1 in
+    let f = p .file in
+    let rd = p .ready in
+    let fr = p .fronted in
+    omega (arith, rd .held .ordered, rd .held .within)
+
+-- src/search.rt:146:17
+stepped-sub-search-3 : (t : ℕ) → stepped-lts.Need-sub-search-3 (
+  daughters-reads.Asked,
+  daughters-reads.Learnt,
+  word-reads.Asked,
+  word-reads.Learnt,
+  search-below t,
+  search′.Post,
+  fits-reads.Asked,
+  fits-reads.Learnt,
+  expanded-below t,
+  expanded.Post,
+) (stepped-at t) stepped.Post
+stepped-sub-search-3 t c =
+    let s = c .before .before .before .before .before .before .before .before .before .before in
+    let a = s .args in
+    let p = s .pre .1 in
+    let f = p .file in
+    let rd = p .ready in
+    let fr = p .fronted in
+    omega (arith, fr .predicted)
+
+-- src/search.rt:148:17
+stepped-sub-search-4 : (t : ℕ) → stepped-lts.Need-sub-search-4 (
+  daughters-reads.Asked,
+  daughters-reads.Learnt,
+  word-reads.Asked,
+  word-reads.Learnt,
+  search-below t,
+  search′.Post,
+  fits-reads.Asked,
+  fits-reads.Learnt,
+  expanded-below t,
+  expanded.Post,
+) (stepped-at t) stepped.Post
+stepped-sub-search-4 t c =
+    let s = c .before .before .before .before .before .before .before .before .before .before in
+    let a = s .args in
+    let p = s .pre .1 in
+    let f = p .file in
+    let rd = p .ready in
+    let fr = p .fronted in
+    omega (arith, fr .predicted, rd .fits)
+
+-- src/search.rt:138:13
+stepped-search-requires-2 : (t : ℕ) → stepped-lts.Need-search-requires-2 (
+  daughters-reads.Asked,
+  daughters-reads.Learnt,
+  word-reads.Asked,
+  word-reads.Learnt,
+  search-below t,
+  search′.Post,
+  fits-reads.Asked,
+  fits-reads.Learnt,
+  expanded-below t,
+  expanded.Post,
+) (stepped-at t) stepped.Post
+stepped-search-requires-2 t c κs =
+    let s = c .before .before .before .before .before .before .before .before .before .before .before in
+    let a = s .args in
+    let p = s .pre .1 in
+    let f = p .file in
+    let rd = p .ready in
+    let fr = p .fronted in
+    (omega (arith, s .pre .0, fr .predicted, rd .fits), record { file = f; ready = word-ready f (a .t .now) (a .chain .now) (a .s .now) (a .read) (a .q .now) (a .from) (a .to) (a .pending) (a .made) (a .fuel) (a .sheet .now) rd (a .r) fr (sym (c .before .before .before .before .before .before .before .before .before .daughters .ensures) ∙ (c .before .before .before .before .before .before .before .before .if1 .taken)) (λ z. (c .before .before .before .before .before .if2 .left) ((c .before .before .before .before .before .before .before .word .ensures) ∙ z)) (c .before .before .before .before .if3 .left) (ap (λ (w : ℕ). wordFits w (getD (a .s .now) (a .read) 0)) (sym (c .before .before .before .before .before .before .before .word .ensures)) ∙ sym (c .before .before .fits2 .ensures) ∙ (c .before .if4 .taken)) })
+
+-- src/search.rt:138:13
+stepped-returns-3 : (t : ℕ) → stepped-lts.Need-returns-3 (
+  daughters-reads.Asked,
+  daughters-reads.Learnt,
+  word-reads.Asked,
+  word-reads.Learnt,
+  search-below t,
+  search′.Post,
+  fits-reads.Asked,
+  fits-reads.Learnt,
+  expanded-below t,
+  expanded.Post,
+) (stepped-at t) stepped.Post
+stepped-returns-3 t c =
+    let s = c .before .before .before .before .before .before .before .before .before .before .before .before in
+    let a = s .args in
+    λ f rd fr.
+    let k = c .search2 in
+    next-word f (a .t .now) (a .chain .now) (a .s .now) (a .read) (a .q .now) (a .from) (a .to) (a .pending) (a .made) (a .fuel) (a .sheet .now) rd (a .r) fr (sym (c .before .before .before .before .before .before .before .before .before .before .daughters .ensures) ∙ (c .before .before .before .before .before .before .before .before .before .if1 .taken)) (λ z. (c .before .before .before .before .before .before .if2 .left) ((c .before .before .before .before .before .before .before .before .word .ensures) ∙ z)) (c .before .before .before .before .before .if3 .left) (ap (λ (w : ℕ). wordFits w (getD (a .s .now) (a .read) 0)) (sym (c .before .before .before .before .before .before .before .before .word .ensures)) ∙ sym (c .before .before .before .fits2 .ensures) ∙ (c .before .before .if4 .taken)) (k .result) _ (k .ensures f (word-ready f (a .t .now) (a .chain .now) (a .s .now) (a .read) (a .q .now) (a .from) (a .to) (a .pending) (a .made) (a .fuel) (a .sheet .now) rd (a .r) fr (sym (c .before .before .before .before .before .before .before .before .before .before .daughters .ensures) ∙ (c .before .before .before .before .before .before .before .before .before .if1 .taken)) (λ z. (c .before .before .before .before .before .before .if2 .left) ((c .before .before .before .before .before .before .before .before .word .ensures) ∙ z)) (c .before .before .before .before .before .if3 .left) (ap (λ (w : ℕ). wordFits w (getD (a .s .now) (a .read) 0)) (sym (c .before .before .before .before .before .before .before .before .word .ensures)) ∙ sym (c .before .before .before .fits2 .ensures) ∙ (c .before .before .if4 .taken))))
+
+-- src/search.rt:152:9
+stepped-returns-4 : (t : ℕ) → stepped-lts.Need-returns-4 (
+  daughters-reads.Asked,
+  daughters-reads.Learnt,
+  word-reads.Asked,
+  word-reads.Learnt,
+  search-below t,
+  search′.Post,
+  fits-reads.Asked,
+  fits-reads.Learnt,
+  expanded-below t,
+  expanded.Post,
+) (stepped-at t) stepped.Post
+stepped-returns-4 t c =
+    let s = c .before .before .before .before .before .before .before .before .before .before in
+    let a = s .args in
+    λ f rd fr.
+    other-word f (a .t .now) (a .chain .now) (a .s .now) (a .read) (a .q .now) (a .from) (a .to) (a .pending) (a .made) (a .fuel) (a .sheet .now) rd (a .r) fr (sym (c .before .before .before .before .before .before .before .before .daughters .ensures) ∙ (c .before .before .before .before .before .before .before .if1 .taken)) (λ z. (c .before .before .before .before .if2 .left) ((c .before .before .before .before .before .before .word .ensures) ∙ z)) (c .before .before .before .if3 .left) (ap (λ (w : ℕ). wordFits w (getD (a .s .now) (a .read) 0)) (sym (c .before .before .before .before .before .before .word .ensures)) ∙ sym (c .before .fits2 .ensures) ∙ c .if4 .left)
+
+-- src/search.rt:154:25
+stepped-cast-if5 : (t : ℕ) → stepped-lts.Need-cast-if5 (
+  daughters-reads.Asked,
+  daughters-reads.Learnt,
+  word-reads.Asked,
+  word-reads.Learnt,
+  search-below t,
+  search′.Post,
+  fits-reads.Asked,
+  fits-reads.Learnt,
+  expanded-below t,
+  expanded.Post,
+) (stepped-at t) stepped.Post
+stepped-cast-if5 t c = search needs
+
+-- src/search.rt:154:15
+stepped-add-if5 : (t : ℕ) → stepped-lts.Need-add-if5 (
+  daughters-reads.Asked,
+  daughters-reads.Learnt,
+  word-reads.Asked,
+  word-reads.Learnt,
+  search-below t,
+  search′.Post,
+  fits-reads.Asked,
+  fits-reads.Learnt,
+  expanded-below t,
+  expanded.Post,
+) (stepped-at t) stepped.Post
+stepped-add-if5 t c =
+    let s = c .before .before .before in
+    let a = s .args in
+    let p = s .pre .1 in
+    let f = p .file in
+    let rd = p .ready in
+    let fr = p .fronted in
+    omega (arith, rd .fits, rd .short, fit f (a .t .now) (a .chain .now) (a .s .now) (a .read) (a .q .now) (a .from) (a .to) (a .pending) (a .made) (a .fuel) (a .sheet .now) rd (a .r) fr .few, (c .before .daughters .ensures))
+
+-- src/search.rt:155:9
+stepped-returns-5 : (t : ℕ) → stepped-lts.Need-returns-5 (
+  daughters-reads.Asked,
+  daughters-reads.Learnt,
+  word-reads.Asked,
+  word-reads.Learnt,
+  search-below t,
+  search′.Post,
+  fits-reads.Asked,
+  fits-reads.Learnt,
+  expanded-below t,
+  expanded.Post,
+) (stepped-at t) stepped.Post
+stepped-returns-5 t c =
+    let s = c .before .before .before .before in
+    let a = s .args in
+    λ f rd fr.
+    queue-long f (a .t .now) (a .chain .now) (a .s .now) (a .read) (a .q .now) (a .from) (a .to) (a .pending) (a .made) (a .fuel) (a .sheet .now) rd (a .r) fr (not-none (getD (a .t .now) (32 * a .r) 0) (λ z. (c .before .if1 .left) ((c .before .before .daughters .ensures) ∙ z))) (omega (arith, c .if5 .taken, (c .before .before .daughters .ensures)))
+
+-- src/search.rt:157:5
+stepped-expanded-requires : (t : ℕ) → stepped-lts.Need-expanded-requires (
+  daughters-reads.Asked,
+  daughters-reads.Learnt,
+  word-reads.Asked,
+  word-reads.Learnt,
+  search-below t,
+  search′.Post,
+  fits-reads.Asked,
+  fits-reads.Learnt,
+  expanded-below t,
+  expanded.Post,
+) (stepped-at t) stepped.Post
+stepped-expanded-requires t c κs =
+    let s = c .before .before .before .before .before in
+    let a = s .args in
+    let p = s .pre .1 in
+    let f = p .file in
+    let rd = p .ready in
+    let fr = p .fronted in
+    let e = (c .before .before .before .daughters .ensures) in
+    (omega (arith, s .pre .0), (p, e, omega (arith, e, (not-none (getD (a .t .now) (32 * a .r) 0) (λ z. (c .before .before .if1 .left) ((c .before .before .before .daughters .ensures) ∙ z)))), omega (arith, (c .before .if5 .left))))
+
+-- src/search.rt:98:1
+stepped-returns-6 : (t : ℕ) → stepped-lts.Need-returns-6 (
+  daughters-reads.Asked,
+  daughters-reads.Learnt,
+  word-reads.Asked,
+  word-reads.Learnt,
+  search-below t,
+  search′.Post,
+  fits-reads.Asked,
+  fits-reads.Learnt,
+  expanded-below t,
+  expanded.Post,
+) (stepped-at t) stepped.Post
+stepped-returns-6 t c = c .expanded .ensures
+
+pub +expanded+search+stepped-spec : {M : Type 1} → statement M
++expanded+search+stepped-spec = close μ-expanded μ-search μ-stepped (λ t. expanded-lts.spec (
+  expand-reads.Asked,
+  expand-reads.Learnt,
+  search-below t,
+  search′.Post,
+)
+    (expanded-at t)
+    expanded.Post
+    (expanded-mul-expand t)
+    (expanded-expand-requires t)
+    (expanded-sub-search t)
+    (expanded-add-search t)
+    (expanded-add-search-2 t)
+    (expanded-sub-search-2 t)
+    (expanded-search-requires t)
+    (expanded-returns t))
+    (λ t. search-lts.spec (
+      complete-reads.Asked,
+      complete-reads.Learnt,
+      category-reads.Asked,
+      category-reads.Learnt,
+      stepped-below t,
+      stepped.Post,
+      note-reads.Asked,
+      note-reads.Learnt,
+    )
+    (search-at t)
+    search′.Post
+    search-Inv-loop
+    search-μ-loop
+    (search-element-copy-out-budget t)
+    (search-returns t)
+    (search-sub-sheet t)
+    (search-element-write-sheet t)
+    (search-sub-complete t)
+    (search-complete-requires t)
+    (search-returns-2 t)
+    (search-returns-3 t)
+    (search-mul-category t)
+    (search-element-copy-out-category t)
+    (search-category-requires t)
+    (search-cast-a t)
+    (search-mul-r t)
+    (search-element-copy-out-r t)
+    (search-loop-holds t)
+    (search-element-copy-out-first t)
+    (search-stepped-requires t)
+    (search-sub-note t)
+    (search-note-requires t)
+    (search-cast-i t)
+    (search-add-r t)
+    (search-mul-r-2 t)
+    (search-element-copy-out-r-2 t)
+    (search-loop-less t)
+    (search-loop-again t)
+    (search-returns-4 t)
+    (search-returns-5 t))
+    λ t. stepped-lts.spec (
+      daughters-reads.Asked,
+      daughters-reads.Learnt,
+      word-reads.Asked,
+      word-reads.Learnt,
+      search-below t,
+      search′.Post,
+      fits-reads.Asked,
+      fits-reads.Learnt,
+      expanded-below t,
+      expanded.Post,
+    )
+    (stepped-at t)
+    stepped.Post
+    (stepped-mul-at t)
+    (stepped-daughters-requires t)
+    (stepped-word-requires t)
+    (stepped-add-search t)
+    (stepped-sub-search t)
+    (stepped-sub-search-2 t)
+    (stepped-search-requires t)
+    (stepped-returns t)
+    (stepped-returns-2 t)
+    (stepped-mul-fits t)
+    (stepped-shared-slice-read-fits t)
+    (stepped-fits-requires t)
+    (stepped-add-search-2 t)
+    (stepped-add-search-3 t)
+    (stepped-sub-search-3 t)
+    (stepped-sub-search-4 t)
+    (stepped-search-requires-2 t)
+    (stepped-returns-3 t)
+    (stepped-returns-4 t)
+    (stepped-cast-if5 t)
+    (stepped-add-if5 t)
+    (stepped-returns-5 t)
+    (stepped-expanded-requires t)
+    (stepped-returns-6 t)
