@@ -20,15 +20,15 @@ use Rattle.model.proofs.Tests.{and-l, and-r}
 use Rattle.listing.specs.Stream.{upToFirst, liveAfter, lookedAt, entriesAfter, firstOf, nextOf, streamed}
 use Rattle.analyses.proofs.FoundEntry.{got}
 
-is-true : (b : Bool) → T b → b ≡ true
+pub is-true : (b : Bool) → T b → b ≡ true
 is-true true t = refl
 is-true false t = absurd t
 
-is-false : (b : Bool) → (T b → ⊥) → b ≡ false
+pub is-false : (b : Bool) → (T b → ⊥) → b ≡ false
 is-false true f = absurd (f tt)
 is-false false f = refl
 
-or-cases : (a b : Bool) → T (a || b) → T a ⊎ T b
+pub or-cases : (a b : Bool) → T (a || b) → T a ⊎ T b
 or-cases true b t = inl tt
 or-cases false b t = inr t
 
@@ -46,7 +46,7 @@ before-asym (x ∷ p) (y ∷ q) t u =
     go (inr v) (inl w) ih = omega (arith, eqb→eq x y (and-l (eqb x y) (before p q) v), ltb→lt y x w)
     go (inr v) (inr w) ih = ih (and-r (eqb x y) (before p q) v) (and-r (eqb y x) (before q p) w)
 
-keep-whole : (f : List ℕ → Bool) (l : List (List ℕ)) → ((p : List ℕ) → List·Memᴰ p l → T (f p)) → keep f l ≡ l
+pub keep-whole : (f : List ℕ → Bool) (l : List (List ℕ)) → ((p : List ℕ) → List·Memᴰ p l → T (f p)) → keep f l ≡ l
 keep-whole f [] h = refl
 keep-whole f (x ∷ l) h =
     ap₂ (λ (b : Bool) (m : List (List ℕ)). if b then x ∷ m else m) (is-true (f x) (h x (List·Memᴰ·head refl))) (keep-whole f l (λ p m. h p (List·Memᴰ·tail m)))
