@@ -19,9 +19,6 @@
 #include <stddef.h>
 #include <stdint.h>
 
-/* 1 where the library has the three calls on derivation trees. */
-#define DOWNGRATER_TREES 0
-
 #ifdef __cplusplus
 extern "C" {
 #endif
@@ -39,7 +36,6 @@ uint64_t dg_write_grammar(uint8_t categories, uint8_t start, uint16_t words, uin
 uint64_t dg_check_trace(const uint8_t *file, size_t file_len, const uint16_t *sentence, size_t words,
                         const uint16_t *trace, size_t trace_len);
 
-#if DOWNGRATER_TREES
 /* The tree checker; its value is the number of nodes. */
 uint64_t dg_check_tree(const uint8_t *file, size_t file_len, const uint16_t *sentence, size_t words,
                        const uint16_t *tree, size_t tree_len);
@@ -49,7 +45,6 @@ uint64_t dg_trace_to_tree(const uint8_t *file, size_t file_len, const uint16_t *
                           const uint16_t *trace, size_t trace_len, uint16_t *out, size_t out_len);
 uint64_t dg_tree_to_trace(const uint8_t *file, size_t file_len, const uint16_t *sentence, size_t words,
                           const uint16_t *tree, size_t tree_len, uint16_t *out, size_t out_len);
-#endif
 
 /* The count of analyses with at most node_limit nodes; its value is count and effort. */
 uint64_t dg_count(const uint8_t *file, size_t file_len, const uint16_t *sentence, size_t words,

@@ -1,21 +1,14 @@
 //! Links libdowngrater.a from the folder DOWNGRATER_LIB, by default from target/staticlib at the top of the repository. Where there is no
-//! library the crate builds without it. Whether the library has the calls on derivation trees is what include/downgrater.h says.
+//! library the crate builds without it.
 
 use std::path::{Path, PathBuf};
-use std::{env, fs};
+use std::env;
 
 fn main() {
     println!("cargo::rustc-check-cfg=cfg(downgrater_library)");
-    println!("cargo::rustc-check-cfg=cfg(downgrater_trees)");
     println!("cargo::rerun-if-env-changed=DOWNGRATER_LIB");
     let here = env::var("CARGO_MANIFEST_DIR").expect("cargo sets it");
     let top = Path::new(&here).join("../..");
-    let header = top.join("include/downgrater.h");
-    println!("cargo::rerun-if-changed={}", header.display());
-    let header = fs::read_to_string(header).expect("the header is there");
-    if header.lines().any(|line| line == "#define DOWNGRATER_TREES 1") {
-        println!("cargo::rustc-cfg=downgrater_trees");
-    }
     let folder = env::var("DOWNGRATER_LIB").map_or(top.join("target/staticlib"), PathBuf::from);
     let file = folder.join("libdowngrater.a");
     println!("cargo::rerun-if-changed={}", file.display());

@@ -1,30 +1,25 @@
 -- The search at a state: without budget, without predictions, and with its rules.
 -- Assumes nothing.
-use mathlib.Core.Path.{_≡_, refl, sym, ap, ap₂, subst, _∙_}
+use mathlib.Core.Path.{_≡_, refl, sym, ap, ap₂, _∙_}
 use mathlib.Core.Bool.{Bool, true, false}
-use mathlib.Core.Option.{Option, none, some}
 use mathlib.Core.List.{List, [], _∷_, _++_, map}
-use Prim.Native.Nat.{ℕ, zero, suc, _+_, _-_, _*_, _/_, _%_, _<_, _≤_}
+use Prim.Native.Nat.{ℕ, zero, suc, _+_, _-_, _<_, _≤_}
 use native.Mathlib.Omega.{arith}
 use native.Mathlib.Decide.{decLt}
-use borrow.Author.Tests.{lt-ltb, le-ltb, eqb-true}
-use lib.Dec.{eqb, ltb}
-use lib.ListN.{length, getD, drop, length-append, length-map, drop-of-length-le}
+use lib.ListN.{length, getD, drop, length-map, drop-of-length-le}
 use lib.Seq.{slice, slice-cons, drop-cons, length-slice}
-use Rattle.model.specs.Base.{if_then_else_, each, numbersFrom}
-use Rattle.model.specs.Grammar.{Rule, Grammar, ruleAt}
-use Rattle.model.specs.GrammarFile.{grammarOf, rulesOf}
-use Rattle.model.specs.Rows.{Slot, RowState, finishedRow, walkRow, anyRow, endRow, foundFromRow}
-use Rattle.model.proofs.FromFile.{ruleRead, rule-read, rules-in}
+use Rattle.model.specs.Grammar.{Grammar}
+use Rattle.model.specs.GrammarFile.{grammarOf}
+use Rattle.model.specs.Rows.{Slot, RowState, anyRow, endRow, foundFromRow}
+use Rattle.model.proofs.FromFile.{rules-in}
 use Rattle.model.proofs.RowsBounds.{file-row}
 use Rattle.model.proofs.WellFormed.{rules-length}
+use Rattle.model.proofs.Tests.{not-both}
 use Rattle.recognizer.specs.Row.{unpacked, rowOf}
-use Rattle.analyses.specs.Chain.{isBy, isOf, firstRule}
-use Rattle.analyses.specs.Tally.{effortBelow, countBelow, Searched, spentOne, completed}
+use Rattle.analyses.specs.Tally.{effortBelow, Searched, spentOne, completed}
 use Rattle.analyses.specs.Search.{standing, Ready, SearchedAt, under, upTo, SearchedRules}
-use Rattle.analyses.proofs.Rules.{upTo-next}
-use Rattle.analyses.proofs.Searches.{not-both, searched-as, searched-joined, searched-spent, searched-complete}
-use Rattle.analyses.proofs.Walks.{walk-empty, walk-length, each-few, count-few}
+use Rattle.analyses.proofs.Searches.{searched-as, searched-joined, searched-spent, searched-complete}
+use Rattle.analyses.proofs.Walks.{walk-empty, walk-length}
 use Rattle.analyses.proofs.Turns.{row-some}
 
 pub not-none : (n : ℕ) → (n ≡ 0 → ⊥) → 1 ≤ n

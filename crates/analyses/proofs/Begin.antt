@@ -1,6 +1,6 @@
 -- The search from the start: it is ready, and finds the listing at the effort of document 01.
 -- Assumes nothing.
-use mathlib.Core.Path.{_≡_, refl, sym, ap, subst, _∙_}
+use mathlib.Core.Path.{_≡_, sym, ap, subst, _∙_}
 use mathlib.Core.Bool.{Bool}
 use mathlib.Core.Option.{none}
 use mathlib.Core.List.{List, [], _∷_}
@@ -10,11 +10,11 @@ use lib.ListN.{length, getD}
 use Rattle.model.specs.Grammar.{Grammar}
 use Rattle.model.specs.GrammarFile.{grammarRefusal, grammarOf, startOf}
 use Rattle.model.specs.Counting.{listing, effort}
-use Rattle.model.specs.Rows.{Slot, RowState, beginRow, foundFromRow}
+use Rattle.model.specs.Rows.{Slot, beginRow, foundFromRow}
 use Rattle.model.proofs.FromFile.{accepted-right}
 use Rattle.model.proofs.RowsAgree.{rows-agree}
 use Rattle.model.proofs.RowsBounds.{Reached, reached-begin}
-use Rattle.recognizer.specs.Row.{rowOf, stateOf, Held}
+use Rattle.recognizer.specs.Row.{rowOf, Held}
 use Rattle.recognizer.specs.Table.{Compiled}
 use Rattle.analyses.specs.Chain.{Chained}
 use Rattle.analyses.specs.Tally.{effortBelow, Searched}

@@ -4,23 +4,21 @@ use mathlib.Core.Path.{_≡_, refl, sym, ap, ap₂, _∙_}
 use mathlib.Core.Bool.{Bool, true, false}
 use mathlib.Core.Option.{Option, none, some}
 use mathlib.Core.List.{List}
-use Prim.Native.Nat.{ℕ, _+_, _-_, _<_, _≤_}
+use Prim.Native.Nat.{ℕ, _-_, _≤_}
 use native.Mathlib.Omega.{arith}
 use borrow.Author.Tests.{lt-ltb, le-ltb}
 use lib.Dec.{ltb}
-use lib.ListN.{length, getD}
+use lib.ListN.{getD}
 use Rattle.model.specs.declared.Refusal.{Refusal}
-use Rattle.model.specs.declared.Verdict.{Verdict}
 use Rattle.model.specs.declared.CountVerdict.{CountVerdict}
 use Rattle.model.specs.Base.{_orElse_}
-use Rattle.model.specs.Verdict.{refuseIf, verdict, countVerdict}
+use Rattle.model.specs.Verdict.{refuseIf, countVerdict}
 use Rattle.model.specs.Grammar.{Grammar}
 use Rattle.model.specs.GrammarFile.{grammarRefusal, grammarOf}
 use Rattle.model.specs.Trace.{sentenceRefusal}
 use Rattle.model.specs.Counting.{limitsRefusal, effortRefusal, listing, count, effort}
 use Rattle.model.specs.Calls.{countCall}
-use Rattle.model.proofs.Tests.{first-of, rest-of}
-use Rattle.model.proofs.Verdicts.{met, passed}
+use Rattle.model.proofs.Tests.{first-of, rest-of, last-apart}
 use Rattle.analyses.specs.Tests.{beforeSearch}
 use Rattle.analyses.specs.Tally.{Searched}
 
@@ -62,14 +60,8 @@ module _ (file sentence : List ℕ) (n limit : ℕ) where
       let r = rest-of G (L orElse W) e in
       (first-of G (L orElse W) e, first-of L W r, rest-of L W r)
 
-  joined : (a b c d : Option Refusal) → (a orElse b orElse c orElse d) ≡ ((a orElse b orElse c) orElse d)
-  joined none none none d = refl
-  joined none none (some x) d = refl
-  joined none (some x) c d = refl
-  joined (some x) b c d = refl
-
   call-is : countCall file sentence n limit ≡ countVerdict (beforeSearch file sentence n limit orElse E) (count (grammarOf file) sentence n) (effort (grammarOf file) sentence n)
-  call-is = ap (λ (o : Option Refusal). countVerdict o (count (grammarOf file) sentence n) (effort (grammarOf file) sentence n)) (joined G L W E)
+  call-is = ap (λ (o : Option Refusal). countVerdict o (count (grammarOf file) sentence n) (effort (grammarOf file) sentence n)) (last-apart G L W E)
 
   pub searched-call : beforeSearch file sentence n limit ≡ none → (v : CountVerdict) → v ≡ countVerdict E (count (grammarOf file) sentence n) (effort (grammarOf file) sentence n)
       → v ≡ countCall file sentence n limit

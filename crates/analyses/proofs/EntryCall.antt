@@ -4,8 +4,6 @@ use mathlib.Core.Path.{_≡_, refl, sym, ap, _∙_}
 use mathlib.Core.Option.{Option, none, some}
 use mathlib.Core.List.{List}
 use Prim.Native.Nat.{ℕ, _≤_}
-use borrow.Author.Tests.{ltb-false}
-use lib.Dec.{ltb}
 use lib.ListN.{length}
 use Rattle.model.specs.declared.Refusal.{Refusal}
 use Rattle.model.specs.declared.Verdict.{Verdict}
@@ -15,8 +13,8 @@ use Rattle.model.specs.GrammarFile.{grammarRefusal, grammarOf}
 use Rattle.model.specs.Trace.{sentenceRefusal}
 use Rattle.model.specs.Counting.{limitsRefusal, entry}
 use Rattle.model.specs.Calls.{written, roomRefusal, entryCallRefusal, entryVerdict, entryOutput}
-use Rattle.model.proofs.Tests.{first-of, rest-of, no-refusal}
-use Rattle.model.proofs.Verdicts.{met, stopped}
+use Rattle.model.proofs.Tests.{first-of, rest-of}
+use Rattle.model.proofs.Verdicts.{met, stopped, room-long}
 use Rattle.analyses.specs.Tests.{beforeEntry, afterSearch}
 
 module _ (file sentence : List ℕ) (n limit m : ℕ) (out : List ℕ) where
@@ -44,7 +42,7 @@ module _ (file sentence : List ℕ) (n limit m : ℕ) (out : List ℕ) where
   pub tests-passed : B ≡ none → (G ≡ none) × (L ≡ none) × (96 ≤ length out)
   tests-passed e =
       let r = rest-of G (O orElse L orElse W) e in
-      (first-of G (O orElse L orElse W) e, first-of L W (rest-of O (L orElse W) r), ltb-false (length out) 96 (no-refusal (ltb (length out) 96) (Refusal.Desk 23 0) (first-of O (L orElse W) r)))
+      (first-of G (O orElse L orElse W) e, first-of L W (rest-of O (L orElse W) r), room-long out (first-of O (L orElse W) r))
 
   joined : (a b c d e : Option Refusal) → (a orElse b orElse c orElse d orElse e) ≡ ((a orElse b orElse c orElse d) orElse e)
   joined none none none none e = refl

@@ -1,9 +1,9 @@
 -- The call for an entry, from the sheet after the search.
 -- Assumes nothing.
-use mathlib.Core.Path.{_≡_, refl, sym, ap, ap₂, subst, _∙_}
-use mathlib.Core.Bool.{Bool, true, false}
-use mathlib.Core.Option.{Option, none, some}
-use mathlib.Core.List.{List, [], _∷_, _++_, map, List·Memᴰ, List·Memᴰ·head, List·Memᴰ·tail}
+use mathlib.Core.Path.{_≡_, refl, sym, ap, subst, _∙_}
+use mathlib.Core.Bool.{true, false}
+use mathlib.Core.Option.{none, some}
+use mathlib.Core.List.{List, [], _++_, List·Memᴰ}
 use Prim.Native.Nat.{ℕ, zero, suc, _+_, _-_, _%_, _<_, _≤_}
 use native.Mathlib.Omega.{arith}
 use native.Mathlib.Nat.{mod-eq-of-lt}
@@ -13,25 +13,20 @@ use lib.ListN.{length, getD, take, drop, length-map, length-drop, List·getD-map
 use lib.Seq.{slice, length-slice, getD-take, getD-drop, ext-getD}
 use Rattle.model.specs.declared.Refusal.{Refusal}
 use Rattle.model.specs.declared.Verdict.{Verdict}
-use Rattle.model.specs.Base.{_orElse_}
-use Rattle.model.specs.Verdict.{refuseIf, verdict}
+use Rattle.model.specs.Verdict.{verdict}
 use Rattle.model.specs.Grammar.{Grammar}
-use Rattle.model.specs.GrammarFile.{grammarRefusal, grammarOf, rulesOf}
-use Rattle.model.specs.Counting.{effortRefusal, entryRefusal, listing, count, effort, entry}
+use Rattle.model.specs.GrammarFile.{grammarRefusal, grammarOf}
+use Rattle.model.specs.Counting.{listing, count, effort, entry}
 use Rattle.model.specs.Calls.{written}
 use Rattle.model.specs.Rows.{beginRow, foundFromRow}
 use Rattle.model.proofs.FromFile.{rules-in}
+use Rattle.model.proofs.Lists.{mem-getD}
 use Rattle.model.proofs.RowsAgree.{rows-agree}
 use Rattle.model.proofs.WellFormed.{rules-length}
 use Rattle.analyses.specs.Tally.{kept, Searched}
 use Rattle.analyses.specs.Tests.{afterSearch, lowWords}
 use Rattle.analyses.proofs.Kept.{entry-in}
 use Rattle.analyses.proofs.Entries.{Entry, entries, kept-long, kept-end, kept-at}
-
-pub got : (l : List (List ℕ)) (i : ℕ) → i < length l → List·Memᴰ (getD l i []) l
-got [] i h = let z : ⊥ = omega arith in absurd z
-got (x ∷ l) zero h = List·Memᴰ·head refl
-got (x ∷ l) (suc i) h = List·Memᴰ·tail (got l i (omega arith))
 
 -- numbers below 256 that stand in the cells from a place on are the low words of those cells
 words-of : (after p : List ℕ) (place rules : ℕ) → 100 ≤ length after → place + length p ≤ 96 → rules ≤ 256
@@ -75,7 +70,7 @@ module _ (file : List ℕ) (accepted : grammarRefusal file ≡ none) (sentence :
 
   pub is-entry : m < count g sentence n → Entry (length (g .rules)) n p
   is-entry h =
-      entries g n (beginRow g sentence) p (subst (λ (l : List (List ℕ)). List·Memᴰ p l) (listed n some) (got (listing g sentence n) m h))
+      entries g n (beginRow g sentence) p (subst (λ (l : List (List ℕ)). List·Memᴰ p l) (listed n some) (mem-getD (listing g sentence n) [] m h))
 
   module _ (before after out : List ℕ) (long : length before ≡ 100) (zero-count : getD before 0 0 ≡ 0) (budget : getD before 1 0 ≡ limit) (asked : getD before 2 0 ≡ m) where
     pub over-limit : Searched before (listing g sentence n) (effort g sentence n) (96 - n) false after

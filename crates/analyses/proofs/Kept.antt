@@ -1,14 +1,13 @@
 -- The entry asked for, kept by searches one after the other, and under a rule.
 -- Assumes nothing.
-use mathlib.Core.Path.{_≡_, refl, sym, ap, subst, _∙_}
-use mathlib.Core.Bool.{Bool, true, false, _&&_}
+use mathlib.Core.Path.{_≡_, refl, sym, ap, _∙_}
+use mathlib.Core.Bool.{Bool, true, false}
 use mathlib.Core.List.{List, [], _∷_, _++_, map}
 use Prim.Native.Nat.{ℕ, zero, suc, _+_, _-_, _<_, _≤_}
 use native.Mathlib.Omega.{arith}
-use native.Mathlib.Decide.{decLt, decLe}
+use native.Mathlib.Decide.{decLt}
 use borrow.Author.Tests.{le-leb, lt-leb, lt-ltb, le-ltb}
-use lib.Dec.{leb, ltb}
-use lib.ListN.{length, getD, set, length-append, length-map, List·getD-append}
+use lib.ListN.{length, getD, set, length-append, length-map}
 use lib.Seq.{getD-append-add}
 use Rattle.model.specs.Base.{if_then_else_}
 use Rattle.analyses.specs.Tally.{kept, among, keptEntry}

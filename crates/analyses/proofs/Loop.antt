@@ -1,30 +1,28 @@
 -- The search's loop over the rules of the front's category, rule after rule.
 -- Assumes nothing.
-use mathlib.Core.Path.{_≡_, refl, sym, ap, ap₂, subst, _∙_}
+use mathlib.Core.Path.{_≡_, refl, sym, ap, subst, _∙_}
 use mathlib.Core.Bool.{Bool, true, false}
-use mathlib.Core.Option.{Option, none, some}
+use mathlib.Core.Option.{Option}
 use mathlib.Core.List.{List, [], _∷_, _++_, map}
-use Prim.Native.Nat.{ℕ, zero, suc, _+_, _-_, _*_, _/_, _%_, _<_, _≤_}
+use Prim.Native.Nat.{ℕ, suc, _+_, _-_, _<_, _≤_}
 use native.Mathlib.Omega.{arith}
-use native.Mathlib.Decide.{decLt}
-use borrow.Author.Tests.{lt-ltb, le-ltb, eqb-true}
-use lib.Dec.{eqb, ltb}
-use lib.ListN.{length, getD, drop, length-append, length-map, drop-of-length-le}
-use lib.Seq.{slice, slice-cons, drop-cons, length-slice}
-use Rattle.model.specs.Base.{if_then_else_, each, numbersFrom}
-use Rattle.model.specs.Grammar.{Rule, Grammar, ruleAt}
-use Rattle.model.specs.GrammarFile.{grammarOf, rulesOf}
-use Rattle.model.specs.Rows.{Slot, RowState, finishedRow, walkRow, anyRow, endRow, foundFromRow}
+use borrow.Author.Tests.{eqb-true}
+use lib.ListN.{length, getD, length-append}
+use lib.Seq.{slice-cons}
+use Rattle.model.specs.Base.{numbersFrom}
+use Rattle.model.specs.Grammar.{Rule, Grammar}
+use Rattle.model.specs.GrammarFile.{grammarOf}
+use Rattle.model.specs.Rows.{RowState, walkRow, anyRow, endRow}
 use Rattle.model.proofs.FromFile.{ruleRead, rule-read, rules-in}
-use Rattle.model.proofs.RowsBounds.{file-row}
 use Rattle.model.proofs.WellFormed.{rules-length}
+use Rattle.model.proofs.Tests.{not-both}
 use Rattle.recognizer.specs.Row.{unpacked, rowOf}
 use Rattle.analyses.specs.Chain.{isBy, isOf, firstRule}
-use Rattle.analyses.specs.Tally.{effortBelow, countBelow, Searched, spentOne, completed}
+use Rattle.analyses.specs.Tally.{Searched}
 use Rattle.analyses.specs.Search.{standing, Ready, under, upTo, SearchedUnder, SearchedRules, Fronted, done, CameTo}
 use Rattle.analyses.proofs.Rules.{upTo-next, upTo-more, other-rule, first-later, done-here, done-all, skipped, here-found}
-use Rattle.analyses.proofs.Searches.{not-both, found-none, searched-as, searched-joined}
-use Rattle.analyses.proofs.Walks.{walk-empty, walk-length, each-few, count-few}
+use Rattle.analyses.proofs.Searches.{found-none, searched-as, searched-joined}
+use Rattle.analyses.proofs.Walks.{each-few, count-few}
 use Rattle.analyses.proofs.Turns.{row-some}
 
 module _ (file table chain sentence : List ℕ) (read : ℕ) (q : List ℕ) (from to pending made fuel : ℕ) (sheet : List ℕ)

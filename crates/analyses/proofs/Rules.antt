@@ -12,7 +12,7 @@ use lib.Dec.{eqb}
 use lib.ListN.{length, length-append}
 use Rattle.model.specs.Base.{if_then_else_, each, numbersFrom}
 use Rattle.model.specs.Grammar.{Rule, Grammar, ruleAt, isLexical}
-use Rattle.model.specs.Rows.{Slot, RowState, RowOutcome, halts, moves, scanRow, predictRow, applyRow, stepRow, extendByRow, extendRow, walkRow}
+use Rattle.model.specs.Rows.{Slot, RowState, halts, moves, scanRow, predictRow, applyRow, extendByRow, extendRow}
 use Rattle.model.proofs.Lists.{each-append}
 use Rattle.analyses.specs.Chain.{isBy, isOf, firstRule}
 use Rattle.analyses.specs.Search.{upTo, done}

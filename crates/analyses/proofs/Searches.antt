@@ -3,7 +3,7 @@
 use mathlib.Core.Path.{_≡_, refl, sym, ap, ap₂, subst, _∙_}
 use mathlib.Core.Bool.{Bool, true, false, _&&_}
 use mathlib.Core.List.{List, [], _∷_, _++_, map}
-use Prim.Native.Nat.{ℕ, zero, suc, _+_, _-_, _<_, _≤_}
+use Prim.Native.Nat.{ℕ, suc, _+_, _-_, _<_, _≤_}
 use native.Mathlib.Omega.{arith}
 use native.Mathlib.Decide.{ℕ-discrete, decLt}
 use borrow.Author.Tests.{eqb-true, eqb-false, eq-eqb, ne-eqb, le-leb, lt-leb, lt-ltb, le-ltb}
@@ -11,11 +11,9 @@ use lib.Dec.{leb, ltb, eqb}
 use lib.ListN.{length, getD, set, drop, length-append, length-map, length-set}
 use lib.Seq.{getD-set-same, getD-set-other, drop-set-lt, drop-set-add}
 use Rattle.model.specs.Base.{if_then_else_}
+use Rattle.model.proofs.Tests.{not-both}
 use Rattle.analyses.specs.Tally.{among, kept, keptEntry, Searched, spentOne, completed, noted}
 use Rattle.analyses.proofs.Kept.{entry-in, entry-before, entry-after, kept-joined, kept-under}
-
-pub not-both : {A : Type 0} → true ≡ false → A
-not-both e = let z : _≡_ {A = ℕ} 0 1 = cc in absurd (omega arith)
 
 nothing : (first m place : ℕ) (cells : List ℕ) → keptEntry [] first m place cells ≡ cells
 nothing first m place cells = go (decLt m first)

@@ -1,28 +1,27 @@
 -- The search in code, function by function: what each needs of the functions that it calls, and what it then ensures.
 -- Assumes nothing.
-use mathlib.Core.Path.{_≡_, refl, sym, ap, ap₂, subst, _∙_}
+use mathlib.Core.Path.{_≡_, refl, sym, ap, subst, _∙_}
 use mathlib.Core.Bool.{Bool, true, false}
-use mathlib.Core.Option.{Option, none, some}
-use mathlib.Core.List.{List, [], _∷_, _++_, map}
-use Prim.Native.Nat.{ℕ, zero, suc, _+_, _-_, _*_, _/_, _%_, _<_, _≤_}
+use mathlib.Core.Option.{Option}
+use mathlib.Core.List.{List, [], _∷_, map}
+use Prim.Native.Nat.{ℕ, suc, _+_, _-_, _*_, _/_, _%_, _<_, _≤_}
 use native.Mathlib.Omega.{arith}
 use borrow.Author.Tests.{eqb-true}
-use lib.Dec.{eqb}
 use lib.ListN.{length, getD, drop, length-map}
 use lib.Seq.{slice, length-slice}
-use Rattle.model.specs.Grammar.{Rule, Grammar, ruleAt}
-use Rattle.model.specs.GrammarFile.{grammarOf, rulesOf}
-use Rattle.model.specs.Rows.{Slot, RowState, moves, halts, stepRow, scanRow, walkRow, anyRow, endRow}
+use Rattle.model.specs.Grammar.{Rule, Grammar}
+use Rattle.model.specs.GrammarFile.{grammarOf}
+use Rattle.model.specs.Rows.{RowState, moves, halts, stepRow, scanRow, walkRow, anyRow, endRow}
 use Rattle.model.specs.Step.{wordFits}
 use Rattle.model.proofs.FromFile.{ruleRead, rule-read, rules-in, accepted-right}
-use Rattle.model.proofs.RowsBounds.{Reached, reached-step, file-row}
-use Rattle.recognizer.specs.Row.{unpacked, rowOf, stateOf, Held}
-use Rattle.recognizer.specs.Table.{CellsFit, Compiled}
+use Rattle.model.proofs.RowsBounds.{reached-step, file-row}
+use Rattle.recognizer.specs.Row.{unpacked, rowOf, Held}
+use Rattle.recognizer.specs.Table.{CellsFit}
 use Rattle.recognizer.specs.Expand.{nextRow, Appended}
 use Rattle.recognizer.specs.Steps.{Stands, Goes}
 use Rattle.recognizer.proofs.Steps.{cells-fit, scans, too-long, room, expands}
-use Rattle.analyses.specs.Chain.{isBy, isOf}
-use Rattle.analyses.specs.Tally.{effortBelow, Searched, noted}
+use Rattle.analyses.specs.Chain.{isBy}
+use Rattle.analyses.specs.Tally.{Searched, noted}
 use Rattle.analyses.specs.Search.{standing, Ready, SearchedAt, tails, under, SearchedTails, SearchedUnder, Fronted}
 use Rattle.analyses.proofs.Scans.{scan-empty, scan-none, scan-fits, scan-other}
 use Rattle.analyses.proofs.Searches.{found-none, searched-as, searched-under}

@@ -1,6 +1,6 @@
 -- What a search finds at a state: at one without predictions only that state counts, at any other the state and what is below each rule.
 -- Assumes nothing.
-use mathlib.Core.Path.{_≡_, refl, sym, ap, subst, _∙_}
+use mathlib.Core.Path.{_≡_, refl, ap, _∙_}
 use mathlib.Core.Bool.{Bool, true, false}
 use mathlib.Core.Option.{Option, none, some}
 use mathlib.Core.List.{List, [], _∷_, _++_, map, append-nil}
@@ -11,7 +11,7 @@ use lib.Dec.{leb}
 use lib.ListN.{length, length-append, length-map}
 use Rattle.model.specs.Base.{if_then_else_, each, numbersFrom}
 use Rattle.model.specs.Grammar.{Rule, Grammar, ruleAt}
-use Rattle.model.specs.Rows.{Slot, RowState, RowOutcome, halts, moves, applyRow, stepRow, finishedRow, extendIfRow, extendByRow, extendRow, walkRow, anyRow, endRow, liveFromRow, foundFromRow}
+use Rattle.model.specs.Rows.{Slot, RowState, RowOutcome, halts, moves, applyRow, stepRow, finishedRow, extendIfRow, extendByRow, extendRow, walkRow, anyRow, endRow}
 use Rattle.analyses.specs.Tally.{effortBelow, countBelow}
 use Rattle.analyses.specs.Search.{tailsBy, tails, under, upTo}
 

@@ -1,41 +1,10 @@
-// Counts analyses and asks for entries (document 01, K5, K6 and K10), and prints each answer on a line: count and effort, or the steps of an entry, or R
-// with the refusal's number and place.
-use buffers::number_at;
+// Counts analyses, asks for entries and goes from entry to entry (document 01, K5, K6 and K10), and prints each answer on a line: count and effort, or the
+// steps of an entry, or R with the refusal's number and place.
 use libc::STDOUT_FILENO;
 use model::CountVerdict;
-use model::Refusal;
-use model::Verdict;
-
-fn load(path: &[u8], buf: &mut [u8]) -> usize {
-    let fd = os::open_read(path);
-    if fd < 0 {
-        return 0;
-    }
-    let n = io::read_full(fd, buf);
-    libc::close(fd);
-    n
-}
-
-fn print_refusal(r: Refusal) {
-    io::write_all(STDOUT_FILENO, b"R ");
-    io::print_decimal(STDOUT_FILENO, model::number_of(r) as u64);
-    io::write_all(STDOUT_FILENO, b" ");
-    io::print_decimal(STDOUT_FILENO, model::place_of(r) as u64);
-    io::write_all(STDOUT_FILENO, b"\n");
-}
-
-fn print_steps(count: u64, steps: &[u16]) {
-    let mut i: u64 = 0;
-    while i < count {
-        if 0 < i {
-            io::write_all(STDOUT_FILENO, b" ");
-        }
-        let x = number_at(steps, i as usize);
-        io::print_decimal(STDOUT_FILENO, x as u64);
-        i += 1;
-    }
-    io::write_all(STDOUT_FILENO, b"\n");
-}
+use showing::load;
+use showing::print_refusal;
+use showing::print_written;
 
 fn show_count(file: &[u8], sentence: &[u16], n: u64, limit: u64) {
     let v = analyses::count(file, sentence, n, limit);
@@ -55,14 +24,13 @@ fn show_count(file: &[u8], sentence: &[u16], n: u64, limit: u64) {
 fn show_entry(file: &[u8], sentence: &[u16], n: u64, m: u64) {
     let mut out = [0u16; 96];
     let v = analyses::entry(file, sentence, n, 1000000, m, &mut out);
-    match v {
-        Verdict::Accepted(steps) => {
-            print_steps(steps, &out);
-        }
-        Verdict::Refused(r) => {
-            print_refusal(r);
-        }
-    }
+    print_written(v, &out);
+}
+
+fn show_next(file: &[u8], sentence: &[u16], n: u64, previous: &[u16]) {
+    let mut out = [0u16; 96];
+    let v = listing::next_entry(file, sentence, n, 1000000, previous, &mut out);
+    print_written(v, &out);
 }
 
 // K5 and K6
@@ -78,16 +46,15 @@ fn pair_cases(file: &[u8]) {
     show_entry(file, &[0, 0, 0], 5, 0);
     show_entry(file, &[0, 0, 0], 5, 1);
     show_entry(file, &[0, 0, 0], 5, 2);
+    show_next(file, &[0, 0, 0], 5, &[]);
+    show_next(file, &[0, 0, 0], 5, &[0, 0, 1, 1, 1]);
+    show_next(file, &[0, 0, 0], 5, &[0, 1, 0, 1, 1]);
 }
 
 fn main() {
     let mut file = [0u8; 1024];
     let n = load(b"copy", &mut file);
-    if n <= 1024 {
-        copy_cases(&file[0..n]);
-    }
+    copy_cases(&file[0..n]);
     let k = load(b"pair", &mut file);
-    if k <= 1024 {
-        pair_cases(&file[0..k]);
-    }
+    pair_cases(&file[0..k]);
 }

@@ -7,6 +7,7 @@ pub mod TreeRun
 pub mod RunCode
 pub mod Spelling
 pub mod TreeCalls
+pub mod Conversion
 pub mod RoundTrips
 pub mod UnfoldStep
 pub mod UnfoldRun

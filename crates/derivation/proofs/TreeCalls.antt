@@ -1,6 +1,6 @@
 -- The tree checker and the conversion of a tree: their refusals in order, and what is written.
 -- Assumes nothing.
-use mathlib.Core.Path.{_≡_, refl, sym, ap, ap₂, _∙_}
+use mathlib.Core.Path.{_≡_, sym, ap, ap₂, _∙_}
 use mathlib.Core.Bool.{Bool, true, false, not}
 use mathlib.Core.Option.{Option, none, some}
 use mathlib.Core.List.{List, [], _∷_, _++_}
@@ -14,14 +14,13 @@ use Rattle.model.specs.declared.Refusal.{Refusal}
 use Rattle.model.specs.declared.Verdict.{Verdict}
 use Rattle.model.specs.Verdict.{refuseIf, verdict}
 use Rattle.model.specs.Grammar.{Grammar}
-use Rattle.model.specs.GrammarFile.{grammarRefusal, grammarOf}
-use Rattle.model.specs.Trace.{lengthRefusal, sentenceRefusal}
+use Rattle.model.specs.Trace.{lengthRefusal}
 use Rattle.model.specs.Tree.{treeOfList, spells, nodesRefusal, treeRefusal}
 use Rattle.model.specs.Conversions.{traceOf}
-use Rattle.model.specs.Calls.{written, roomRefusal, treeToTraceRefusal, treeToTraceVerdict, treeToTraceOutput}
-use Rattle.model.proofs.Tests.{first-of, rest-of, no-refusal, none-some}
-use Rattle.model.proofs.Verdicts.{refused, accepted, passed, met, stopped}
-use Rattle.derivation.specs.TreeRun.{Spelled, TreeSays, beforeInput}
+use Rattle.model.specs.Calls.{written}
+use Rattle.model.proofs.Tests.{first-of, no-refusal, none-some}
+use Rattle.model.proofs.Verdicts.{refused, accepted, passed, met}
+use Rattle.derivation.specs.TreeRun.{Spelled, TreeSays}
 
 -- a whole tree
 module _ (g : Grammar) (sentence list : List ℕ) where
@@ -83,48 +82,3 @@ module _ (g : Grammar) (sentence list : List ℕ) where
     pub none-written : (out : List ℕ) {x : Refusal} → v ≡ Verdict.Refused x
         → (v ≡ verdict (treeRefusal g sentence list) (length list)) × (out ≡ written (treeRefusal g sentence list) (traceOf g sentence list) out)
     none-written out e = (says .answer, sym (ap (λ (o : Option Refusal). written o (traceOf g sentence list) out) (met (treeRefusal g sentence list) (length list) v (says .answer) e)))
-
--- the conversion: the tests before those of the tree, and then the tree's
-module _ (file sentence list out : List ℕ) where
-  abbrev G : Option Refusal
-  G = grammarRefusal file
-
-  abbrev O : Option Refusal
-  O = roomRefusal out
-
-  abbrev W : Option Refusal
-  W = sentenceRefusal (grammarOf file) sentence
-
-  abbrev B : Option Refusal
-  B = beforeInput file sentence out
-
-  abbrev R : Option Refusal
-  R = treeRefusal (grammarOf file) sentence list
-
-  abbrev p : List ℕ
-  p = traceOf (grammarOf file) sentence list
-
-  pub tests-passed : B ≡ none → (G ≡ none) × (96 ≤ length out)
-  tests-passed e =
-      (first-of G (O orElse W) e, ltb-false (length out) 96 (no-refusal (ltb (length out) 96) (Refusal.Desk 23 0) (first-of O W (rest-of G (O orElse W) e))))
-
-  joined : (a b c d : Option Refusal) → (a orElse b orElse c orElse d) ≡ ((a orElse b orElse c) orElse d)
-  joined none none none d = refl
-  joined none none (some x) d = refl
-  joined none (some x) c d = refl
-  joined (some x) b c d = refl
-
-  call-is : treeToTraceRefusal file sentence list out ≡ (B orElse R)
-  call-is = joined G O W R
-
-  pub tested-call : B ≡ none → (v : Verdict) (last : List ℕ) → (v ≡ verdict R (length list)) × (last ≡ written R p out)
-      → (v ≡ treeToTraceVerdict file sentence list out) × (last ≡ treeToTraceOutput file sentence list out)
-  tested-call e v last f =
-      let a : R ≡ treeToTraceRefusal file sentence list out = sym (call-is ∙ ap (λ (o : Option Refusal). o orElse R) e) in
-      (f .0 ∙ ap (λ (o : Option Refusal). verdict o (length list)) a, f .1 ∙ ap (λ (o : Option Refusal). written o p out) a)
-
-  pub refused-call : (v : Verdict) → v ≡ verdict B 0 → {x : Refusal} → v ≡ Verdict.Refused x
-      → (v ≡ treeToTraceVerdict file sentence list out) × (out ≡ treeToTraceOutput file sentence list out)
-  refused-call v e {x} f =
-      let b : (B orElse R) ≡ some x = ap (λ (o : Option Refusal). o orElse R) (met B 0 v e f) in
-      (stopped B 0 v e R (length list) f ∙ ap (λ (o : Option Refusal). verdict o (length list)) (sym call-is), sym (ap (λ (o : Option Refusal). written o p out) (call-is ∙ b)))

@@ -1,31 +1,24 @@
 -- Trace to tree as a whole: from the run of an accepted trace to its tree, and the tests before it.
 -- Assumes nothing.
-use mathlib.Core.Path.{_≡_, refl, sym, ap, subst, _∙_}
+use mathlib.Core.Path.{_≡_, sym, ap, subst, _∙_}
 use mathlib.Core.Option.{Option, none, some}
 use mathlib.Core.List.{List, _++_}
 use Prim.Native.Nat.{ℕ, _<_, _≤_}
 use native.Mathlib.Omega.{arith}
-use borrow.Author.Tests.{ltb-false}
-use lib.Dec.{ltb}
 use lib.ListN.{length, getD, take, drop}
 use lib.Seq.{getD-take}
 use Rattle.model.specs.declared.Refusal.{Refusal}
-use Rattle.model.specs.declared.Verdict.{Verdict}
-use Rattle.model.specs.Base.{_orElse_}
-use Rattle.model.specs.Verdict.{verdict}
 use Rattle.model.specs.Grammar.{Grammar}
 use Rattle.model.specs.GrammarFile.{grammarRefusal, grammarOf}
-use Rattle.model.specs.Trace.{sentenceRefusal, traceRefusal}
+use Rattle.model.specs.Trace.{traceRefusal}
 use Rattle.model.specs.Tree.{Tree, preorder}
 use Rattle.model.specs.Conversions.{treeOf}
 use Rattle.model.specs.Rows.{beginRow}
-use Rattle.model.specs.Calls.{written, roomRefusal, traceToTreeRefusal, traceToTreeVerdict, traceToTreeOutput}
-use Rattle.model.proofs.Tests.{first-of, rest-of, no-refusal}
-use Rattle.model.proofs.Verdicts.{met, stopped, sentence-short}
+use Rattle.model.specs.Calls.{written}
 use Rattle.model.proofs.Demands.{trace-short}
 use Rattle.model.proofs.FromFile.{accepted-right}
 use Rattle.recognizer.specs.Traces.{takenRow}
-use Rattle.derivation.specs.Unfold.{daughterCount, Linked, Grows, Grown, conversionTests}
+use Rattle.derivation.specs.Unfold.{daughterCount, Linked, Grows, Grown}
 use Rattle.derivation.proofs.UnfoldRun.{Unfolded, unfolded}
 use Rattle.derivation.proofs.UnfoldTables.{linked-front, grows-tree}
 
@@ -71,49 +64,3 @@ module _ (file sentence trace taken : List ℕ) (accepted : grammarRefusal file 
         h (tree-of-run .tree) stands nodes-few
         ∙ ap (λ (l : List ℕ). l ++ drop (length l) out) (sym (tree-of-run .is))
         ∙ sym (ap (λ (o : Option Refusal). written o (treeOf g sentence trace) out) passes)
-
--- the tests before the trace
-module _ (file sentence trace out : List ℕ) where
-  abbrev G : Option Refusal
-  G = grammarRefusal file
-
-  abbrev O : Option Refusal
-  O = roomRefusal out
-
-  abbrev W : Option Refusal
-  W = sentenceRefusal (grammarOf file) sentence
-
-  abbrev B : Option Refusal
-  B = conversionTests file sentence out
-
-  abbrev A : Option Refusal
-  A = traceRefusal (grammarOf file) sentence trace
-
-  pub tests-passed : B ≡ none → (G ≡ none) × (length sentence ≤ 96) × (96 ≤ length out)
-  tests-passed e =
-      let r = rest-of G (O orElse W) e in
-      (first-of G (O orElse W) e, sentence-short (grammarOf file) sentence (rest-of O W r), ltb-false (length out) 96 (no-refusal (ltb (length out) 96) (Refusal.Desk 23 0) (first-of O W r)))
-
-  joined : (a b c d : Option Refusal) → (a orElse b orElse c orElse d) ≡ ((a orElse b orElse c) orElse d)
-  joined none none none d = refl
-  joined none none (some x) d = refl
-  joined none (some x) c d = refl
-  joined (some x) b c d = refl
-
-  call-is : traceToTreeRefusal file sentence trace out ≡ (B orElse A)
-  call-is = joined G O W A
-
-  abbrev tree : List ℕ
-  tree = treeOf (grammarOf file) sentence trace
-
-  pub converted-call : B ≡ none → (v : Verdict) (last : List ℕ) → (v ≡ verdict A (length trace)) × (last ≡ written A tree out)
-      → (v ≡ traceToTreeVerdict file sentence trace out) × (last ≡ traceToTreeOutput file sentence trace out)
-  converted-call e v last f =
-      let a : A ≡ traceToTreeRefusal file sentence trace out = sym (call-is ∙ ap (λ (o : Option Refusal). o orElse A) e) in
-      (f .0 ∙ ap (λ (o : Option Refusal). verdict o (length trace)) a, f .1 ∙ ap (λ (o : Option Refusal). written o tree out) a)
-
-  pub refused-call : (v : Verdict) → v ≡ verdict B 0 → {x : Refusal} → v ≡ Verdict.Refused x
-      → (v ≡ traceToTreeVerdict file sentence trace out) × (out ≡ traceToTreeOutput file sentence trace out)
-  refused-call v e {x} f =
-      let b : (B orElse A) ≡ some x = ap (λ (o : Option Refusal). o orElse A) (met B 0 v e f) in
-      (stopped B 0 v e A (length trace) f ∙ ap (λ (o : Option Refusal). verdict o (length trace)) (sym call-is), sym (ap (λ (o : Option Refusal). written o tree out) (call-is ∙ b)))

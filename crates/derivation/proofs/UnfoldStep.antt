@@ -3,58 +3,24 @@
 use mathlib.Core.Path.{_≡_, refl, sym, ap, ap₂, subst, _∙_}
 use mathlib.Core.Bool.{Bool, true, false}
 use mathlib.Core.Option.{Option, none, some}
-use mathlib.Core.List.{List, [], _∷_, _++_, map}
+use mathlib.Core.List.{List, [], _∷_, _++_}
 use Prim.Native.Nat.{ℕ, suc, _+_, _-_, _<_, _≤_}
 use native.Mathlib.Omega.{arith}
 use lib.Dec.{eqb}
 use lib.ListN.{length, length-map, length-append}
 use Rattle.model.specs.Base.{if_then_else_, numbersFrom}
-use Rattle.model.specs.Grammar.{Variable, Rule, Grammar, ruleAt, isLexical}
-use Rattle.model.specs.Step.{Index, Prediction, State, Outcome, fails, leads, shorten, trim, sort, sameFirst, scan, daughtersFrom, variableIndices, expand, predict, apply, step}
+use Rattle.model.specs.Grammar.{Rule, Grammar, ruleAt, isLexical}
+use Rattle.model.specs.Step.{Prediction, State, Outcome, fails, leads, trim, sort, scan, expand, predict, apply, step}
 use Rattle.model.specs.Rows.{RowState, RowOutcome, halts, moves, stepRow}
 use Rattle.model.specs.WellFormed.{Perm, same, chain, Right}
 use Rattle.model.specs.RowsAgree.{number, SameOutcome}
-use Rattle.model.proofs.Lists.{length-numbers, map-append}
-use Rattle.model.proofs.Perm.{perm-sym, perm-map, perm-length}
-use Rattle.model.proofs.Marks.{indicesOf}
-use Rattle.model.proofs.Queue.{sort-perm}
+use Rattle.model.proofs.Lists.{length-numbers}
+use Rattle.model.proofs.Perm.{perm-length}
 use Rattle.model.proofs.Traces.{leads-one, scan-to}
 use Rattle.model.proofs.RowsLine.{first, nodesOf}
-use Rattle.model.proofs.Rows.{Kept, AgreeRow, step-agree}
+use Rattle.model.proofs.Rows.{next-nodes, Kept, AgreeRow, step-agree}
 use Rattle.model.proofs.RowsNamed.{frontOwner}
 use Rattle.model.proofs.RowsBounds.{step-counts}
-
--- the numbers in a queue
-
-abbrev nodeOf : Prediction ℕ → ℕ
-nodeOf p = p .node
-
-daughters-nodes : (g : Grammar) (made m : ℕ) (ss : List (Variable × Index)) (j : ℕ) (ds : List ℕ) → nodesOf (daughtersFrom (number made) g m ss j ds) ≡ numbersFrom (made + j) (length ds)
-daughters-nodes g made m ss j [] = refl
-daughters-nodes g made m ss j (d ∷ ds) =
-    let z : made + suc j ≡ suc (made + j) = omega arith in
-    ap (λ (l : List ℕ). (made + j) ∷ l) (daughters-nodes g made m ss (suc j) ds ∙ ap (λ (k : ℕ). numbersFrom k (length ds)) z)
-
-shorten-nodes : (q : List (Prediction ℕ)) → nodesOf (map shorten q) ≡ nodesOf q
-shorten-nodes [] = refl
-shorten-nodes (p ∷ q) = ap (λ (l : List ℕ). p .node ∷ l) (shorten-nodes q)
-
-trim-nodes : (q : List (Prediction ℕ)) → nodesOf (trim q) ≡ nodesOf q
-trim-nodes q = go (sameFirst (indicesOf q))
-  where
-    go : (b : Bool) → nodesOf (if b then map shorten q else q) ≡ nodesOf q
-    go true = shorten-nodes q
-    go false = refl
-
-next-nodes : (g : Grammar) (rule : Rule) (made : ℕ) (p : Prediction ℕ) (q : List (Prediction ℕ))
-    → Perm (numbersFrom made (length (rule .daughters)) ++ nodesOf q) (nodesOf (trim (sort (expand (number made) g rule p ++ q))))
-next-nodes g rule made p q =
-    let x = expand (number made) g rule p in
-    let z : made + 0 ≡ made = omega arith in
-    let e : nodesOf x ≡ numbersFrom made (length (rule .daughters))
-    = daughters-nodes g made (p .node) (variableIndices (p .indices) (rule .components)) 0 (rule .daughters) ∙ ap (λ (k : ℕ). numbersFrom k (length (rule .daughters))) z in
-    chain (same (ap (λ (l : List ℕ). l ++ nodesOf q) (sym e) ∙ sym (map-append nodeOf x q)))
-    (chain (perm-map nodeOf (perm-sym (sort-perm (x ++ q)))) (same (sym (trim-nodes (sort (x ++ q))))))
 
 -- a step of the queue
 module _ (g : Grammar) (made : ℕ) where
@@ -121,8 +87,8 @@ module _ (g : Grammar) (right : Right g) where
           let c = step-counts g t t′ r e in
           let before : t .pending ≡ suc (length (q .rest)) = k .counted in
           let after : t′ .pending ≡ d + length (q .rest)
-          = a .kept .counted ∙ sym (length-map (s .queue) nodeOf) ∙ sym (perm-length (q .nodes))
-          ∙ length-append (numbersFrom (t .made) d) (nodesOf (q .rest)) ∙ ap₂ (λ (x y : ℕ). x + y) (length-numbers (t .made) d) (length-map (q .rest) nodeOf) in
+          = a .kept .counted ∙ sym (length-map (s .queue) (λ (x : Prediction ℕ). x .node)) ∙ sym (perm-length (q .nodes))
+          ∙ length-append (numbersFrom (t .made) d) (nodesOf (q .rest)) ∙ ap₂ (λ (x y : ℕ). x + y) (length-numbers (t .made) d) (length-map (q .rest) (λ (x : Prediction ℕ). x .node)) in
           let b : q .front .node < t .made = k .below .0 in
           record {
             next = s;

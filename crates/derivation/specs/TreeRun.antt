@@ -4,7 +4,7 @@ use mathlib.Core.Path.{_≡_}
 use mathlib.Core.Bool.{Bool, true, false}
 use mathlib.Core.Option.{Option, none}
 use mathlib.Core.List.{List, [], _∷_}
-use Prim.Native.Nat.{ℕ, _+_, _<_, _-_}
+use Prim.Native.Nat.{ℕ, _+_, _<_, _-_, _≤_}
 use lib.ListN.{length, getD, take, drop}
 use lib.Seq.{sets}
 use Rattle.model.specs.Base.{_orElse_}
@@ -18,6 +18,9 @@ use Rattle.model.specs.Calls.{roomRefusal}
 use Rattle.model.specs.Tree.{Tree, treeOfList, spells, nodesRefusal, treeRefusal}
 use Rattle.model.specs.Conversions.{traceOf}
 use Rattle.model.specs.Rows.{RowState, traceFromRow, stepsRefusalRow}
+use Rattle.recognizer.specs.Row.{stateOf, Held}
+use Rattle.recognizer.specs.Table.{Compiled}
+use Rattle.recognizer.specs.Traces.{Runs}
 use Rattle.derivation.specs.Places.{Ended, sister}
 
 -- d predictions from number `made` on are named by the places of the daughters of the node at place i
@@ -33,6 +36,16 @@ pub record Stood (g : Grammar) (list ends places : List ℕ) (made : ℕ) : Type
   pub ended : Ended g list ends 0 (length list)
   pub long : length places ≡ 96
   pub inside : (p : ℕ) → p < made → getD places p 0 < length list
+
+-- step k of the run can be made: from the row q[from..to], with so many words read
+pub record Ready (file t sentence list ends q places trace : List ℕ) (k read from to made pending : ℕ) : Type 0 where
+  pub accepted : grammarRefusal file ≡ none
+  pub compiled : Compiled (grammarOf file) t
+  pub held : Held q from to
+  pub room : length trace ≡ 96
+  pub known : read ≤ length sentence
+  pub runs : Runs (grammarOf file) (stateOf q from to made pending (drop read sentence)) k (length list)
+  pub stood : Stood (grammarOf file) list ends places made
 
 -- "the new predictions stand for that node's daughters": prediction p stands for the tree at its place of the list
 abbrev pub Named : Grammar → List ℕ → List ℕ → ℕ → (ℕ → Tree) → Type 0

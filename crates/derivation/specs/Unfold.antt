@@ -3,15 +3,11 @@
 -- Assumes nothing.
 use mathlib.Core.Path.{_≡_}
 use mathlib.Core.List.{List, [], _∷_, _++_}
-use mathlib.Core.Option.{Option}
 use Prim.Native.Nat.{ℕ, zero, suc, _+_, _-_, _<_, _≤_}
 use lib.ListN.{length, getD, drop}
-use Rattle.model.specs.declared.Refusal.{Refusal}
-use Rattle.model.specs.Base.{_orElse_, sumBelow, numbersFrom}
-use Rattle.model.specs.GrammarFile.{recordOf, field, grammarRefusal, grammarOf}
-use Rattle.model.specs.Trace.{sentenceRefusal}
+use Rattle.model.specs.Base.{sumBelow, numbersFrom}
+use Rattle.model.specs.GrammarFile.{recordOf, field}
 use Rattle.model.specs.Tree.{Tree, Forest, node, nil, cons, preorder}
-use Rattle.model.specs.Calls.{roomRefusal}
 
 -- how many daughters rule r of the file has
 abbrev pub daughterCount : List ℕ → ℕ → ℕ
@@ -69,7 +65,3 @@ pub record Pushed (before after : List ℕ) (top first d r : ℕ) : Type 0 where
   pub kept : length after ≡ length before
   pub place : r ≡ top - d
   pub stack : drop r after ≡ numbersFrom first d ++ drop top before
-
--- The tests of a conversion before those of its input: the grammar, 23, 11.
-abbrev pub conversionTests : List ℕ → List ℕ → List ℕ → Option Refusal
-conversionTests file sentence out = grammarRefusal file orElse roomRefusal out orElse sentenceRefusal (grammarOf file) sentence

@@ -93,7 +93,7 @@ pub fn check_tree(file: &[u8], sentence: &[u16], tree: &[u16]) -> Verdict
 }
 
 // What a conversion tests before its input: the grammar, 23, 11.
-fn conversion_tests(file: &[u8], sentence: &[u16], out: &[u16]) -> Verdict
+pub fn conversion_tests(file: &[u8], sentence: &[u16], out: &[u16]) -> Verdict
     ensures { λ v. ⌜ v ≡ verdict (beforeInput (now (file .entry)) (now (sentence .entry)) (now (out .entry))) 0 ⌝ }
 {
     let read = read_grammar(file);

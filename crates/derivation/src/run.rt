@@ -1,14 +1,11 @@
 // The run along a tree: its trace, and whether that is accepted.
-ghost use mathlib.Core.Option.{none};
 ghost use mathlib.Core.Path.{_≡_};
 ghost use Prim.Native.Nat.{ℕ, _+_, _<_, _≤_};
 ghost use lib.ListN.{length, getD, drop};
-ghost use Rattle.model.specs.GrammarFile.{grammarRefusal, grammarOf};
-ghost use Rattle.recognizer.specs.Row.{unpacked, stateOf, Held};
-ghost use Rattle.recognizer.specs.Table.{Compiled};
-ghost use Rattle.recognizer.specs.Traces.{Runs};
+ghost use Rattle.model.specs.GrammarFile.{grammarOf};
+ghost use Rattle.recognizer.specs.Row.{unpacked, stateOf};
 ghost use Rattle.derivation.specs.Places.{sister};
-ghost use Rattle.derivation.specs.TreeRun.{NamesGiven, Stood, TreeRun};
+ghost use Rattle.derivation.specs.TreeRun.{NamesGiven, Ready, TreeRun};
 use model::RuleNumber;
 use recognizer::row::owner;
 use recognizer::step::Stepped;
@@ -62,7 +59,7 @@ pub fn run_tree(
     names: &mut [u16; 96],
     trace: &mut [u16; 96],
 ) -> bool
-    requires { ⌜ (grammarRefusal (now file) ≡ none) × Compiled (grammarOf (now file)) (now t) × Held (now q) from to × (length (now trace) ≡ 96) × (read ≤ length (now sentence)) × Runs (grammarOf (now file)) (stateOf (now q) from to made pending (drop read (now sentence))) k (length (now list)) × Stood (grammarOf (now file)) (now list) (now ends) (now names) made ⌝ }
+    requires { ⌜ Ready (now file) (now t) (now sentence) (now list) (now ends) (now q) (now names) (now trace) k read from to made pending ⌝ }
     ensures { λ b. ⌜ TreeRun (grammarOf (now (file .entry))) (now (sentence .entry)) (now (list .entry)) k (stateOf (now (q .entry)) from to made pending (drop read (now (sentence .entry)))) (now (names .entry)) (now (trace .entry)) (now (trace .exit)) b ⌝ }
 {
     if list.len() <= k {

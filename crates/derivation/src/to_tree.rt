@@ -11,22 +11,14 @@ ghost use Rattle.model.specs.GrammarFile.{grammarRefusal, grammarOf};
 ghost use Rattle.model.specs.Trace.{traceRefusal};
 ghost use Rattle.model.specs.Tree.{Tree, preorder};
 ghost use Rattle.model.specs.Verdict.{verdict};
-ghost use Rattle.derivation.specs.Unfold.{daughterCount, Linked, Grows, Grown, Pushed, conversionTests};
+ghost use Rattle.derivation.specs.Unfold.{daughterCount, Linked, Grows, Grown, Pushed};
+use crate::calls::conversion_tests;
 use buffers::number_at;
-use buffers::room_refusal;
 use grammar::daughter_count;
-use grammar::read_grammar;
 use model::RuleNumber;
 use model::Verdict;
+use recognizer::rules::wide;
 use recognizer::run_trace;
-use recognizer::sentence_refusal;
-
-// The same number, of which it is known that it has 16 bits.
-fn wide(x: u16) -> usize
-    ensures { λ n. ⌜ (n ≡ x) × (n < 65536) ⌝ }
-{
-    x as usize
-}
 
 // Stores, for the prediction that each step takes, the step, and for each step the number of the first prediction that it makes.
 fn link(file: &[u8], trace: &[u16], taken: &[u16; 96], steps: &mut [u16; 96], first: &mut [u16; 96])
@@ -105,27 +97,12 @@ fn converted(file: &[u8], sentence: &[u16], trace: &[u16], out: &mut [u16]) -> V
     v
 }
 
-// What the conversion tests before the trace: the grammar, 23, 11.
-fn tests_before(file: &[u8], sentence: &[u16], out: &[u16]) -> Verdict
-    ensures { λ v. ⌜ v ≡ verdict (conversionTests (now (file .entry)) (now (sentence .entry)) (now (out .entry))) 0 ⌝ }
-{
-    let read = read_grammar(file);
-    let Verdict::Accepted(_) = read else {
-        return read;
-    };
-    let room = room_refusal(out);
-    let Verdict::Accepted(_) = room else {
-        return room;
-    };
-    sentence_refusal(file, sentence)
-}
-
 // Trace to tree: refusals 1 to 10, 23, 11, 12, the trace's own; else the node count, and the tree's list at the front of the output. One run of the
 // trace, and a turn for each node.
 pub fn trace_to_tree(file: &[u8], sentence: &[u16], trace: &[u16], out: &mut [u16]) -> Verdict
     ensures { λ v. ⌜ (v ≡ traceToTreeVerdict (now (file .entry)) (now (sentence .entry)) (now (trace .entry)) (now (out .entry))) × (now (out .exit) ≡ traceToTreeOutput (now (file .entry)) (now (sentence .entry)) (now (trace .entry)) (now (out .entry))) ⌝ }
 {
-    let tests = tests_before(file, sentence, out);
+    let tests = conversion_tests(file, sentence, out);
     match tests {
         Verdict::Accepted(_) => converted(file, sentence, trace, out),
         Verdict::Refused(_) => tests,

@@ -1,33 +1,32 @@
 -- The values of accepted calls fit their bits: a value is at most 7,168, and the effort of a count that is not refused is within its limit, and what is
 -- counted is kept from the live prefixes.
 -- Assumes nothing.
-use mathlib.Core.Path.{_≡_, refl, sym, subst}
-use mathlib.Core.Bool.{Bool, true, false, not}
+use mathlib.Core.Path.{_≡_, refl}
+use mathlib.Core.Bool.{not}
 use mathlib.Core.Option.{Option, none, some}
-use mathlib.Core.List.{List, [], _∷_, List·Memᴰ, List·Memᴰ·head, List·Memᴰ·tail}
-use Prim.Native.Nat.{ℕ, zero, suc, _*_, _<_, _≤_}
+use mathlib.Core.List.{List}
+use Prim.Native.Nat.{ℕ, _*_, _≤_}
 use native.Mathlib.Omega.{arith}
 use borrow.Author.Tests.{ltb-false, leb-false}
 use lib.Dec.{ltb, leb, eqb}
-use lib.ListN.{length, getD}
+use lib.ListN.{length}
 use Rattle.model.specs.declared.Refusal.{Refusal}
-use Rattle.model.specs.Base.{keep, if_then_else_, _orElse_}
+use Rattle.model.specs.Base.{_orElse_}
 use Rattle.model.specs.Verdict.{refuseIf, verdict, countVerdict}
 use Rattle.model.specs.Grammar.{Grammar}
 use Rattle.model.specs.GrammarFile.{grammarRefusal, grammarOf, rulesOf, categoriesOf, blocksFor, wrongHeading}
 use Rattle.model.specs.Writer.{Heading, headingBlock, fileOf, writerRefusal}
 use Rattle.model.specs.Trace.{sentenceRefusal, traceRefusal}
 use Rattle.model.specs.Tree.{treeRefusal}
-use Rattle.model.specs.Counting.{limitsRefusal, effortRefusal, entryRefusal, live, complete, listing, count, effort, entry}
-use Rattle.model.specs.Rows.{beginRow, foundFromRow}
+use Rattle.model.specs.Counting.{limitsRefusal, effortRefusal, entryRefusal, live, complete, count, effort, entry}
 use Rattle.model.specs.Calls.{roomRefusal, readVerdict, writeRefusal, writeVerdict, checkTraceRefusal, checkTraceVerdict, checkTreeRefusal, checkTreeVerdict, traceToTreeRefusal, traceToTreeVerdict, treeToTraceRefusal, treeToTraceVerdict, countRefusal, countCall, entryCallRefusal, entryVerdict, surveyRefusal}
 use Rattle.model.proofs.Tests.{no-refusal, first-of, rest-of}
 use Rattle.model.proofs.FromFile.{rules-in, categories-in, accepted-right}
 use Rattle.model.proofs.WriterFile.{file-length}
-use Rattle.model.proofs.RowsAgree.{rows-agree}
+use Rattle.model.proofs.Search.{keep-short}
 use Rattle.model.proofs.Demands.{trace-short, tree-short}
 use Rattle.analyses.proofs.Limits.{ranges}
-use Rattle.analyses.proofs.Entries.{entries}
+use Rattle.analyses.proofs.FoundEntry.{is-entry}
 use Rattle.downgrater.specs.Packing.{ValueFits, CountsFit}
 use Rattle.downgrater.specs.Exports.{surveyVerdict}
 
@@ -62,21 +61,8 @@ write-fits h records out = value (writeRefusal h records out) (length (fileOf h 
         let r = no-refusal (ltb 256 (h .rules)) (Refusal.Grammar 4 0) (first-of R rest (rest-of D (R orElse rest) w)) in
         rw (file-length h records) (blocks-few (h .rules) (ltb-false 256 (h .rules) r))
 
-keep-short : {A : Type 0} (test : A → Bool) (l : List A) → length (keep test l) ≤ length l
-keep-short test [] = omega arith
-keep-short test (x ∷ l) = go (test x) (keep-short test l)
-  where
-    go : (b : Bool) → length (keep test l) ≤ length l → length (if b then x ∷ keep test l else keep test l) ≤ length (x ∷ l)
-    go true h = omega (arith, h)
-    go false h = omega (arith, h)
-
 count-short : (g : Grammar) (sentence : List ℕ) (n : ℕ) → count g sentence n ≤ effort g sentence n
 count-short g sentence n = keep-short (complete g sentence) (live g sentence n)
-
-got : (l : List (List ℕ)) (i : ℕ) → i < length l → List·Memᴰ (getD l i []) l
-got [] i h = let z : ⊥ = omega arith in absurd z
-got (x ∷ l) zero h = List·Memᴰ·head refl
-got (x ∷ l) (suc i) h = List·Memᴰ·tail (got l i (omega arith))
 
 module _ (file sentence : List ℕ) where
   abbrev g : Grammar
@@ -142,10 +128,6 @@ module _ (file sentence : List ℕ) where
         go none e = (omega (arith, within e, count-short g sentence n), omega (arith, within e))
         go (some r) e = tt
 
-    listed : grammarRefusal file ≡ none → (k : ℕ) → 1 ≤ k → listing g sentence k ≡ foundFromRow g k (beginRow g sentence)
-    listed a zero h = let z : ⊥ = omega arith in absurd z
-    listed a (suc k) h = sym (rows-agree file a sentence .listings (suc k))
-
     pub entry-fits : (m : ℕ) (out : List ℕ) → ValueFits (entryVerdict file sentence n limit m out)
     entry-fits m out = value (entryCallRefusal file sentence n limit m out) (length (entry g sentence n m)) few
       where
@@ -159,5 +141,4 @@ module _ (file sentence : List ℕ) where
             let r = ranges n limit (first-of L (W orElse E orElse M) f) in
             let t = rest-of E M (rest-of W (E orElse M) (rest-of L (W orElse E orElse M) f)) in
             let b = leb-false (count g sentence n) m (no-refusal (leb (count g sentence n) m) (Refusal.Desk 26 0) t) in
-            let s = subst (λ (l : List (List ℕ)). List·Memᴰ (entry g sentence n m) l) (listed a n (r .nodes-some)) (got (listing g sentence n) m b) in
-            omega (arith, entries g n (beginRow g sentence) (entry g sentence n m) s .short, r .nodes-few)
+            omega (arith, is-entry file a sentence n limit m (r .nodes-some) (r .nodes-few) b .short, r .nodes-few)

@@ -1,6 +1,6 @@
 // The public calls as C functions: a slice is a pointer and a length, and the answer is the verdict as one 64-bit number (include/downgrater.h).
 ghost use mathlib.Core.Path.{_≡_};
-ghost use Rattle.model.specs.Calls.{readVerdict, writeVerdict, writeOutput, checkTraceVerdict, countCall, entryVerdict, entryOutput, SurveyOutcome};
+ghost use Rattle.model.specs.Calls.{readVerdict, writeVerdict, writeOutput, checkTraceVerdict, checkTreeVerdict, traceToTreeVerdict, traceToTreeOutput, treeToTraceVerdict, treeToTraceOutput, countCall, entryVerdict, entryOutput, SurveyOutcome};
 ghost use Rattle.writer.specs.Writing.{heading};
 ghost use Rattle.downgrater.specs.Packing.{Says, SaysCount};
 ghost use Rattle.downgrater.specs.Exports.{surveyVerdict};
@@ -8,6 +8,9 @@ use crate::packing::count_bits;
 use crate::packing::verdict_bits;
 use analyses::count;
 use analyses::entry;
+use derivation::check_tree;
+use derivation::trace_to_tree;
+use derivation::tree_to_trace;
 use grammar::read_grammar;
 use recognizer::check_trace;
 use survey::survey;
@@ -43,6 +46,40 @@ pub extern "C" fn dg_check_trace(file: &[u8], sentence: &[u16], trace: &[u16]) -
     ensures { λ x. ⌜ Says (checkTraceVerdict (now (file .entry)) (now (sentence .entry)) (now (trace .entry))) x ⌝ }
 {
     verdict_bits(check_trace(file, sentence, trace))
+}
+
+// The tree checker: the number of nodes.
+#[no_mangle]
+pub extern "C" fn dg_check_tree(file: &[u8], sentence: &[u16], tree: &[u16]) -> u64
+    ensures { λ x. ⌜ Says (checkTreeVerdict (now (file .entry)) (now (sentence .entry)) (now (tree .entry))) x ⌝ }
+{
+    verdict_bits(check_tree(file, sentence, tree))
+}
+
+// A trace to its tree: the number of nodes, with the tree at the front of the output.
+#[no_mangle]
+pub extern "C" fn dg_trace_to_tree(
+    file: &[u8],
+    sentence: &[u16],
+    trace: &[u16],
+    out: &mut [u16],
+) -> u64
+    ensures { λ x. ⌜ Says (traceToTreeVerdict (now (file .entry)) (now (sentence .entry)) (now (trace .entry)) (now (out .entry))) x × (now (out .exit) ≡ traceToTreeOutput (now (file .entry)) (now (sentence .entry)) (now (trace .entry)) (now (out .entry))) ⌝ }
+{
+    verdict_bits(trace_to_tree(file, sentence, trace, out))
+}
+
+// A tree to its trace: the number of steps, with the trace at the front of the output.
+#[no_mangle]
+pub extern "C" fn dg_tree_to_trace(
+    file: &[u8],
+    sentence: &[u16],
+    tree: &[u16],
+    out: &mut [u16],
+) -> u64
+    ensures { λ x. ⌜ Says (treeToTraceVerdict (now (file .entry)) (now (sentence .entry)) (now (tree .entry)) (now (out .entry))) x × (now (out .exit) ≡ treeToTraceOutput (now (file .entry)) (now (sentence .entry)) (now (tree .entry)) (now (out .entry))) ⌝ }
+{
+    verdict_bits(tree_to_trace(file, sentence, tree, out))
 }
 
 // The count of analyses under a node limit: count and effort.

@@ -24,6 +24,8 @@ pub use bytes::fields;
 pub use bytes::four_bytes;
 pub use bytes::less;
 pub use bytes::two_bytes;
+pub use heading::dimensions_right;
+pub use heading::within;
 pub use heading::wrong_heading;
 pub use layout::categories;
 pub use layout::dimension;

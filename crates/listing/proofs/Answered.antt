@@ -1,10 +1,10 @@
 -- Demand 3 for the answers of the calls, from their promises.
 -- Assumes nothing.
-use mathlib.Core.Path.{_≡_, refl, sym, ap, ap₂, subst, _∙_}
+use mathlib.Core.Path.{_≡_, sym, ap, ap₂, _∙_}
 use mathlib.Core.Bool.{Bool, true, false}
-use mathlib.Core.Option.{Option, none, some}
+use mathlib.Core.Option.{Option, none}
 use mathlib.Core.List.{List, [], _∷_, _++_}
-use Prim.Native.Nat.{ℕ, zero, suc, _+_, _<_, _≤_}
+use Prim.Native.Nat.{ℕ, suc, _+_, _<_, _≤_}
 use native.Mathlib.Omega.{arith}
 use native.Mathlib.Decide.{decLt}
 use borrow.Author.Tests.{lt-ltb, le-ltb}
@@ -14,7 +14,6 @@ use lib.Seq.{drop-cons}
 use Rattle.model.specs.declared.Refusal.{Refusal}
 use Rattle.model.specs.declared.Verdict.{Verdict}
 use Rattle.model.specs.declared.CountVerdict.{CountVerdict}
-use Rattle.model.specs.Base.{_orElse_}
 use Rattle.model.specs.Verdict.{refuseIf, verdict}
 use Rattle.model.specs.Grammar.{Grammar}
 use Rattle.model.specs.GrammarFile.{grammarRefusal, grammarOf}
@@ -24,7 +23,7 @@ use Rattle.model.specs.Calls.{written, countCall}
 use Rattle.model.specs.Demands.{Demand3}
 use Rattle.model.proofs.Demands.{demand-3}
 use Rattle.listing.specs.Stream.{lookedAt, entriesAfter, firstOf, noneOf, nextOf, nextRefusal, nextVerdict, nextOutput}
-use Rattle.listing.specs.Answers.{Answers, Writes, Demand3Answered}
+use Rattle.listing.specs.Answers.{Answers, Demand3Answered}
 use Rattle.analyses.proofs.FoundEntry.{is-entry}
 use Rattle.analyses.proofs.Limits.{Ranges}
 use Rattle.analyses.proofs.Limits as limits

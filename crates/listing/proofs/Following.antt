@@ -4,27 +4,25 @@ use mathlib.Core.Path.{_≡_, refl, sym, ap, ap₂, subst, _∙_}
 use mathlib.Core.Bool.{Bool, true, false}
 use mathlib.Core.Option.{Option, none, some}
 use mathlib.Core.List.{List, [], _∷_}
-use Prim.Native.Nat.{ℕ, zero, suc, _+_, _-_, _<_, _≤_}
+use Prim.Native.Nat.{ℕ, zero, suc, _-_, _<_, _≤_}
 use native.Mathlib.Omega.{arith}
 use lib.ListN.{length, getD, take}
-use lib.Seq.{slice}
 use Rattle.model.specs.Base.{if_then_else_, keep}
 use Rattle.model.specs.Grammar.{Grammar}
 use Rattle.model.specs.GrammarFile.{grammarRefusal, grammarOf}
-use Rattle.model.specs.Step.{State, Outcome, fails, leads, step, before}
+use Rattle.model.specs.Step.{State, fails, leads, before}
 use Rattle.model.specs.Trace.{noNode, run}
 use Rattle.model.specs.Counting.{start, finished, live, complete, listing}
-use Rattle.model.specs.Rows.{Slot, RowState, RowOutcome, halts, moves, stepRow, runRow, beginRow, liveFromRow}
+use Rattle.model.specs.Rows.{RowState, halts, moves, runRow, beginRow, liveFromRow}
 use Rattle.model.specs.WellFormed.{Right}
 use Rattle.model.proofs.FromFile.{accepted-right}
 use Rattle.model.proofs.RowsAgree.{rows-agree}
 use Rattle.model.proofs.RowsCalls.{AgreeBare, finished-same, begin-bare, outcome-same}
 use Rattle.model.proofs.Search.{ends}
 use Rattle.listing.specs.declared.stream.Followed.{Followed}
-use Rattle.analyses.specs.Search.{standing}
-use Rattle.listing.specs.Look.{finishedBy, endsRow, Found, nothing, found, over, firstComplete, goesOn, passes, beyond, Holds, Looked, LookedAt}
-use Rattle.listing.specs.Stream.{upToFirst, liveAfter, lookedAt, entriesAfter, Follows}
-use Rattle.analyses.proofs.Searches.{not-both}
+use Rattle.listing.specs.Look.{finishedBy, endsRow, Found, nothing, found, over, firstComplete, goesOn, beyond, Holds, LookedAt}
+use Rattle.listing.specs.Stream.{upToFirst, liveAfter, entriesAfter, Follows}
+use Rattle.model.proofs.Tests.{not-both}
 
 -- a list ends by rows where it ends by document 01
 module _ (g : Grammar) (right : Right g) where

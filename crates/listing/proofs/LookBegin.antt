@@ -7,7 +7,6 @@ use Prim.Native.Nat.{ℕ, _≤_}
 use native.Mathlib.Omega.{arith}
 use Rattle.model.specs.Grammar.{Grammar}
 use Rattle.model.specs.GrammarFile.{grammarRefusal, grammarOf, startOf}
-use Rattle.model.specs.Rows.{Slot}
 use Rattle.model.proofs.FromFile.{accepted-right}
 use Rattle.model.proofs.RowsBounds.{Reached, reached-begin}
 use Rattle.recognizer.specs.Row.{rowOf, Held}

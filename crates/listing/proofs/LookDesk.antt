@@ -1,12 +1,11 @@
 -- The desk and the path after each outcome of the tests, when the search for the next trace comes to a state and when it takes up a rule.
 -- Assumes nothing.
-use mathlib.Core.Path.{_≡_, refl, sym}
+use mathlib.Core.Path.{_≡_, sym}
 use mathlib.Core.Bool.{Bool, true, false}
 use mathlib.Core.List.{List}
 use Prim.Native.Nat.{ℕ, _-_, _<_, _≤_}
 use native.Mathlib.Omega.{arith}
 use borrow.Author.Tests.{eq-eqb, ne-eqb, le-leb, lt-leb, lt-ltb, le-ltb}
-use lib.Dec.{leb, ltb, eqb}
 use lib.ListN.{getD, set}
 use Rattle.listing.specs.Look.{arrivedDesk, arrivedGoes, taken, takenDesk, takenPath}
 

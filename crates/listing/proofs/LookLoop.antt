@@ -3,17 +3,17 @@
 use mathlib.Core.Path.{_≡_, refl, sym, ap, ap₂, subst, _∙_}
 use mathlib.Core.Logic.{_⊎_, inl, inr}
 use mathlib.Core.Bool.{Bool, true, false}
-use mathlib.Core.Option.{Option, none, some}
+use mathlib.Core.Option.{Option}
 use mathlib.Core.List.{List, [], _∷_, _++_, map}
-use Prim.Native.Nat.{ℕ, zero, suc, _+_, _-_, _<_, _≤_}
+use Prim.Native.Nat.{ℕ, suc, _+_, _-_, _<_, _≤_}
 use native.Mathlib.Omega.{arith}
 use borrow.Author.Tests.{eqb-true}
 use lib.ListN.{length, getD, length-map}
 use lib.Seq.{slice, slice-cons, length-slice}
 use Rattle.model.specs.Base.{keep}
-use Rattle.model.specs.Grammar.{Rule, Grammar, ruleAt}
-use Rattle.model.specs.GrammarFile.{grammarOf, rulesOf}
-use Rattle.model.specs.Rows.{Slot, RowState, walkRow, anyRow}
+use Rattle.model.specs.Grammar.{Rule, Grammar}
+use Rattle.model.specs.GrammarFile.{grammarOf}
+use Rattle.model.specs.Rows.{RowState, walkRow, anyRow}
 use Rattle.model.proofs.FromFile.{ruleRead, rule-read, rules-in}
 use Rattle.model.proofs.RowsBounds.{file-row}
 use Rattle.model.proofs.WellFormed.{rules-length}
@@ -22,7 +22,7 @@ use Rattle.analyses.specs.Chain.{isBy, isOf, firstRule}
 use Rattle.analyses.specs.Search.{standing, under, upTo, Fronted, done}
 use Rattle.listing.specs.Look.{endsRow, Found, nothing, found, over, goesOn, firstComplete, passes, boundAt, beyond, Holds, OnDesk, Looked, LookedUnder, LookedRules, LookedTo, Stood}
 use Rattle.analyses.proofs.Rules.{upTo-next, upTo-split, other-rule, first-later, done-here, done-all, skipped, here-found}
-use Rattle.analyses.proofs.Searches.{not-both}
+use Rattle.model.proofs.Tests.{not-both}
 use Rattle.listing.proofs.Looks.{looked-none, looked-as, looked-joined, looked-stopped}
 use Rattle.listing.proofs.LookStates.{bound-none, either, free}
 use Rattle.listing.proofs.LookRules.{under-same}

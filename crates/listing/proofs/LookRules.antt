@@ -4,8 +4,8 @@ use mathlib.Core.Path.{_≡_, refl, sym, ap, ap₂, subst, _∙_}
 use mathlib.Core.Logic.{_⊎_, inl, inr}
 use mathlib.Core.Bool.{Bool, true, false}
 use mathlib.Core.Option.{Option, none, some}
-use mathlib.Core.List.{List, [], _∷_, _++_, map, append-nil, append-assoc}
-use Prim.Native.Nat.{ℕ, zero, suc, _+_, _-_, _<_, _≤_}
+use mathlib.Core.List.{List, [], _∷_, map}
+use Prim.Native.Nat.{ℕ, suc, _-_, _<_, _≤_}
 use native.Mathlib.Omega.{arith}
 use native.Mathlib.Decide.{decLt, ℕ-discrete}
 use borrow.Author.Tests.{eq-eqb, ne-eqb, le-leb, lt-leb, lt-ltb, le-ltb}
@@ -15,13 +15,12 @@ use lib.Seq.{slice, getD-set-same, getD-set-other}
 use Rattle.model.specs.Base.{if_then_else_, keep}
 use Rattle.model.specs.Grammar.{Grammar}
 use Rattle.model.specs.Rows.{RowState, anyRow}
-use Rattle.model.specs.Step.{before}
 use Rattle.model.proofs.Search.{keep-same, keep-map}
-use Rattle.analyses.specs.Search.{tails, under, upTo}
+use Rattle.analyses.specs.Search.{tails, under}
 use Rattle.listing.specs.Look.{endsRow, firstComplete, goesOn, passes, boundAt, beyond, Holds, nothing, found, over, Found, OnDesk, Looked, taken, takenDesk, takenPath, LookedUnder, LookedAfter}
-use Rattle.analyses.proofs.Searches.{not-both}
+use Rattle.model.proofs.Tests.{not-both}
 use Rattle.listing.proofs.Looks.{looked-none, looked-as}
-use Rattle.listing.proofs.LookStates.{keep-all, keep-no, after-more, after-same, after-less, bound-none, bound-ahead, either}
+use Rattle.listing.proofs.LookStates.{keep-no, after-more, after-same, after-less, bound-none, bound-ahead, either}
 use Rattle.analyses.proofs.Walks.{under-tails}
 
 module _ (g : Grammar) (left : ℕ) (t : RowState) (r : ℕ) where

@@ -4,24 +4,20 @@ use mathlib.Core.Path.{_≡_, refl, sym, ap, ap₂, subst, _∙_}
 use mathlib.Core.Logic.{_⊎_, inl, inr}
 use mathlib.Core.Bool.{Bool, true, false, not, _&&_, _||_}
 use mathlib.Core.Option.{Option, none, some}
-use mathlib.Core.List.{List, [], _∷_, _++_, map}
-use Prim.Native.Nat.{ℕ, zero, suc, _+_, _-_, _<_, _≤_}
+use mathlib.Core.List.{List, [], _∷_}
+use Prim.Native.Nat.{ℕ, zero, suc, _-_, _<_, _≤_}
 use native.Mathlib.Omega.{arith}
 use native.Mathlib.Decide.{decLt}
 use borrow.Author.Tests.{eq-eqb, ne-eqb, le-leb, lt-leb, lt-ltb, le-ltb}
-use lib.Dec.{leb, ltb, eqb}
-use lib.ListN.{length, getD, set, length-set}
+use lib.Dec.{leb, eqb}
+use lib.ListN.{getD, set, length-set}
 use lib.Seq.{slice, slice-cons, slice-empty, getD-set-same, getD-set-other}
 use Rattle.model.specs.Base.{if_then_else_, keep}
 use Rattle.model.specs.Grammar.{Grammar}
-use Rattle.model.specs.Rows.{RowState, RowOutcome, halts, moves, runRow, stepRow, finishedRow, anyRow}
+use Rattle.model.specs.Rows.{RowState, RowOutcome, halts, moves, runRow, stepRow}
 use Rattle.model.specs.Step.{before}
-use Rattle.model.proofs.Search.{keep-same, keep-map}
-use Rattle.analyses.specs.Search.{tails, under}
-use Rattle.listing.specs.Look.{finishedBy, endsRow, Found, nothing, found, over, firstComplete, goesOn, passes, boundAt, beyond, Holds, OnDesk, Looked, visited, arrivedDesk, arrivedGoes, taken, takenDesk, takenPath, LookedUnder, LookedAfter}
-use Rattle.analyses.proofs.Searches.{not-both}
-use Rattle.listing.proofs.Looks.{looked-none, looked-as}
-use Rattle.analyses.proofs.Walks.{under-tails}
+use Rattle.listing.specs.Look.{finishedBy, endsRow, nothing, found, over, firstComplete, goesOn, passes, boundAt, beyond, Holds, OnDesk, Looked, visited, arrivedDesk, arrivedGoes}
+use Rattle.listing.proofs.Looks.{looked-none}
 
 -- after a step that leads on, the rest of a list ends where the list ends
 pub ends-after : (g : Grammar) (t u : RowState) (r : ℕ) → stepRow g t r ≡ moves u → (p : List ℕ) → endsRow g t (r ∷ p) ≡ endsRow g u p

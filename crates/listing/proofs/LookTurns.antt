@@ -1,11 +1,9 @@
 -- The search for the next trace in code, function by function: what each needs of the functions that it calls, and what it then ensures.
 -- Assumes nothing.
 use mathlib.Core.Path.{_≡_, refl, sym, ap, ap₂, subst, _∙_}
-use mathlib.Core.Logic.{_⊎_, inl, inr}
 use mathlib.Core.Bool.{Bool, true, false}
-use mathlib.Core.Option.{Option, none, some}
 use mathlib.Core.List.{List, [], _∷_, _++_, map}
-use Prim.Native.Nat.{ℕ, zero, suc, _+_, _-_, _<_, _≤_}
+use Prim.Native.Nat.{ℕ, suc, _+_, _-_, _<_, _≤_}
 use native.Mathlib.Omega.{arith}
 use native.Mathlib.Decide.{decLt, ℕ-discrete}
 use native.Mathlib.Numerals.{add-one}
@@ -13,7 +11,7 @@ use borrow.Author.Tests.{eq-eqb, ne-eqb}
 use lib.Dec.{eqb}
 use lib.ListN.{length, getD, drop, drop-of-length-le}
 use lib.Seq.{drop-cons}
-use Rattle.model.specs.Base.{if_then_else_, keep, each, numbersFrom}
+use Rattle.model.specs.Base.{each, numbersFrom}
 use Rattle.model.specs.Grammar.{Grammar}
 use Rattle.model.specs.GrammarFile.{grammarOf}
 use Rattle.model.specs.Rows.{Slot, RowState, halts, moves, stepRow, finishedRow, anyRow, liveFromRow}
@@ -25,7 +23,7 @@ use Rattle.recognizer.specs.Steps.{Stands, Goes}
 use Rattle.analyses.specs.Search.{standing, under, upTo, tails}
 use Rattle.listing.specs.Look.{endsRow, passes, boundAt, beyond, OnDesk, Looked, LookedAt, LookedRules, LookedAfter, Stood, arrivedDesk, arrivedGoes}
 use Rattle.listing.proofs.Looks.{looked-none, looked-as, looked-joined, looked-stopped, looked-under}
-use Rattle.listing.proofs.LookStates.{ends-after, arrived, GoesOn, goes-on}
+use Rattle.listing.proofs.LookStates.{ends-after, arrived, goes-on}
 use Rattle.listing.proofs.LookRules.{under-same}
 use Rattle.listing.proofs.LookLoop.{head}
 use Rattle.analyses.proofs.Walks.{walk-empty, tails-moves, tails-long, tails-halts}

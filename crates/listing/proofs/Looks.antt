@@ -3,13 +3,13 @@
 use mathlib.Core.Path.{_≡_, refl, sym, ap, subst, _∙_}
 use mathlib.Core.Bool.{Bool, true, false}
 use mathlib.Core.List.{List, [], _∷_, _++_, map}
-use Prim.Native.Nat.{ℕ, zero, suc, _<_, _≤_}
+use Prim.Native.Nat.{ℕ, zero, suc}
 use native.Mathlib.Omega.{arith}
-use lib.ListN.{length, getD}
+use lib.ListN.{getD}
 use lib.Seq.{slice, slice-cons}
 use Rattle.model.specs.Base.{if_then_else_}
 use Rattle.listing.specs.Look.{Found, nothing, found, over, firstComplete, goesOn, Holds, OnDesk, Looked}
-use Rattle.analyses.proofs.Searches.{not-both}
+use Rattle.model.proofs.Tests.{not-both}
 
 -- what is found in two lists, one after the other
 abbrev onward : Found → (ℕ → Found) → Found

@@ -1,8 +1,8 @@
 -- From entry to entry, the calls for the next one go through the listing: the first comes after the empty list, and after entry m comes entry m + 1.
 -- Assumes nothing.
-use mathlib.Core.Path.{_≡_, refl, sym, ap, ap₂, subst, _∙_}
+use mathlib.Core.Path.{_≡_, refl, sym, ap, ap₂, _∙_}
 use mathlib.Core.Logic.{_⊎_, inl, inr}
-use mathlib.Core.Bool.{Bool, true, false, _&&_, _||_}
+use mathlib.Core.Bool.{Bool, true, false, _&&_}
 use mathlib.Core.List.{List, [], _∷_, List·Memᴰ, List·Memᴰ·head, List·Memᴰ·tail}
 use Prim.Native.Nat.{ℕ, zero, suc, _+_, _<_, _≤_}
 use native.Mathlib.Omega.{arith}
@@ -15,22 +15,19 @@ use Rattle.model.specs.Step.{before}
 use Rattle.model.specs.Counting.{live, complete, listing, effort, count}
 use Rattle.model.specs.LivePrefixes.{InOrder}
 use Rattle.model.proofs.Listing.{listing-lists}
-use Rattle.model.proofs.Order.{before-irrefl}
+use Rattle.model.proofs.Lists.{mem-getD}
+use Rattle.model.proofs.Order.{before-irrefl, or-cases}
+use Rattle.model.proofs.Search.{keep-short}
 use Rattle.model.proofs.Tests.{and-l, and-r}
 use Rattle.listing.specs.Stream.{upToFirst, liveAfter, lookedAt, entriesAfter, firstOf, nextOf, streamed}
-use Rattle.analyses.proofs.FoundEntry.{got}
 
-pub is-true : (b : Bool) → T b → b ≡ true
+is-true : (b : Bool) → T b → b ≡ true
 is-true true t = refl
 is-true false t = absurd t
 
 pub is-false : (b : Bool) → (T b → ⊥) → b ≡ false
 is-false true f = absurd (f tt)
 is-false false f = refl
-
-pub or-cases : (a b : Bool) → T (a || b) → T a ⊎ T b
-or-cases true b t = inl tt
-or-cases false b t = inr t
 
 -- of two lists only one goes before the other
 before-asym : (p q : List ℕ) → T (before p q) → T (before q p) → ⊥
@@ -59,7 +56,7 @@ drop-after (p ∷ l) o zero h =
 drop-after (p ∷ l) o (suc m) h =
     let q = getD l m [] in
     let k : m < length l = omega arith in
-    ap (λ (b : Bool). if b then p ∷ keep (before q) l else keep (before q) l) (is-false (before q p) (λ t. before-asym q p t (o .0 q (got l m k))))
+    ap (λ (b : Bool). if b then p ∷ keep (before q) l else keep (before q) l) (is-false (before q p) (λ t. before-asym q p t (o .0 q (mem-getD l [] m k))))
     ∙ drop-after l (o .1) m k
 
 module _ (g : Grammar) (sentence : List ℕ) (n : ℕ) where
@@ -103,14 +100,6 @@ module _ (g : Grammar) (sentence : List ℕ) (n : ℕ) where
       go true h = omega arith
       go false h = omega arith
 
-  keep-few : (test : List ℕ → Bool) (l : List (List ℕ)) → length (keep test l) ≤ length l
-  keep-few test [] = omega arith
-  keep-few test (x ∷ l) = go (test x) (keep-few test l)
-    where
-      go : (b : Bool) → length (keep test l) ≤ length l → length (if b then x ∷ keep test l else keep test l) ≤ length (x ∷ l)
-      go true h = omega arith
-      go false h = omega arith
-
   pub looked-few : (list : List ℕ) → length (lookedAt g sentence n list) ≤ effort g sentence n
   looked-few list =
-      omega (arith, first-few (complete g sentence) (liveAfter g sentence n list), keep-few (before list) (live g sentence n))
+      omega (arith, first-few (complete g sentence) (liveAfter g sentence n list), keep-short (before list) (live g sentence n))

@@ -1,7 +1,7 @@
 -- Membership in the lists that the definitions make, and lists in order.
 -- Assumes nothing.
 use mathlib.Core.Option.{some}
-use lib.ListN.{length, getElem?}
+use lib.ListN.{length, getD, getElem?}
 use mathlib.Core.Path.{_≡_, refl, ap, subst, sym, _∙_}
 use mathlib.Core.Logic.{_⊎_, inl, inr}
 use mathlib.Core.List.{List, [], _∷_, _++_, map, List·Memᴰ, List·Memᴰ·head, List·Memᴰ·tail, List·Memᴰ·cases-cons, List·Memᴰ·append-cases, append-assoc}
@@ -24,6 +24,12 @@ module _ {A : Type 0} where
   number-below [] r e = let z : _≡_ {A = ℕ} 0 1 = cc in absurd (omega arith)
   number-below (y ∷ l) zero e = omega arith
   number-below (y ∷ l) (suc r) e = omega (arith, number-below l r e)
+
+  -- what stands at a place of the list is in it
+  pub mem-getD : (l : List A) (d : A) (i : ℕ) → i < length l → List·Memᴰ (getD l i d) l
+  mem-getD [] d i h = let z : ⊥ = omega arith in absurd z
+  mem-getD (x ∷ l) d zero h = List·Memᴰ·head refl
+  mem-getD (x ∷ l) d (suc i) h = List·Memᴰ·tail (mem-getD l d i (omega arith))
 
 module _ {A B : Type 0} where
   -- what is in one of the joined lists

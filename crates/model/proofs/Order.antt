@@ -21,7 +21,7 @@ or-right : (a b : Bool) → T b → T (a || b)
 or-right true b t = tt
 or-right false b t = t
 
-or-cases : (a b : Bool) → T (a || b) → T a ⊎ T b
+pub or-cases : (a b : Bool) → T (a || b) → T a ⊎ T b
 or-cases true b t = inl tt
 or-cases false b t = inr t
 

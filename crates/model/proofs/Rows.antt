@@ -83,7 +83,7 @@ trim-nodes q = go (sameFirst (indicesOf q))
     go true = shorten-nodes q
     go false = refl
 
-next-nodes : (g : Grammar) (rule : Rule) (made : ℕ) (p : Prediction ℕ) (q : List (Prediction ℕ))
+pub next-nodes : (g : Grammar) (rule : Rule) (made : ℕ) (p : Prediction ℕ) (q : List (Prediction ℕ))
     → Perm (numbersFrom made (length (rule .daughters)) ++ nodesOf q) (nodesOf (trim (sort (expand (number made) g rule p ++ q))))
 next-nodes g rule made p q =
     let x = expand (number made) g rule p in

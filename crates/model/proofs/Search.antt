@@ -4,8 +4,9 @@ use mathlib.Core.Path.{_≡_, refl, ap, ap₂, _∙_}
 use mathlib.Core.Bool.{Bool, true, false}
 use mathlib.Core.Option.{Option, none, some}
 use mathlib.Core.List.{List, [], _∷_, _++_, map}
-use Prim.Native.Nat.{ℕ}
+use Prim.Native.Nat.{ℕ, _≤_}
 use native.Mathlib.Omega.{arith}
+use lib.ListN.{length}
 use Rattle.model.specs.Base.{if_then_else_, each, keep}
 use Rattle.model.specs.Grammar.{Grammar}
 use Rattle.model.specs.Step.{State, Outcome, fails, leads, step}
@@ -41,6 +42,14 @@ keep-append {A} f (x ∷ xs) ys = go (f x) (keep-append f xs ys)
 pub keep-each : {A B : Type 0} (f : B → Bool) (h : A → List B) (xs : List A) → keep f (each h xs) ≡ each (λ x. keep f (h x)) xs
 keep-each f h [] = refl
 keep-each {A} {B} f h (x ∷ xs) = keep-append f (h x) (each h xs) ∙ ap (λ (l : List B). keep f (h x) ++ l) (keep-each f h xs)
+
+pub keep-short : {A : Type 0} (f : A → Bool) (xs : List A) → length (keep f xs) ≤ length xs
+keep-short f [] = omega arith
+keep-short f (x ∷ xs) = go (f x) (keep-short f xs)
+  where
+    go : (b : Bool) → length (keep f xs) ≤ length xs → length (if b then x ∷ keep f xs else keep f xs) ≤ length (x ∷ xs)
+    go true h = omega arith
+    go false h = omega arith
 
 pub keep-first : (b : Bool) (l : List (List ℕ)) → (if b then [] ∷ [] else []) ++ l ≡ (if b then [] ∷ l else l)
 keep-first true l = refl

@@ -18,6 +18,9 @@ use Rattle.model.specs.GrammarFile.{within}
 pub none-some : {A B : Type 0} {a : A} → some a ≡ none → B
 none-some e = let z : _≡_ {A = ℕ} 0 1 = cc in absurd (omega arith)
 
+pub not-both : {A : Type 0} → true ≡ false → A
+not-both e = let z : _≡_ {A = ℕ} 0 1 = cc in absurd (omega arith)
+
 pub no-refusal : (b : Bool) (r : Refusal) → refuseIf b r ≡ none → b ≡ false
 no-refusal true r e = none-some e
 no-refusal false r e = refl
@@ -136,3 +139,10 @@ or-none (some r) = refl
 pub after : (b : Bool) (r : Refusal) {x y : Option Refusal} → (b ≡ false → x ≡ y) → refuseIf b r orElse x ≡ refuseIf b r orElse y
 after true r same = refl
 after false r same = same refl
+
+-- the first three of four tests, and the fourth
+pub last-apart : (a b c d : Option Refusal) → (a orElse b orElse c orElse d) ≡ ((a orElse b orElse c) orElse d)
+last-apart none none none d = refl
+last-apart none none (some x) d = refl
+last-apart none (some x) c d = refl
+last-apart (some x) b c d = refl

@@ -14,6 +14,7 @@ use Rattle.model.specs.Base.{_orElse_}
 use Rattle.model.specs.Verdict.{refuseIf, verdict}
 use Rattle.model.specs.Grammar.{Grammar}
 use Rattle.model.specs.Trace.{firstUnknown, sentenceRefusal}
+use Rattle.model.specs.Calls.{roomRefusal}
 use Rattle.model.proofs.Tests.{no-refusal, first-of}
 
 pub refused : (o : Option Refusal) (n : ℕ) (x : Refusal) → o ≡ some x → Verdict.Refused x ≡ verdict o n
@@ -54,3 +55,6 @@ pub sentence-short : (g : Grammar) (sentence : List ℕ) → sentenceRefusal g s
 sentence-short g sentence e =
     ltb-false 96 (length sentence)
     (no-refusal (ltb 96 (length sentence)) (Refusal.Analysis 11 96) (first-of (refuseIf (ltb 96 (length sentence)) (Refusal.Analysis 11 96)) (firstUnknown (g .words) 0 sentence) e))
+
+pub room-long : (out : List ℕ) → roomRefusal out ≡ none → 96 ≤ length out
+room-long out e = ltb-false (length out) 96 (no-refusal (ltb (length out) 96) (Refusal.Desk 23 0) e)

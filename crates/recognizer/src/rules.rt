@@ -19,7 +19,7 @@ use model::RuleNumber;
 use model::Word;
 
 // The same number, of which it is known that it has 16 bits.
-fn wide(x: u16) -> usize
+pub fn wide(x: u16) -> usize
     ensures { λ n. ⌜ (n ≡ x) × (n < 65536) ⌝ }
 {
     x as usize

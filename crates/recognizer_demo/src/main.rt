@@ -1,23 +1,7 @@
 // Runs the trace checker on the copy grammar (document 01, K3, K4, K7 and K8), and prints each verdict on a line: the number of nodes, or R with the
 // refusal's number and place.
-use libc::STDOUT_FILENO;
-use model::Verdict;
-
-// A verdict on a line.
-fn print_verdict(v: Verdict) {
-    match v {
-        Verdict::Accepted(n) => {
-            io::print_decimal(STDOUT_FILENO, n);
-        }
-        Verdict::Refused(r) => {
-            io::write_all(STDOUT_FILENO, b"R ");
-            io::print_decimal(STDOUT_FILENO, model::number_of(r) as u64);
-            io::write_all(STDOUT_FILENO, b" ");
-            io::print_decimal(STDOUT_FILENO, model::place_of(r) as u64);
-        }
-    }
-    io::write_all(STDOUT_FILENO, b"\n");
-}
+use showing::load;
+use showing::print_verdict;
 
 // The trace checker's verdict.
 fn check(file: &[u8], sentence: &[u16], trace: &[u16]) {
@@ -40,11 +24,6 @@ fn run(copy: &[u8]) {
 
 fn main() {
     let mut file = [0u8; 1024];
-    let fd = os::open_read(b"grammar");
-    if fd < 0 {
-        return;
-    }
-    let n = io::read_full(fd, &mut file);
-    libc::close(fd);
+    let n = load(b"grammar", &mut file);
     run(&file[0..n]);
 }

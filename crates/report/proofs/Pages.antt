@@ -15,11 +15,11 @@ use Rattle.model.specs.Counting.{listing, effort}
 use Rattle.model.specs.LivePrefixes.{InOrder}
 use Rattle.model.specs.Program.{decimal, line, blank, newline, programLimit}
 use Rattle.model.proofs.Listing.{listing-lists}
-use Rattle.model.proofs.Order.{before-irrefl, before-head, before-tail}
+use Rattle.model.proofs.Order.{or-cases, before-irrefl, before-head, before-tail}
 use Rattle.model.proofs.Tests.{and-l, and-r}
 use Rattle.listing.specs.declared.stream.Followed.{Followed}
 use Rattle.listing.specs.Stream.{entriesAfter, Follows}
-use Rattle.listing.proofs.Streamed.{is-false, or-cases, keep-whole, looked-few}
+use Rattle.listing.proofs.Streamed.{is-false, keep-whole, looked-few}
 use Rattle.report.specs.declared.page.Line.{Line}
 use Rattle.report.specs.declared.page.Page.{Page}
 use Rattle.report.specs.Text.{Put}

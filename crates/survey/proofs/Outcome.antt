@@ -1,12 +1,9 @@
 -- The outcome of the survey: refused for the grammar, refused for room, or with the figures.
 -- Assumes nothing.
-use mathlib.Core.Path.{_≡_, refl, sym, ap, ap₂, _∙_}
+use mathlib.Core.Path.{_≡_, sym, ap, _∙_}
 use mathlib.Core.Option.{Option, none, some}
 use mathlib.Core.List.{List, [], _++_}
-use Prim.Native.Nat.{ℕ, _≤_}
-use native.Mathlib.Omega.{arith}
-use borrow.Author.Tests.{ltb-false}
-use lib.Dec.{ltb}
+use Prim.Native.Nat.{ℕ}
 use lib.ListN.{length, drop}
 use Rattle.model.specs.declared.Refusal.{Refusal}
 use Rattle.model.specs.declared.Verdict.{Verdict}
@@ -15,10 +12,10 @@ use Rattle.model.specs.Verdict.{verdict}
 use Rattle.model.specs.GrammarFile.{grammarRefusal, grammarOf, rulesOf, categoriesOf}
 use Rattle.model.specs.Survey.{Surveyed, survey}
 use Rattle.model.specs.Calls.{written, roomRefusal, surveyRefusal, SurveyOutcome}
-use Rattle.model.proofs.Tests.{none-some, no-refusal}
-use Rattle.model.proofs.FromFile.{categories-in, dimensions-length}
+use Rattle.model.proofs.Tests.{none-some}
+use Rattle.model.proofs.FromFile.{dimensions-length}
 use Rattle.model.proofs.SurveyTrees.{file-surveyed}
-use Rattle.model.proofs.Verdicts.{met, passed}
+use Rattle.model.proofs.Verdicts.{met}
 
 module _ (file out : List ℕ) where
   -- a refusal that is met leaves the output as it was
@@ -36,9 +33,6 @@ module _ (file out : List ℕ) where
 
   pub refused-room : grammarRefusal file ≡ none → (v : Verdict) → v ≡ verdict (roomRefusal out) 0 → {x : Refusal} → v ≡ Verdict.Refused x → SurveyOutcome file out v out
   refused-room a v e {x} f = refused x v (ap (λ (o : Option Refusal). o orElse roomRefusal out) a ∙ met (roomRefusal out) 0 v e f) f
-
-  pub room-long : roomRefusal out ≡ none → 96 ≤ length out
-  room-long e = ltb-false (length out) 96 (no-refusal (ltb (length out) 96) (Refusal.Desk 23 0) e)
 
   pub surveyed-out : grammarRefusal file ≡ none → roomRefusal out ≡ none → (n : ℕ) (after : List ℕ) → n ≡ categoriesOf file → after ≡ survey (grammarOf file) ++ drop n out
       → SurveyOutcome file out (Verdict.Accepted n) after

@@ -1,16 +1,15 @@
 -- A visit to a rule of an accepted file, by the rule's category and the tests of its daughters.
 -- Assumes nothing.
-use mathlib.Core.Path.{_≡_, refl, sym, ap, _∙_}
-use mathlib.Core.Bool.{Bool, true, false, _&&_}
-use mathlib.Core.Option.{Option, none, some}
+use mathlib.Core.Path.{_≡_, ap, _∙_}
+use mathlib.Core.Bool.{true, false, _&&_}
+use mathlib.Core.Option.{none}
 use mathlib.Core.List.{List}
 use Prim.Native.Nat.{ℕ, _<_}
 use native.Mathlib.Omega.{arith}
 use borrow.Author.Tests.{eq-eqb, ne-eqb}
 use lib.Dec.{eqb}
-use lib.ListN.{length, getD, set}
+use lib.ListN.{getD, set}
 use Rattle.model.specs.Base.{if_then_else_}
-use Rattle.model.specs.Grammar.{Rule}
 use Rattle.model.specs.GrammarFile.{grammarRefusal, grammarOf, rulesOf, categoriesOf, recordOf, field, daughtersOf}
 use Rattle.model.specs.Survey.{ready, visitBy, visit}
 use Rattle.model.proofs.FromFile.{rule-read, record-tested, dimensions-length}
@@ -38,6 +37,3 @@ module _ (file : List ℕ) (accepted : grammarRefusal file ≡ none) (r : ℕ) (
     pub visit-due : getD figures (field e 0) 0 ≡ 0 → ready round figures (daughtersOf e) ≡ true
         → visit (grammarOf file) round figures r ≡ set figures (field e 0) round
     visit-due z f = by-tests ∙ rw (eq-eqb (getD figures (field e 0) 0) 0 z, f)
-
-pub not-both : {A : Type 0} → true ≡ false → A
-not-both e = let z : _≡_ {A = ℕ} 0 1 = cc in absurd (omega arith)

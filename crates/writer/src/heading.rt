@@ -1,50 +1,26 @@
 // Refusal 4 of the given numbers.
 ghost use mathlib.Core.Path.{_≡_};
-ghost use Rattle.model.specs.Base.{every};
-ghost use Rattle.model.specs.GrammarFile.{within};
 ghost use Rattle.model.proofs.WriterHeading.{wrongNumbers};
 ghost use Rattle.writer.specs.Writing.{heading, numbersIn};
 use grammar::dimension_in;
+use grammar::dimensions_right;
 use grammar::fields;
 use grammar::less;
+use grammar::within;
 use grammar::zeros;
 use model::Category;
-
-// Whether x is from low to high, ends included.
-fn in_range(low: u16, high: u16, x: u16) -> bool
-    ensures { λ r. ⌜ r ≡ within low high x ⌝ }
-{
-    if x < low {
-        return false;
-    }
-    x <= high
-}
-
-// Whether every byte is from 1 to 4.
-fn all_in_range(bytes: &[u8]) -> bool
-    ensures { λ r. ⌜ r ≡ every (within 1 4) (now (bytes .entry)) ⌝ }
-{
-    let mut i: usize = 0;
-    while i < bytes.len() {
-        if !in_range(1, 4, bytes[i] as u16) {
-            return false;
-        }
-        i += 1;
-    }
-    true
-}
 
 // Whether C, W and R are in range.
 fn numbers_in(categories: u8, words: u16, rules: u16) -> bool
     ensures { λ r. ⌜ r ≡ numbersIn categories words rules ⌝ }
 {
-    if !in_range(1, 64, categories as u16) {
+    if !within(1, 64, categories as u16) {
         return false;
     }
-    if !in_range(1, 4096, words) {
+    if !within(1, 4096, words) {
         return false;
     }
-    in_range(1, 256, rules)
+    within(1, 256, rules)
 }
 
 // Refusal 4 of a heading's numbers with 64 dimension bytes.
@@ -56,7 +32,7 @@ pub fn wrong_numbers(categories: u8, start: u8, words: u16, rules: u16, dimensio
     }
     let n = categories as usize;
     let own = fields(dimensions, 0, n);
-    if !all_in_range(own) {
+    if !dimensions_right(own) {
         return true;
     }
     if categories <= start {

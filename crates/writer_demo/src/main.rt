@@ -4,16 +4,7 @@ ghost use lib.ListN.{length};
 use libc::STDOUT_FILENO;
 use model::RuleNumber;
 use model::Verdict;
-
-fn load(path: &[u8], buf: &mut [u8]) -> usize {
-    let fd = os::open_read(path);
-    if fd < 0 {
-        return 0;
-    }
-    let n = io::read_full(fd, buf);
-    libc::close(fd);
-    n
-}
+use showing::load;
 
 // The records of the file one after the other, as many as there is room for.
 fn gather(file: &[u8], records: &mut [u8])
@@ -61,11 +52,9 @@ fn rewritten(file: &[u8]) -> bool {
 fn main() {
     let mut file = [0u8; 7169];
     let n = load(b"copy", &mut file);
-    if n <= 7169 {
-        if rewritten(&file[0..n]) {
-            io::write_all(STDOUT_FILENO, b"same\n");
-        } else {
-            io::write_all(STDOUT_FILENO, b"other\n");
-        }
+    if rewritten(&file[0..n]) {
+        io::write_all(STDOUT_FILENO, b"same\n");
+    } else {
+        io::write_all(STDOUT_FILENO, b"other\n");
     }
 }

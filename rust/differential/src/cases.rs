@@ -129,10 +129,9 @@ fn right_analysis(pair: &mut Pair, rng: &mut Rng, made: &Made, analysis: &Analys
 
 /// The trace's tree, and the trace of that tree, is the same trace.
 fn round_trip_of_trace(pair: &mut Pair, made: &Made, Analysis { sentence, trace, .. }: &Analysis) -> Done {
-    let Some(trees) = pair.tested.trees() else { return Ok(()) };
     let (mut there, mut back) = ([0; 96], [0; 96]);
-    trees.trace_to_tree(&made.file, sentence, trace, &mut there);
-    trees.tree_to_trace(&made.file, sentence, &there[..trace.len()], &mut back);
+    pair.tested.trace_to_tree(&made.file, sentence, trace, &mut there);
+    pair.tested.tree_to_trace(&made.file, sentence, &there[..trace.len()], &mut back);
     if back[..trace.len()] != trace[..] {
         return Err(Difference { call: Call::TreeToTrace, text: format!("the trace {trace:?} comes back as another one") });
     }

@@ -58,7 +58,7 @@ where
 
 impl Pair<'_> {
     pub fn new(tested: &dyn Calls) -> Pair<'_> {
-        Pair { tested, tally: Tally::new(tested.trees().is_some()) }
+        Pair { tested, tally: Tally::new() }
     }
 
     /// Takes both answers and the difference of the buffers into the tally, or makes a report.
@@ -92,23 +92,20 @@ impl Pair<'_> {
     }
 
     pub fn check_tree(&mut self, file: &[u8], sentence: &[u16], tree: &[u16]) -> Done {
-        let Some(trees) = self.tested.trees() else { return Ok(()) };
-        let answers = (trees.check_tree(file, sentence, tree), Reference.check_tree(file, sentence, tree));
+        let answers = (self.tested.check_tree(file, sentence, tree), Reference.check_tree(file, sentence, tree));
         let input = || format!("sentence {sentence:?}\ntree {tree:?}\n{}", show_file(file));
         self.settle(Call::CheckTree, answers, None, input)
     }
 
     pub fn trace_to_tree(&mut self, file: &[u8], sentence: &[u16], trace: &[u16], out: usize) -> Done {
-        let Some(trees) = self.tested.trees() else { return Ok(()) };
-        let sides: [&dyn TreeCalls; 2] = [trees, &Reference];
+        let sides: [&dyn Calls; 2] = [self.tested, &Reference];
         let (answers, buffer) = both(out, trace.len(), sides, |side, out| side.trace_to_tree(file, sentence, trace, out));
         let input = || format!("output of {out}\nsentence {sentence:?}\ntrace {trace:?}\n{}", show_file(file));
         self.settle(Call::TraceToTree, answers, buffer, input)
     }
 
     pub fn tree_to_trace(&mut self, file: &[u8], sentence: &[u16], tree: &[u16], out: usize) -> Done {
-        let Some(trees) = self.tested.trees() else { return Ok(()) };
-        let sides: [&dyn TreeCalls; 2] = [trees, &Reference];
+        let sides: [&dyn Calls; 2] = [self.tested, &Reference];
         let (answers, buffer) = both(out, tree.len(), sides, |side, out| side.tree_to_trace(file, sentence, tree, out));
         let input = || format!("output of {out}\nsentence {sentence:?}\ntree {tree:?}\n{}", show_file(file));
         self.settle(Call::TreeToTrace, answers, buffer, input)

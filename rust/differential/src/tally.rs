@@ -30,10 +30,6 @@ pub const CALLS: [Call; 9] = [
 ];
 
 impl Call {
-    fn on_trees(self) -> bool {
-        matches!(self, Call::CheckTree | Call::TraceToTree | Call::TreeToTrace)
-    }
-
     /// The refusals that the call can meet.
     pub fn refusals(self) -> Vec<u8> {
         let file = 1..=10;
@@ -55,8 +51,6 @@ impl Call {
 
 /// For each call how often it was accepted (at 0) and how often each refusal was met.
 pub struct Tally {
-    /// Whether the calls on derivation trees are compared.
-    trees: bool,
     met: [[u64; 27]; 9],
     /// Listings where trees and live prefixes were compared.
     pub agreements: u64,
@@ -67,8 +61,8 @@ pub struct Tally {
 }
 
 impl Tally {
-    pub fn new(trees: bool) -> Tally {
-        Tally { trees, met: [[0; 27]; 9], agreements: 0, round_trips: 0, programs: 0 }
+    pub fn new() -> Tally {
+        Tally { met: [[0; 27]; 9], agreements: 0, round_trips: 0, programs: 0 }
     }
 
     pub fn add(&mut self, call: Call, answer: Answer) {
@@ -84,15 +78,10 @@ impl Tally {
         self.met.iter().flatten().sum()
     }
 
-    /// The calls that are compared.
-    fn calls(&self) -> impl Iterator<Item = Call> + '_ {
-        CALLS.into_iter().filter(|call| self.trees || !call.on_trees())
-    }
-
     /// What a run has to meet and did not, in words.
     pub fn missing(&self) -> Vec<String> {
         let mut missing = Vec::new();
-        for call in self.calls() {
+        for call in CALLS {
             let met = &self.met[call as usize];
             if met[0] == 0 {
                 missing.push(format!("{call:?} was never accepted"));
@@ -120,23 +109,20 @@ fn row(number: usize) -> String {
 impl fmt::Display for Tally {
     fn fmt(&self, f: &mut fmt::Formatter) -> fmt::Result {
         write!(f, "{:>13}{:>9}", "", "all")?;
-        for call in self.calls() {
+        for call in CALLS {
             write!(f, "{:>13}", format!("{call:?}"))?;
         }
         writeln!(f)?;
         for number in 0..27 {
             let all: u64 = self.met.iter().map(|met| met[number]).sum();
             write!(f, "{:>13}{all:>9}", row(number))?;
-            for call in self.calls() {
+            for call in CALLS {
                 let can = number == 0 || call.refusals().contains(&(number as u8));
                 let met = self.met[call as usize][number];
                 let shown = if can || met > 0 { met.to_string() } else { "-".to_string() };
                 write!(f, "{shown:>13}")?;
             }
             writeln!(f)?;
-        }
-        if !self.trees {
-            writeln!(f, "the library has no calls on derivation trees: 19 to 22 are not met")?;
         }
         Ok(())
     }

@@ -54,15 +54,13 @@ pub struct Heading {
 }
 
 /// The public calls. A refused call changes no buffer, and an accepted one nothing past the last entry that it writes.
-pub trait Calls {
+pub trait Calls: TreeCalls {
     fn read_grammar(&self, file: &[u8]) -> Answer;
     fn write_grammar(&self, heading: &Heading, records: &[u8], out: &mut [u8]) -> Answer;
     fn check_trace(&self, file: &[u8], sentence: &[u16], trace: &[u16]) -> Answer;
     fn count(&self, file: &[u8], sentence: &[u16], node_limit: u64, effort_limit: u64) -> Answer;
     fn entry(&self, file: &[u8], sentence: &[u16], node_limit: u64, effort_limit: u64, entry: u64, out: &mut [u16]) -> Answer;
     fn survey(&self, file: &[u8], out: &mut [u16]) -> Answer;
-    /// The calls on derivation trees, where this side has them.
-    fn trees(&self) -> Option<&dyn TreeCalls>;
 }
 
 /// The public calls on derivation trees.

@@ -2,7 +2,7 @@
 
 use std::ptr;
 
-use interface::{Answer, Calls, Heading, TreeCalls};
+use interface::{Answer, Calls, Heading};
 
 use crate::answer::{counted, verdict};
 
@@ -96,12 +96,5 @@ impl Calls for Library {
 
     fn survey(&self, file: &[u8], out: &mut [u16]) -> Answer {
         verdict(unsafe { dg_survey(at(file), file.len(), at_mut(out), out.len()) })
-    }
-
-    fn trees(&self) -> Option<&dyn TreeCalls> {
-        #[cfg(downgrater_trees)]
-        return Some(self);
-        #[cfg(not(downgrater_trees))]
-        None
     }
 }

@@ -3,7 +3,7 @@
 mod answer;
 #[cfg(downgrater_library)]
 mod calls;
-#[cfg(all(downgrater_library, downgrater_trees))]
+#[cfg(downgrater_library)]
 mod trees;
 
 pub use answer::{counted, verdict};

@@ -96,10 +96,6 @@ impl Calls for Reference {
     fn survey(&self, file: &[u8], out: &mut [u16]) -> Answer {
         answer(self.written_survey(file, out))
     }
-
-    fn trees(&self) -> Option<&dyn TreeCalls> {
-        Some(self)
-    }
 }
 
 impl TreeCalls for Reference {

@@ -6,12 +6,12 @@ use mathlib.Core.List.{List, _++_}
 use Prim.Native.Nat.{ℕ, _≤_}
 use native.Mathlib.Omega.{arith}
 use lib.ListN.{length, length-take}
+use Rattle.model.proofs.Verdicts.{passed, room-long}
 use borrow.Author.Needs.{needs}
 use Rattle.model.specs.GrammarFile.{grammarRefusal, rulesOf, categoriesOf}
 use Rattle.model.specs.Calls.{roomRefusal}
 use Rattle.model.proofs.FromFile.{categories-in}
-use Rattle.model.proofs.Verdicts.{passed}
-use Rattle.survey.proofs.Outcome.{refused-grammar, refused-room, room-long, surveyed-out}
+use Rattle.survey.proofs.Outcome.{refused-grammar, refused-room, surveyed-out}
 use Rattle.survey.proofs.survey.Statement.{statement}
 use Rattle.survey.proofs.survey.Tie as tie
 use Rattle.survey.proofs.survey.Reads as reads
@@ -87,7 +87,7 @@ part-write-figures-end c =
     let k = c .before .before .before .room-refusal in
     let accepted = passed (grammarRefusal (a .file .now)) (rulesOf (a .file .now)) (g .result) (g .ensures) (c .before .before .before .before .before .enum-told .given .1) in
     let room = passed (roomRefusal (a .out .now)) 0 (k .result) (k .ensures) (c .before .enum-told3 .given .1) in
-    omega (arith, c .categories .ensures, categories-in (a .file .now) accepted, room-long (a .file .now) (a .out .now) room)
+    omega (arith, c .categories .ensures, categories-in (a .file .now) accepted, room-long (a .out .now) room)
 
 -- src/lib.rt:114:5
 write-figures-requires : tie.Need-write-figures-requires
@@ -97,7 +97,7 @@ write-figures-requires c κs =
     let k = c .before .before .before .before .room-refusal in
     let accepted = passed (grammarRefusal (a .file .now)) (rulesOf (a .file .now)) (g .result) (g .ensures) (c .before .before .before .before .before .before .enum-told .given .1) in
     let room = passed (roomRefusal (a .out .now)) 0 (k .result) (k .ensures) (c .before .before .enum-told3 .given .1) in
-    let n : categoriesOf (a .file .now) ≤ length (a .out .now) = omega (arith, categories-in (a .file .now) accepted, room-long (a .file .now) (a .out .now) room) in
+    let n : categoriesOf (a .file .now) ≤ length (a .out .now) = omega (arith, categories-in (a .file .now) accepted, room-long (a .out .now) room) in
     (accepted, simp length-take (omega (arith, c .before .categories .ensures, n)))
 
 -- src/lib.rt:102:1

@@ -12,7 +12,7 @@ use lib.ListN.{length}
 use Rattle.model.specs.GrammarFile.{grammarOf, rulesOf}
 use Rattle.model.specs.Survey.{visit, visits}
 use Rattle.model.proofs.WellFormed.{rules-length}
-use Rattle.survey.proofs.Visit.{not-both}
+use Rattle.model.proofs.Tests.{not-both}
 use Rattle.survey.proofs.visit_all.Statement.{statement}
 use Rattle.survey.proofs.visit_all.Tie as tie
 use Rattle.survey.proofs.visit_all.Reads as reads

@@ -6,7 +6,8 @@ use native.Mathlib.Omega.{arith}
 use borrow.Author.Needs.{needs}
 use lib.ListN.{getD, set}
 use Rattle.model.specs.GrammarFile.{field, recordOf}
-use Rattle.survey.proofs.Visit.{category-below, visit-figured, visit-unready, visit-due, not-both}
+use Rattle.survey.proofs.Visit.{category-below, visit-figured, visit-unready, visit-due}
+use Rattle.model.proofs.Tests.{not-both}
 use Rattle.survey.proofs.visit_rule.Statement.{statement}
 use Rattle.survey.proofs.visit_rule.Tie as tie
 use Rattle.survey.proofs.visit_rule.Reads as reads

@@ -27,15 +27,16 @@ run-tree-requires c κs =
     let p = c .before .before .before .before .before .before .before .before .before .before .pre in
     let q = c .before .before .before .before .first-row in
     let first = c .before .before .before .before .before .start in
-    let n = has-node (a .file .now) (a .sentence .now) (a .list .now) (p .0) (p .1) (p .2) in (
-      p .0,
-      c .before .before .before .before .before .before .compile .ensures (p .0),
-      q .ensures .0,
-      p .5,
-      omega arith,
-      begin-runs (a .file .now) (a .sentence .now) (a .list .now) (p .0) (p .1) (λ z. omega (arith, n)) (q .result) (first .result .0) (first .ensures) (q .ensures .1),
-      first-stood (a .file .now) (a .sentence .now) (a .list .now) (p .0) (p .1) (p .2) (a .ends .now) _ (p .3) (p .4) (refl {a = 96}) (refl {a = 0}),
-    )
+    let n = has-node (a .file .now) (a .sentence .now) (a .list .now) (p .0) (p .1) (p .2) in
+    record {
+      accepted = p .0;
+      compiled = c .before .before .before .before .before .before .compile .ensures (p .0);
+      held = q .ensures .0;
+      room = p .5;
+      known = omega arith;
+      runs = begin-runs (a .file .now) (a .sentence .now) (a .list .now) (p .0) (p .1) (λ z. omega (arith, n)) (q .result) (first .result .0) (first .ensures) (q .ensures .1);
+      stood = first-stood (a .file .now) (a .sentence .now) (a .list .now) (p .0) (p .1) (p .2) (a .ends .now) _ (p .3) (p .4) (refl {a = 96}) (refl {a = 0});
+    }
 
 returns : tie.Need-returns
 returns c =

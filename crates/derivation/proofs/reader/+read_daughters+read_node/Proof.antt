@@ -125,7 +125,6 @@ read-daughters-enum-told t c = search needs
 read-daughters-returns-2 : (t : ℕ) → read-daughters-lts.Need-returns-2 (read-daughters-calls t) (read-daughters-at t) read-daughters.Post
 read-daughters-returns-2 t c =
     let a = c .before .before .before .before .before .before .before .before .before .before .before .before .args in
-    let p = c .before .before .before .before .before .before .before .before .before .before .before .before .pre .1 in
     let r = c .read-daughters in
     subst (λ (cs : List ℕ). Reading (grammarOf (a .file .now)) (a .list .now) cs (a .k) (a .ends .now) (r .last .1 .1 .1 .1 .1 .0) (r .result))
     (sym (more t (c .before .before .before .before .before .before .before)))
@@ -212,7 +211,6 @@ read-node-mul-ends t c = search needs
 
 read-node-element-write-ends : (t : ℕ) → read-node-lts.Need-element-write-ends (read-node-calls t) (read-node-at t) read-node.Post
 read-node-element-write-ends t c =
-    let a = c .before .before .before .before .before .before .before .before .before .before .before .before .before .before .before .before .before .before .args in
     let p = c .before .before .before .before .before .before .before .before .before .before .before .before .before .before .before .before .before .before .pre .1 in
     let n = placed t (c .before .before .before .before .before .before .before .before .before .before .before .before) in
     omega (arith, n .0, p .1, c .before .before .before .read-daughters .ensures .long)

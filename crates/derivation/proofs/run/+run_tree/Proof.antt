@@ -66,33 +66,29 @@ names-given t c =
 
 run-tree-returns : (t : ℕ) → run-tree-lts.Need-returns (calls t) (run-tree-at t) run-tree.Post
 run-tree-returns t c =
-    let a = c .before .before .before .before .args in
     let p = c .before .before .before .before .pre .1 in
-    tree-ended (a .file .now) (a .sentence .now) (a .list .now) (a .ends .now) (a .names .now) (a .q .now) (a .k) (a .read) (a .from) (a .to) (a .made) (a .pending) (p .0) (p .2) (p .5) (p .6) (a .trace .now) (c .if1 .taken)
+    tree-ended p (c .if1 .taken)
 
 run-tree-returns-2 : (t : ℕ) → run-tree-lts.Need-returns-2 (calls t) (run-tree-at t) run-tree.Post
 run-tree-returns-2 t c =
     let a = c .before .before .before .before .before .args in
     let p = c .before .before .before .before .before .pre .1 in
-    tree-empty (a .file .now) (a .sentence .now) (a .list .now) (a .ends .now) (a .names .now) (a .q .now) (a .k) (a .read) (a .from) (a .to) (a .made) (a .pending) (p .0) (p .2) (p .5) (p .6) (a .trace .now) (c .before .if1 .left) (c .if2 .taken) (a .trace .now)
+    tree-empty p (c .before .if1 .left) (c .if2 .taken) (a .trace .now)
 
 run-tree-front-node-requires : (t : ℕ) → run-tree-lts.Need-front-node-requires (calls t) (run-tree-at t) run-tree.Post
 run-tree-front-node-requires t c κs =
-    let a = c .before .before .before .before .before .before .args in
     let p = c .before .before .before .before .before .before .pre .1 in
-    (p .2 .long, omega (arith, c .before .if2 .left, p .2 .within), p .6 .long, omega (arith, owner-made (a .file .now) (a .sentence .now) (a .list .now) (a .ends .now) (a .names .now) (a .q .now) (a .k) (a .read) (a .from) (a .to) (a .made) (a .pending) (p .0) (p .2) (p .5) (p .6) (a .trace .now) (c .before .before .if1 .left) (c .before .if2 .left), p .5 .counted, p .5 .short, p .5 .few))
+    (p .held .long, omega (arith, c .before .if2 .left, p .held .within), p .stood .long, omega (arith, owner-made p (c .before .before .if1 .left) (c .before .if2 .left), p .runs .counted, p .runs .short, p .runs .few))
 
 run-tree-mul-t23 : (t : ℕ) → run-tree-lts.Need-mul-t23 (calls t) (run-tree-at t) run-tree.Post
 run-tree-mul-t23 t c =
-    let a = c .before .before .before .before .before .before .before .args in
     let p = c .before .before .before .before .before .before .before .pre .1 in
-    omega (arith, node-inside (a .file .now) (a .sentence .now) (a .list .now) (a .ends .now) (a .names .now) (a .q .now) (a .k) (a .read) (a .from) (a .to) (a .made) (a .pending) (p .0) (p .2) (p .5) (p .6) (a .trace .now) (c .before .before .before .if1 .left) (c .before .before .if2 .left) (c .front-node .result) (c .front-node .ensures), c .before .before .before .if1 .left, p .5 .few)
+    omega (arith, node-inside p (c .before .before .before .if1 .left) (c .before .before .if2 .left) (c .front-node .result) (c .front-node .ensures), c .before .before .before .if1 .left, p .runs .few)
 
 run-tree-shared-slice-read-t28 : (t : ℕ) → run-tree-lts.Need-shared-slice-read-t28 (calls t) (run-tree-at t) run-tree.Post
 run-tree-shared-slice-read-t28 t c =
-    let a = c .before .before .before .before .before .before .before .before .args in
     let p = c .before .before .before .before .before .before .before .before .pre .1 in
-    omega (arith, node-inside (a .file .now) (a .sentence .now) (a .list .now) (a .ends .now) (a .names .now) (a .q .now) (a .k) (a .read) (a .from) (a .to) (a .made) (a .pending) (p .0) (p .2) (p .5) (p .6) (a .trace .now) (c .before .before .before .before .if1 .left) (c .before .before .before .if2 .left) (c .before .front-node .result) (c .before .front-node .ensures), c .before .before .before .before .if1 .left)
+    omega (arith, node-inside p (c .before .before .before .before .if1 .left) (c .before .before .before .if2 .left) (c .before .front-node .result) (c .before .front-node .ensures), c .before .before .before .before .if1 .left)
 
 run-tree-sub-left : (t : ℕ) → run-tree-lts.Need-sub-left (calls t) (run-tree-at t) run-tree.Post
 run-tree-sub-left t c = search needs
@@ -104,7 +100,7 @@ run-tree-step-requires : (t : ℕ) → run-tree-lts.Need-step-requires (calls t)
 run-tree-step-requires t c κs =
     let a = c .before .before .before .before .before .before .before .before .before .args in
     let p = c .before .before .before .before .before .before .before .before .before .pre .1 in
-    (p .0, p .1, p .2, refl {a = 384}, p .4, tree-stands (a .file .now) (a .sentence .now) (a .list .now) (a .ends .now) (a .names .now) (a .q .now) (a .k) (a .read) (a .from) (a .to) (a .made) (a .pending) (p .0) (p .2) (p .5) (p .6) (a .trace .now) (c .before .before .before .before .before .if1 .left))
+    (p .accepted, p .compiled, p .held, refl {a = 384}, p .known, tree-stands p (c .before .before .before .before .before .if1 .left))
 
 run-tree-enum-told : (t : ℕ) → run-tree-lts.Need-enum-told (calls t) (run-tree-at t) run-tree.Post
 run-tree-enum-told t c = search needs
@@ -131,7 +127,7 @@ run-tree-sub-run-tree : (t : ℕ) → run-tree-lts.Need-sub-run-tree (calls t) (
 run-tree-sub-run-tree t c =
     let a = c .before .before .before .before .before .before .before .before .before .before .before .before .before .args in
     let p = c .before .before .before .before .before .before .before .before .before .before .before .before .before .pre .1 in
-    pending-some (a .file .now) (a .q .now) (a .from) (a .to) (a .made) (a .pending) (drop (a .read) (a .sentence .now)) (p .0) (p .5 .reached) (p .2) (c .before .before .before .before .before .before .before .before .if2 .left)
+    pending-some (a .file .now) (a .q .now) (a .from) (a .to) (a .made) (a .pending) (drop (a .read) (a .sentence .now)) (p .accepted) (p .runs .reached) (p .held) (c .before .before .before .before .before .before .before .before .if2 .left)
 
 run-tree-run-tree-requires : (t : ℕ) → run-tree-lts.Need-run-tree-requires (calls t) (run-tree-at t) run-tree.Post
 run-tree-run-tree-requires t c κs =
@@ -139,15 +135,15 @@ run-tree-run-tree-requires t c κs =
     let p = c .before .before .before .before .before .before .before .before .before .before .before .before .before .before .before .pre .1 in
     let goes = scan-goes t (c .before .before) in (
       omega (arith, c .before .before .before .before .before .before .before .before .before .before .before .before .before .before .before .pre .0, c .before .before .before .before .before .before .before .before .before .before .before .if1 .left),
-      (
-        p .0,
-        p .1,
-        record { long = p .2 .long; ordered = omega (arith, goes .0 .fronted); within = p .2 .within },
-        length-set (a .trace .now) (a .k) _ ∙ p .3,
-        goes .1,
-        runs-on (a .file .now) (a .sentence .now) (a .list .now) (a .ends .now) (a .names .now) (a .q .now) (a .k) (a .read) (a .from) (a .to) (a .made) (a .pending) (p .0) (p .2) (p .5) (p .6) (a .trace .now) (c .before .before .before .before .before .before .before .before .before .before .before .if1 .left) (c .before .before .before .before .before .before .before .before .before .before .if2 .left) (c .before .before .before .before .before .before .before .before .front-node .result) (c .before .before .before .before .before .before .before .before .front-node .ensures) _ (goes .0),
-        p .6,
-      ),
+      record {
+        accepted = p .accepted;
+        compiled = p .compiled;
+        held = record { long = p .held .long; ordered = omega (arith, goes .0 .fronted); within = p .held .within };
+        room = length-set (a .trace .now) (a .k) _ ∙ p .room;
+        known = goes .1;
+        runs = runs-on p (c .before .before .before .before .before .before .before .before .before .before .before .if1 .left) (c .before .before .before .before .before .before .before .before .before .before .if2 .left) (c .before .before .before .before .before .before .before .before .front-node .result) (c .before .before .before .before .before .before .before .before .front-node .ensures) _ (goes .0);
+        stood = p .stood;
+      },
     )
 
 run-tree-enum-known-s-2 : (t : ℕ) → run-tree-lts.Need-enum-known-s-2 (calls t) (run-tree-at t) run-tree.Post
@@ -167,40 +163,37 @@ run-tree-wide-requires-2 t c κs = search needs
 
 run-tree-name-daughters-requires : (t : ℕ) → run-tree-lts.Need-name-daughters-requires (calls t) (run-tree-at t) run-tree.Post
 run-tree-name-daughters-requires t c κs =
-    let a = c .before .before .before .before .before .before .before .before .before .before .before .before .before .before .before .before .args in
     let p = c .before .before .before .before .before .before .before .before .before .before .before .before .before .before .before .before .pre .1 in
     let goes = row-goes t (c .before .before .before) in
     let i = c .before .before .before .before .before .before .before .before .before .front-node in (
-      p .6 .ends-long,
-      p .6 .long,
-      omega (arith, c .before .before .wide .ensures, c .before .wide2 .ensures, goes .0 .short, p .5 .counted, p .5 .short, p .5 .few),
-      omega (arith, node-inside (a .file .now) (a .sentence .now) (a .list .now) (a .ends .now) (a .names .now) (a .q .now) (a .k) (a .read) (a .from) (a .to) (a .made) (a .pending) (p .0) (p .2) (p .5) (p .6) (a .trace .now) (c .before .before .before .before .before .before .before .before .before .before .before .before .if1 .left) (c .before .before .before .before .before .before .before .before .before .before .before .if2 .left) (i .result) (i .ensures), p .5 .few),
-      λ j h. sisters-inside (a .file .now) (a .sentence .now) (a .list .now) (a .ends .now) (a .names .now) (a .q .now) (a .k) (a .read) (a .from) (a .to) (a .made) (a .pending) (p .0) (p .2) (p .5) (p .6) (a .trace .now) (c .before .before .before .before .before .before .before .before .before .before .before .before .if1 .left) (c .before .before .before .before .before .before .before .before .before .before .before .if2 .left) (i .result) (i .ensures) _ (goes .0) (c .before .before .before .before .s2 .given .0 .1 .0) refl j (omega (arith, c .before .wide2 .ensures)),
+      p .stood .ends-long,
+      p .stood .long,
+      omega (arith, c .before .before .wide .ensures, c .before .wide2 .ensures, goes .0 .short, p .runs .counted, p .runs .short, p .runs .few),
+      omega (arith, node-inside p (c .before .before .before .before .before .before .before .before .before .before .before .before .if1 .left) (c .before .before .before .before .before .before .before .before .before .before .before .if2 .left) (i .result) (i .ensures), p .runs .few),
+      λ j h. sisters-inside p (c .before .before .before .before .before .before .before .before .before .before .before .before .if1 .left) (c .before .before .before .before .before .before .before .before .before .before .before .if2 .left) (i .result) (i .ensures) _ (goes .0) (c .before .before .before .before .s2 .given .0 .1 .0) refl j (omega (arith, c .before .wide2 .ensures)),
     )
 
 run-tree-add-run-tree-3 : (t : ℕ) → run-tree-lts.Need-add-run-tree-3 (calls t) (run-tree-at t) run-tree.Post
-run-tree-add-run-tree-3 t c = omega (arith, c .before .before .before .before .before .before .before .before .before .before .before .before .before .if1 .left, c .before .before .before .before .before .before .before .before .before .before .before .before .before .before .before .before .before .pre .1 .5 .few)
+run-tree-add-run-tree-3 t c = omega (arith, c .before .before .before .before .before .before .before .before .before .before .before .before .before .if1 .left, c .before .before .before .before .before .before .before .before .before .before .before .before .before .before .before .before .before .pre .1 .runs .few)
 
 run-tree-add-run-tree-4 : (t : ℕ) → run-tree-lts.Need-add-run-tree-4 (calls t) (run-tree-at t) run-tree.Post
 run-tree-add-run-tree-4 t c =
-    let a = c .before .before .before .before .before .before .before .before .before .before .before .before .before .before .before .before .before .before .args in
     let p = c .before .before .before .before .before .before .before .before .before .before .before .before .before .before .before .before .before .before .pre .1 in
-    omega (arith, row-goes t (c .before .before .before .before .before) .2, p .5 .counted, p .5 .short, p .5 .few)
+    omega (arith, row-goes t (c .before .before .before .before .before) .2, p .runs .counted, p .runs .short, p .runs .few)
 
 run-tree-sub-run-tree-2 : (t : ℕ) → run-tree-lts.Need-sub-run-tree-2 (calls t) (run-tree-at t) run-tree.Post
 run-tree-sub-run-tree-2 t c =
     let a = c .before .before .before .before .before .before .before .before .before .before .before .before .before .before .before .before .before .before .args in
     let p = c .before .before .before .before .before .before .before .before .before .before .before .before .before .before .before .before .before .before .pre .1 in
-    pending-some (a .file .now) (a .q .now) (a .from) (a .to) (a .made) (a .pending) (drop (a .read) (a .sentence .now)) (p .0) (p .5 .reached) (p .2) (c .before .before .before .before .before .before .before .before .before .before .before .before .before .if2 .left)
+    pending-some (a .file .now) (a .q .now) (a .from) (a .to) (a .made) (a .pending) (drop (a .read) (a .sentence .now)) (p .accepted) (p .runs .reached) (p .held) (c .before .before .before .before .before .before .before .before .before .before .before .before .before .if2 .left)
 
 run-tree-cast-run-tree : (t : ℕ) → run-tree-lts.Need-cast-run-tree (calls t) (run-tree-at t) run-tree.Post
 run-tree-cast-run-tree t c = search needs
 
 run-tree-add-run-tree-5 : (t : ℕ) → run-tree-lts.Need-add-run-tree-5 (calls t) (run-tree-at t) run-tree.Post
 run-tree-add-run-tree-5 t c =
-    let a = c .before .before .before .before .before .before .before .before .before .before .before .before .before .before .before .before .before .before .args in
     let p = c .before .before .before .before .before .before .before .before .before .before .before .before .before .before .before .before .before .before .pre .1 in
-    omega (arith, row-goes t (c .before .before .before .before .before) .2, p .5 .short, p .5 .few)
+    omega (arith, row-goes t (c .before .before .before .before .before) .2, p .runs .short, p .runs .few)
 
 run-tree-run-tree-requires-2 : (t : ℕ) → run-tree-lts.Need-run-tree-requires-2 (calls t) (run-tree-at t) run-tree.Post
 run-tree-run-tree-requires-2 t c κs =
@@ -209,41 +202,39 @@ run-tree-run-tree-requires-2 t c κs =
     let goes = row-goes t (c .before .before .before .before .before .before .before) in
     let i = c .before .before .before .before .before .before .before .before .before .before .before .before .before .front-node in (
       omega (arith, c .before .before .before .before .before .before .before .before .before .before .before .before .before .before .before .before .before .before .before .before .pre .0, c .before .before .before .before .before .before .before .before .before .before .before .before .before .before .before .before .if1 .left),
-      (
-        p .0,
-        p .1,
-        record { long = c .before .before .before .before .before .before .before .before .before .before .step .ensures .kept; ordered = omega arith; within = goes .1 },
-        length-set (a .trace .now) (a .k) _ ∙ p .3,
-        p .4,
-        runs-on (a .file .now) (a .sentence .now) (a .list .now) (a .ends .now) (a .names .now) (a .q .now) (a .k) (a .read) (a .from) (a .to) (a .made) (a .pending) (p .0) (p .2) (p .5) (p .6) (a .trace .now) (c .before .before .before .before .before .before .before .before .before .before .before .before .before .before .before .before .if1 .left) (c .before .before .before .before .before .before .before .before .before .before .before .before .before .before .before .if2 .left) (i .result) (i .ensures) _ (goes .0),
-        stood-on (a .file .now) (a .sentence .now) (a .list .now) (a .ends .now) (a .names .now) (a .q .now) (a .k) (a .read) (a .from) (a .to) (a .made) (a .pending) (p .0) (p .2) (p .5) (p .6) (a .trace .now) (c .before .before .before .before .before .before .before .before .before .before .before .before .before .before .before .before .if1 .left) (c .before .before .before .before .before .before .before .before .before .before .before .before .before .before .before .if2 .left) (i .result) (i .ensures) _ (goes .0) (c .before .before .before .before .before .before .before .before .s2 .given .0 .1 .0) refl _ (names-given t (c .before .before .before)),
-      ),
+      record {
+        accepted = p .accepted;
+        compiled = p .compiled;
+        held = record { long = c .before .before .before .before .before .before .before .before .before .before .step .ensures .kept; ordered = omega arith; within = goes .1 };
+        room = length-set (a .trace .now) (a .k) _ ∙ p .room;
+        known = p .known;
+        runs = runs-on p (c .before .before .before .before .before .before .before .before .before .before .before .before .before .before .before .before .if1 .left) (c .before .before .before .before .before .before .before .before .before .before .before .before .before .before .before .if2 .left) (i .result) (i .ensures) _ (goes .0);
+        stood = stood-on p (c .before .before .before .before .before .before .before .before .before .before .before .before .before .before .before .before .if1 .left) (c .before .before .before .before .before .before .before .before .before .before .before .before .before .before .before .if2 .left) (i .result) (i .ensures) _ (goes .0) (c .before .before .before .before .before .before .before .before .s2 .given .0 .1 .0) refl _ (names-given t (c .before .before .before));
+      },
     )
 
 run-tree-returns-3 : (t : ℕ) → run-tree-lts.Need-returns-3 (calls t) (run-tree-at t) run-tree.Post
 run-tree-returns-3 t c =
     let a = c .before .before .before .before .before .before .before .before .before .before .before .before .args in
     let p = c .before .before .before .before .before .before .before .before .before .before .before .before .pre .1 in
-    tree-halted (a .file .now) (a .sentence .now) (a .list .now) (a .ends .now) (a .names .now) (a .q .now) (a .k) (a .read) (a .from) (a .to) (a .made) (a .pending) (p .0) (p .2) (p .5) (p .6) (a .trace .now) (c .before .before .before .before .before .before .before .before .if1 .left) (c .before .before .before .before .before .before .before .if2 .left) (c .before .before .before .before .before .front-node .result) (c .before .before .before .before .before .front-node .ensures) _ (rw (c .enum-told .given .1) at (c .before .before .step .ensures .says)) (a .trace .now)
+    tree-halted p (c .before .before .before .before .before .before .before .before .if1 .left) (c .before .before .before .before .before .before .before .if2 .left) (c .before .before .before .before .before .front-node .result) (c .before .before .before .before .before .front-node .ensures) _ (rw (c .enum-told .given .1) at (c .before .before .step .ensures .says)) (a .trace .now)
 
 run-tree-returns-4 : (t : ℕ) → run-tree-lts.Need-returns-4 (calls t) (run-tree-at t) run-tree.Post
 run-tree-returns-4 t c =
     let a = c .before .before .before .before .before .before .before .before .before .before .before .before .args in
     let p = c .before .before .before .before .before .before .before .before .before .before .before .before .pre .1 in
     let l : (s : RowState) × (stepRow (grammarOf (a .file .now)) (stateOf (a .q .now) (a .from) (a .to) (a .made) (a .pending) (drop (a .read) (a .sentence .now))) (getD (a .list .now) (c .before .before .before .before .before .front-node .result) 0) ≡ moves s) × (length (a .list .now) - a .k - 1 < s .pending) = rw (c .enum-told2 .given .1) at (c .before .before .step .ensures .says) in
-    tree-long (a .file .now) (a .sentence .now) (a .list .now) (a .ends .now) (a .names .now) (a .q .now) (a .k) (a .read) (a .from) (a .to) (a .made) (a .pending) (p .0) (p .2) (p .5) (p .6) (a .trace .now) (c .before .before .before .before .before .before .before .before .if1 .left) (c .before .before .before .before .before .before .before .if2 .left) (c .before .before .before .before .before .front-node .result) (c .before .before .before .before .before .front-node .ensures) l (a .trace .now)
+    tree-long p (c .before .before .before .before .before .before .before .before .if1 .left) (c .before .before .before .before .before .before .before .if2 .left) (c .before .before .before .before .before .front-node .result) (c .before .before .before .before .before .front-node .ensures) l (a .trace .now)
 
 run-tree-returns-5 : (t : ℕ) → run-tree-lts.Need-returns-5 (calls t) (run-tree-at t) run-tree.Post
 run-tree-returns-5 t c =
-    let a = c .before .before .before .before .before .before .before .before .before .before .before .before .before .before .before .before .args in
     let p = c .before .before .before .before .before .before .before .before .before .before .before .before .before .before .before .before .pre .1 in
-    tree-scanned (a .file .now) (a .sentence .now) (a .list .now) (a .ends .now) (a .names .now) (a .q .now) (a .k) (a .read) (a .from) (a .to) (a .made) (a .pending) (p .0) (p .2) (p .5) (p .6) (a .trace .now) (c .before .before .before .before .before .before .before .before .before .before .before .before .if1 .left) (c .before .before .before .before .before .before .before .before .before .before .before .if2 .left) (c .before .before .before .before .before .before .before .before .before .front-node .result) (c .before .before .before .before .before .before .before .before .before .front-node .ensures) _ (scan-goes t (c .before .before .before) .0) refl _ (c .run-tree .result) (c .run-tree .ensures)
+    tree-scanned p (c .before .before .before .before .before .before .before .before .before .before .before .before .if1 .left) (c .before .before .before .before .before .before .before .before .before .before .before .if2 .left) (c .before .before .before .before .before .before .before .before .before .front-node .result) (c .before .before .before .before .before .before .before .before .before .front-node .ensures) _ (scan-goes t (c .before .before .before) .0) refl (c .run-tree .last .1 .1 .1 .1 .1 .1 .1 .1 .1 .1 .1 .1 .1 .0) (c .run-tree .result) (c .run-tree .ensures)
 
 run-tree-returns-6 : (t : ℕ) → run-tree-lts.Need-returns-6 (calls t) (run-tree-at t) run-tree.Post
 run-tree-returns-6 t c =
-    let a = c .before .before .before .before .before .before .before .before .before .before .before .before .before .before .before .before .before .before .before .before .before .args in
     let p = c .before .before .before .before .before .before .before .before .before .before .before .before .before .before .before .before .before .before .before .before .before .pre .1 in
-    tree-expanded (a .file .now) (a .sentence .now) (a .list .now) (a .ends .now) (a .names .now) (a .q .now) (a .k) (a .read) (a .from) (a .to) (a .made) (a .pending) (p .0) (p .2) (p .5) (p .6) (a .trace .now) (c .before .before .before .before .before .before .before .before .before .before .before .before .before .before .before .before .before .if1 .left) (c .before .before .before .before .before .before .before .before .before .before .before .before .before .before .before .before .if2 .left) (c .before .before .before .before .before .before .before .before .before .before .before .before .before .before .front-node .result) (c .before .before .before .before .before .before .before .before .before .before .before .before .before .before .front-node .ensures) _ (row-goes t (c .before .before .before .before .before .before .before .before) .0) (c .before .before .before .before .before .before .before .before .before .s2 .given .0 .1 .0) refl _ (names-given t (c .before .before .before .before)) _ (c .run-tree2 .result) (c .run-tree2 .ensures)
+    tree-expanded p (c .before .before .before .before .before .before .before .before .before .before .before .before .before .before .before .before .before .if1 .left) (c .before .before .before .before .before .before .before .before .before .before .before .before .before .before .before .before .if2 .left) (c .before .before .before .before .before .before .before .before .before .before .before .before .before .before .front-node .result) (c .before .before .before .before .before .before .before .before .before .before .before .before .before .before .front-node .ensures) _ (row-goes t (c .before .before .before .before .before .before .before .before) .0) (c .before .before .before .before .before .before .before .before .before .s2 .given .0 .1 .0) refl _ (names-given t (c .before .before .before .before)) (c .run-tree2 .last .1 .1 .1 .1 .1 .1 .1 .1 .1 .1 .1 .1 .1 .0) (c .run-tree2 .result) (c .run-tree2 .ensures)
 
 pub +run-tree-spec : {M : Type 1} → statement M
 +run-tree-spec = close μ-run-tree λ t. run-tree-lts.spec (calls t)

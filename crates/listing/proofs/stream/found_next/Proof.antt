@@ -1,5 +1,6 @@
 use mathlib.Core.Path.{_≡_, refl, sym, ap, subst, _∙_}
 use mathlib.Core.List.{List}
+use native.Mathlib.Omega.{arith}
 use Rattle.listing.specs.declared.stream.Followed.{Followed}
 use Prim.Native.Nat.{ℕ}
 use lib.ListN.{length, take}
@@ -40,7 +41,7 @@ follow-requires c κs =
     let a = s .args in
     let p = s .pre in
     let r = ranges (a .n) (a .limit) (p .1) in
-    (p .0, c .before .before .before .before .compile .ensures (p .0), c .before .before .before .chain-rules .ensures (p .0), r .nodes-some, r .nodes-few, p .3, path-long (a .previous .now) _ _ (c .before .before .before .before .before .before .write-front .ensures) refl (p .3))
+    (p .0, c .before .before .before .before .compile .ensures (p .0), c .before .before .before .chain-rules .ensures (p .0), r .nodes-some, r .nodes-few, omega (arith, p .3), path-long (a .previous .now) _ _ (c .before .before .before .before .before .before .write-front .ensures) refl (p .3))
 
 -- src/stream.rt:99:24
 enum-known-f : tie.Need-enum-known-f

@@ -23,20 +23,20 @@ returns c =
 fields-requires : tie.Need-fields-requires
 fields-requires c κs = search needs
 
-all-in-range-requires : tie.Need-all-in-range-requires
-all-in-range-requires c κs = search needs
+dimensions-right-requires : tie.Need-dimensions-right-requires
+dimensions-right-requires c κs = search needs
 
 returns-2 : tie.Need-returns-2
 returns-2 c =
     let numbers = sym (c .before .before .before .before .numbers-in .ensures) ∙ not-false (c .before .before .before .before .numbers-in .result) (c .before .before .before .if1 .left) in
-    let dimensions = ap (every (within 1 4)) (sym (c .before .before .fields .ensures)) ∙ sym (c .before .all-in-range .ensures) ∙ not-true (c .before .all-in-range .result) (c .if2 .taken) in
+    let dimensions = ap (every (within 1 4)) (sym (c .before .before .fields .ensures)) ∙ sym (c .before .dimensions-right .ensures) ∙ not-true (c .before .dimensions-right .result) (c .if2 .taken) in
     sym (rw (numbers, dimensions))
 
 returns-3 : tie.Need-returns-3
 returns-3 c =
     let a = c .before .before .before .before .before .before .before .args in
     let numbers = sym (c .before .before .before .before .before .numbers-in .ensures) ∙ not-false (c .before .before .before .before .before .numbers-in .result) (c .before .before .before .before .if1 .left) in
-    let dimensions = ap (every (within 1 4)) (sym (c .before .before .before .fields .ensures)) ∙ sym (c .before .before .all-in-range .ensures) ∙ not-false (c .before .before .all-in-range .result) (c .before .if2 .left) in
+    let dimensions = ap (every (within 1 4)) (sym (c .before .before .before .fields .ensures)) ∙ sym (c .before .before .dimensions-right .ensures) ∙ not-false (c .before .before .dimensions-right .result) (c .before .if2 .left) in
     let start = le-ltb (a .start) (a .categories) (c .if3 .taken) in
     sym (rw (numbers, dimensions, start))
 
@@ -47,7 +47,7 @@ returns-4 : tie.Need-returns-4
 returns-4 c =
     let a = c .before .before .before .before .before .before .before .before .before .args in
     let numbers = sym (c .before .before .before .before .before .before .before .numbers-in .ensures) ∙ not-false (c .before .before .before .before .before .before .before .numbers-in .result) (c .before .before .before .before .before .before .if1 .left) in
-    let dimensions = ap (every (within 1 4)) (sym (c .before .before .before .before .before .fields .ensures)) ∙ sym (c .before .before .before .before .all-in-range .ensures) ∙ not-false (c .before .before .before .before .all-in-range .result) (c .before .before .before .if2 .left) in
+    let dimensions = ap (every (within 1 4)) (sym (c .before .before .before .before .before .fields .ensures)) ∙ sym (c .before .before .before .before .dimensions-right .ensures) ∙ not-false (c .before .before .before .before .dimensions-right .result) (c .before .before .before .if2 .left) in
     let start = lt-ltb (a .start) (a .categories) (c .before .before .if3 .left) in
     let is = c .before .dimension-in .ensures ∙ ap (λ (l : List ℕ). dimensionIn l (a .start)) (c .before .before .before .before .before .fields .ensures) in
     let one = ap (λ (x : ℕ). eqb x 1) (sym is) ∙ ne-eqb (c .before .dimension-in .result) 1 (c .if4 .taken) in
@@ -63,7 +63,7 @@ returns-5 : tie.Need-returns-5
 returns-5 c =
     let a = c .before .before .before .before .before .before .before .before .before .before .before .args in
     let numbers = sym (c .before .before .before .before .before .before .before .before .before .numbers-in .ensures) ∙ not-false (c .before .before .before .before .before .before .before .before .before .numbers-in .result) (c .before .before .before .before .before .before .before .before .if1 .left) in
-    let dimensions = ap (every (within 1 4)) (sym (c .before .before .before .before .before .before .before .fields .ensures)) ∙ sym (c .before .before .before .before .before .before .all-in-range .ensures) ∙ not-false (c .before .before .before .before .before .before .all-in-range .result) (c .before .before .before .before .before .if2 .left) in
+    let dimensions = ap (every (within 1 4)) (sym (c .before .before .before .before .before .before .before .fields .ensures)) ∙ sym (c .before .before .before .before .before .before .dimensions-right .ensures) ∙ not-false (c .before .before .before .before .before .before .dimensions-right .result) (c .before .before .before .before .before .if2 .left) in
     let start = lt-ltb (a .start) (a .categories) (c .before .before .before .before .if3 .left) in
     let is = c .before .before .before .dimension-in .ensures ∙ ap (λ (l : List ℕ). dimensionIn l (a .start)) (c .before .before .before .before .before .before .before .fields .ensures) in
     let one = ap (λ (x : ℕ). eqb x 1) (sym is) ∙ eq-eqb (c .before .before .before .dimension-in .result) 1 (c .before .before .if4 .left) in
@@ -77,7 +77,7 @@ wrong-numbers-spec =
     numbers-in-requires
     returns
     fields-requires
-    all-in-range-requires
+    dimensions-right-requires
     returns-2
     returns-3
     dimension-in-requires

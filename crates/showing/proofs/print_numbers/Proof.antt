@@ -1,20 +1,20 @@
--- `derivation_demo::print_steps` meets its contract.
+-- `showing::print_numbers` meets its contract.
 -- Assumes nothing.
 use Prim.Native.Nat.{_≤_, _-_}
 use borrow.Author.Needs.{needs}
-use Rattle.derivation_demo.proofs.print_steps.Statement.{statement}
-use Rattle.derivation_demo.proofs.print_steps.Tie as tie
-use Rattle.derivation_demo.proofs.print_steps.Reads as reads
-use Rattle.derivation_demo.proofs.print_steps.Lts as lts
+use Rattle.showing.proofs.print_numbers.Statement.{statement}
+use Rattle.showing.proofs.print_numbers.Tie as tie
+use Rattle.showing.proofs.print_numbers.Reads as reads
+use Rattle.showing.proofs.print_numbers.Lts as lts
 use Rattle.buffers.proofs.number_at.Reads as number-at-reads
 use Rattle.io.proofs.print_decimal.Reads as print-decimal-reads
 use Rattle.io.proofs.write_all.Reads as write-all-reads
 
 abbrev Inv-loop : tie.InvT-loop
-Inv-loop count steps i₀ t5 t6 i = i ≤ count
+Inv-loop count list i₀ t5 t6 i = i ≤ count
 
 abbrev μ-loop : tie.MeasureT-loop
-μ-loop count steps i₀ t5 t6 i = count - i
+μ-loop count list i₀ t5 t6 i = count - i
 
 -- src/main.rt:29:5
 loop-holds : tie.Need-loop-holds Inv-loop μ-loop
@@ -64,8 +64,8 @@ write-all-requires-2 c κs = search needs
 returns : tie.Need-returns Inv-loop μ-loop
 returns c = search needs
 
-pub print-steps-spec : {M : Type 1} → statement M
-print-steps-spec =
+pub print-numbers-spec : {M : Type 1} → statement M
+print-numbers-spec =
     tie.close
     (tie.spec
     Inv-loop
