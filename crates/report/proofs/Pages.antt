@@ -1,8 +1,8 @@
 -- The listing as lines: a line and those after it, page by page.
 -- Assumes nothing.
-use mathlib.Core.Path.{_≡_, refl, sym, ap, ap₂, subst, _∙_}
+use mathlib.Core.Path.{_≡_, refl, sym, ap, subst, _∙_}
 use mathlib.Core.Logic.{_⊎_, inl, inr}
-use mathlib.Core.Bool.{Bool, true, false, _&&_, _||_}
+use mathlib.Core.Bool.{Bool, true, false, _&&_}
 use mathlib.Core.List.{List, [], _∷_, _++_, append-assoc, append-nil, List·Memᴰ, List·Memᴰ·head, List·Memᴰ·tail}
 use Prim.Native.Nat.{ℕ, _+_, _-_, _*_, _<_, _≤_}
 use native.Mathlib.Omega.{arith}
@@ -15,32 +15,20 @@ use Rattle.model.specs.Counting.{listing, effort}
 use Rattle.model.specs.LivePrefixes.{InOrder}
 use Rattle.model.specs.Program.{decimal, line, blank, newline, programLimit}
 use Rattle.model.proofs.Listing.{listing-lists}
-use Rattle.model.proofs.Order.{before-irrefl, before-head, before-tail}
+use Rattle.model.proofs.Order.{or-cases, before-irrefl, before-head, before-tail}
 use Rattle.model.proofs.Tests.{and-l, and-r}
 use Rattle.listing.specs.declared.stream.Followed.{Followed}
-use Rattle.listing.specs.Stream.{entriesAfter, lookedAt, Follows}
-use Rattle.listing.proofs.Streamed.{looked-few}
+use Rattle.listing.specs.Stream.{entriesAfter, Follows}
+use Rattle.listing.proofs.Streamed.{is-false, keep-whole, looked-few}
 use Rattle.report.specs.declared.page.Line.{Line}
 use Rattle.report.specs.declared.page.Page.{Page}
 use Rattle.report.specs.Text.{Put}
 use Rattle.report.specs.Page.{Lists, linesAfter, LineSays, PageSays}
 use Rattle.report.proofs.Placed.{put-none, put-join, put-long}
 
-is-false : (b : Bool) → (T b → ⊥) → b ≡ false
-is-false true f = absurd (f tt)
-is-false false f = refl
-
-is-true : (b : Bool) → T b → b ≡ true
-is-true true t = refl
-is-true false t = absurd t
-
 so : (b : Bool) → b ≡ true → T b
 so true e = tt
 so false e = let z : _≡_ {A = ℕ} 0 1 = cc in absurd (omega arith)
-
-or-cases : (a b : Bool) → T (a || b) → T a ⊎ T b
-or-cases true b t = inl tt
-or-cases false b t = inr t
 
 -- dictionary order goes on
 before-trans : (p q r : List ℕ) → T (before p q) → T (before q r) → T (before p r)
@@ -61,11 +49,6 @@ before-trans (x ∷ p) (y ∷ q) (z ∷ r) t u =
         let e : x ≡ z = omega (arith, eqb→eq x y (and-l (eqb x y) (before p q) v), eqb→eq y z (and-l (eqb y z) (before q r) w)) in
         subst (λ (h : ℕ). T (before (x ∷ p) (h ∷ r))) e (before-tail x p r (ih (and-r (eqb x y) (before p q) v) (and-r (eqb y z) (before q r) w)))
 
-keep-whole : (f : List ℕ → Bool) (l : List (List ℕ)) → ((p : List ℕ) → List·Memᴰ p l → T (f p)) → keep f l ≡ l
-keep-whole f [] h = refl
-keep-whole f (x ∷ l) h =
-    ap₂ (λ (b : Bool) (m : List (List ℕ)). if b then x ∷ m else m) (is-true (f x) (h x (List·Memᴰ·head refl))) (keep-whole f l (λ p m. h p (List·Memᴰ·tail m)))
-
 kept-by : (f : List ℕ → Bool) (x : List ℕ) (m : List (List ℕ)) (b : Bool) → f x ≡ b → keep f (x ∷ m) ≡ (if b then x ∷ keep f m else keep f m)
 kept-by f x m b e = ap (λ (z : Bool). if z then x ∷ keep f m else keep f m) e
 
@@ -75,8 +58,8 @@ after-first [] o list p rest e = let z : _≡_ {A = ℕ} 0 1 = cc in absurd (ome
 after-first (x ∷ l) o list p rest e = go (before list x) refl (λ f. after-first l (o .1) list p rest f)
   where
     -- x is p
-    here : (e : x ∷ keep (before list) l ≡ p ∷ rest) → T (before list x) → x ≡ p → keep (before list) l ≡ rest → keep (before p) (x ∷ l) ≡ rest
-    here e t same others =
+    here : T (before list x) → x ≡ p → keep (before list) l ≡ rest → keep (before p) (x ∷ l) ≡ rest
+    here t same others =
         ap (λ (q : List ℕ). keep (before q) (x ∷ l)) (sym same)
         ∙ kept-by (before x) x l false (is-false (before x x) (before-irrefl x))
         ∙ keep-whole (before x) l (o .0)
@@ -84,8 +67,8 @@ after-first (x ∷ l) o list p rest e = go (before list x) refl (λ f. after-fir
         ∙ others
 
     -- p comes later, so that x does not come after p
-    later : (keep (before list) l ≡ p ∷ rest) → List·Memᴰ p l → keep (before p) l ≡ rest → keep (before p) (x ∷ l) ≡ rest
-    later f m g = kept-by (before p) x l false (is-false (before p x) (λ t. before-irrefl p (before-trans p x p t (o .0 p m)))) ∙ g
+    later : List·Memᴰ p l → keep (before p) l ≡ rest → keep (before p) (x ∷ l) ≡ rest
+    later m g = kept-by (before p) x l false (is-false (before p x) (λ t. before-irrefl p (before-trans p x p t (o .0 p m)))) ∙ g
 
     member : (l : List (List ℕ)) → keep (before list) l ≡ p ∷ rest → List·Memᴰ p l
     member [] f = let z : _≡_ {A = ℕ} 0 1 = cc in absurd (omega arith)
@@ -98,8 +81,8 @@ after-first (x ∷ l) o list p rest e = go (before list x) refl (λ f. after-fir
     go : (b : Bool) → before list x ≡ b → (keep (before list) l ≡ p ∷ rest → keep (before p) l ≡ rest) → keep (before p) (x ∷ l) ≡ rest
     go true d ih =
         let f : x ∷ keep (before list) l ≡ p ∷ rest = sym (kept-by (before list) x l true d) ∙ e in
-        here f (so (before list x) d) (cc f) (cc f)
-    go false d ih = let f : keep (before list) l ≡ p ∷ rest = sym (kept-by (before list) x l false d) ∙ e in later f (member l f) (ih f)
+        here (so (before list x) d) (cc f) (cc f)
+    go false d ih = let f : keep (before list) l ≡ p ∷ rest = sym (kept-by (before list) x l false d) ∙ e in later (member l f) (ih f)
 
 module _ (g : Grammar) (sentence : List ℕ) (n : ℕ) (list path : List ℕ) where
   lines-next : (p : List ℕ) (rest : List (List ℕ)) → entriesAfter g sentence n list ≡ p ∷ rest

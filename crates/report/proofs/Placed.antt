@@ -4,13 +4,13 @@ use mathlib.Core.Path.{_≡_, refl, sym, ap, ap₂, subst, _∙_}
 use mathlib.Core.Bool.{Bool, true, false}
 use mathlib.Core.Logic.{_⊎_, ⊎-elim}
 use mathlib.Core.List.{List, [], _∷_, _++_, append-assoc, append-nil}
-use Prim.Native.Nat.{ℕ, zero, suc, _+_, _*_, _-_, _<_, _≤_}
+use Prim.Native.Nat.{ℕ, suc, _+_, _-_, _<_, _≤_}
 use native.Mathlib.Omega.{arith}
 use native.Mathlib.Nat.{eq-or-lt-of-le}
 use native.Mathlib.Numerals.{add-one}
 use borrow.Author.Tests.{eqb-true, eqb-false}
 use lib.Dec.{eqb}
-use lib.ListN.{length, getD, take, drop, set, length-set, length-append, length-drop}
+use lib.ListN.{length, getD, drop, set, length-set, length-append, length-drop}
 use lib.Seq.{sets, length-sets, drop-cons, drop-length}
 use Rattle.model.specs.Program.{decimal, line, blank, newline}
 use Rattle.report.specs.Text.{Put, ending}
@@ -82,9 +82,6 @@ two-before before after at x y q l w =
       within = w .within;
     }
 
-eq-or-less : (a b : ℕ) → a ≤ b → (a ≡ b) ⊎ (a < b)
-eq-or-less a b h = eq-or-lt-of-le h
-
 -- the loop through a line's numbers xs: those before place i are written, and what is left comes at place p
 pub record LineTo (xs before : List ℕ) (at : ℕ) (after : List ℕ) (i p : ℕ) : Type 0 where
   pub few : i ≤ length xs
@@ -110,7 +107,7 @@ module _ (xs before : List ℕ) (at : ℕ) (after : List ℕ) (i p : ℕ) (w : L
         goes : last ≡ false → 0 < length (drop (suc i) xs)
         goes t =
             let z : i + 1 ≡ n → ⊥ = eqb-false (i + 1) n (sym l ∙ t) in
-            ⊎-elim (λ (y : i + 1 ≡ n). absurd (z y)) (λ (y : i + 1 < n). omega (arith, length-drop (suc i) xs)) (eq-or-less (i + 1) n (omega arith))
+            ⊎-elim (λ (y : i + 1 ≡ n). absurd (z y)) (λ (y : i + 1 < n). omega (arith, length-drop (suc i) xs)) (eq-or-lt-of-le {n = i + 1} {m = n} (omega arith))
 
     item-length : length (lineFrom (drop i xs)) ≡ length (decimal x ++ (ending last ∷ [])) + length (lineFrom (drop (i + 1) xs))
     item-length = ap length next-item ∙ length-append (decimal x ++ (ending last ∷ [])) (lineFrom (drop (i + 1) xs))

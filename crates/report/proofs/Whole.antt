@@ -1,15 +1,15 @@
 -- The program's verdict, test by test; and that it is the verdict on the whole files, of which only the beginnings are read.
 -- Assumes nothing.
-use mathlib.Core.Path.{_≡_, refl, sym, ap, ap₂, subst, _∙_}
+use mathlib.Core.Path.{_≡_, refl, sym, ap, ap₂, _∙_}
 use mathlib.Core.Bool.{Bool, true, false, not, _&&_}
-use mathlib.Core.List.{List, [], _∷_, _++_}
+use mathlib.Core.List.{List, [], _∷_, _++_, append-nil}
 use mathlib.Core.Option.{Option, none, some}
-use Prim.Native.Nat.{ℕ, zero, suc, _+_, _*_, _/_, _%_, _<_, _≤_}
+use Prim.Native.Nat.{ℕ, zero, suc, _+_, _*_, _%_, _<_, _≤_}
 use native.Mathlib.Omega.{arith}
 use borrow.Author.Tests.{lt-ltb, ltb-false, leb-true, leb-false}
 use lib.Dec.{T, eqb, ltb, leb, eqb→eq}
-use lib.ListN.{length, getD, take, drop}
-use lib.Seq.{take-all, take-take, take-nil, length-take-le, getD-take}
+use lib.ListN.{length, take}
+use lib.Seq.{take-all, take-nil, length-take-le}
 use Rattle.model.specs.declared.Refusal.{Refusal}
 use Rattle.model.specs.declared.CountVerdict.{CountVerdict}
 use Rattle.model.specs.Base.{_orElse_, each}
@@ -26,7 +26,7 @@ use Rattle.analyses.proofs.Limits.{ranges}
 use Rattle.listing.specs.Stream.{entriesAfter}
 use Rattle.listing.proofs.Streamed.{after-nothing}
 use Rattle.report.specs.Whole.{refusalOf, verdictOf, programVerdict, ReadOf}
-use Rattle.report.specs.Page.{linesAfter}
+use Rattle.report.specs.Page.{linesAfter, Pages, last, more}
 
 module _ (file sentence : List ℕ) (n : ℕ) (even : Bool) where
   by-tests : (o : Option Refusal) (b : Bool) → grammarRefusal file ≡ o → even ≡ b
@@ -180,6 +180,19 @@ module _ (f s file sentence : List ℕ) (n : ℕ) (even : Bool) (r : ReadOf f s 
           ap₂ (λ (x y : List ℕ). listing (grammarOf x) y (limitIn s)) file-is sentence-same
           ∙ ap (listing (grammarOf file) sentence) (sym (r .limit-is))
           ∙ sym (after-nothing (grammarOf file) sentence n)
+
+-- pages that follow each other are the lines of all entries from there on
+pages-joined : (g : Grammar) (sentence : List ℕ) (n : ℕ) {list : List ℕ} {pages : List (List ℕ)} → Pages g sentence n list pages
+    → linesAfter g sentence n list ≡ each (λ l. l) pages
+pages-joined g sentence n (last {list} {l} e) = e ∙ sym (append-nil l)
+pages-joined g sentence n (more {list} {l} {next} {pages} e rest) = e ∙ ap (λ (x : List ℕ). l ++ x) (pages-joined g sentence n rest)
+
+-- what the program prints: the line of count and effort, and the pages
+pub prints-pages : (f s file sentence : List ℕ) (n : ℕ) (even : Bool) → ReadOf f s file sentence n even
+    → (a b : ℕ) → verdictOf file sentence n even ≡ CountVerdict.Counted a b
+    → (pages : List (List ℕ)) → Pages (grammarOf file) sentence n [] pages → program f s ≡ line (a ∷ b ∷ []) ++ each (λ l. l) pages
+prints-pages f s file sentence n even r a b e pages p =
+    prints-listing f s file sentence n even r a b e ∙ ap (λ (x : List ℕ). line (a ∷ b ∷ []) ++ x) (pages-joined (grammarOf file) sentence n p)
 
 -- pairs of the first bytes are the first pairs
 pairs-take : (m : ℕ) (l : List ℕ) → take m (pairs (take (m + m) l)) ≡ take m (pairs l)

@@ -46,3 +46,10 @@ abbrev pub PageSays : Grammar → List ℕ → ℕ → List ℕ → List ℕ →
 PageSays g sentence n list path before at after (More p k) =
     (l : List ℕ) × Put before after at l p × (k ≤ 96) × (length path ≡ 96) × (linesAfter g sentence n list ≡ l ++ linesAfter g sentence n (take k path))
 PageSays g sentence n list path before at after (Last p) = (l : List ℕ) × Put before after at l p × (linesAfter g sentence n list ≡ l)
+
+-- the texts of the pages that follow each other from the entries after a list on
+module _ (g : Grammar) (sentence : List ℕ) (n : ℕ) where
+  pub data Pages : List ℕ → List (List ℕ) → Type 0 where
+    last : {list l : List ℕ} → linesAfter g sentence n list ≡ l → Pages list (l ∷ [])
+    more : {list l next : List ℕ} {pages : List (List ℕ)} → linesAfter g sentence n list ≡ l ++ linesAfter g sentence n next → Pages next pages
+        → Pages list (l ∷ pages)

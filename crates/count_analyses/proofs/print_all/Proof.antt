@@ -1,4 +1,6 @@
-use mathlib.Core.Path.{_≡_, sym, _∙_}
+-- `count_analyses::print_all` meets its contract.
+-- Assumes nothing.
+use mathlib.Core.Path.{sym, _∙_}
 use Rattle.report.proofs.Whole.{affords}
 use borrow.Author.Needs.{needs}
 use Rattle.count_analyses.proofs.print_all.Statement.{statement}

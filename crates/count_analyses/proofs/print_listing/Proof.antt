@@ -1,4 +1,6 @@
-use mathlib.Core.Path.{_≡_, refl}
+-- `count_analyses::print_listing` meets its contract.
+-- Assumes nothing.
+use mathlib.Core.Path.{refl}
 use Prim.Native.Nat.{_≤_}
 use native.Mathlib.Omega.{arith}
 use lib.ListN.{length}

@@ -1,3 +1,5 @@
+-- `count_analyses::print_page` meets its contract.
+-- Assumes nothing.
 use borrow.Author.Needs.{needs}
 use Rattle.count_analyses.proofs.print_page.Statement.{statement}
 use Rattle.count_analyses.proofs.print_page.Tie as tie

@@ -1,3 +1,5 @@
+-- `count_analyses::read_rest` meets its contract.
+-- Assumes nothing.
 use Prim.Native.Nat.{_<_}
 use borrow.Author.Needs.{needs}
 use Rattle.count_analyses.proofs.read_rest.Statement.{statement}

@@ -1,6 +1,7 @@
+-- `report::page::fill` meets its contract.
+-- Assumes nothing.
 use native.Mathlib.Omega.{arith}
 use Prim.Native.Nat.{_-_}
-use mathlib.Core.Path.{_≡_, _∙_}
 use lib.ListN.{length, take}
 use Rattle.model.specs.GrammarFile.{grammarOf}
 use Rattle.report.proofs.Pages.{FilledTo, lists-again, filled-none, filled-long, filled-more, filled-less, filled-last, last-long, filled-page}

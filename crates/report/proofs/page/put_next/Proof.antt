@@ -1,3 +1,5 @@
+-- `report::page::put_next` meets its contract.
+-- Assumes nothing.
 use lib.ListN.{length, take}
 use Rattle.model.specs.GrammarFile.{grammarOf}
 use Rattle.report.proofs.Pages.{next-fits, says-next, says-last, says-over}

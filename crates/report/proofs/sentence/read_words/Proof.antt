@@ -1,5 +1,6 @@
-use Prim.Native.Nat.{ℕ, suc, _+_, _*_, _-_, _<_, _≤_}
-use native.Mathlib.Omega.{arith}
+-- `report::sentence::read_words` meets its contract.
+-- Assumes nothing.
+use Prim.Native.Nat.{_-_}
 use Rattle.report.proofs.Pairs.{WordsTo, words-none, words-more, words-end, words-full}
 use borrow.Author.Needs.{needs}
 use Rattle.report.proofs.sentence.read_words.Statement.{statement}

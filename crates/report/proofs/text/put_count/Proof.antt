@@ -1,6 +1,7 @@
+-- `report::text::put_count` meets its contract.
+-- Assumes nothing.
 use mathlib.Core.Bool.{true, false}
 use Rattle.report.proofs.Placed.{item-long}
-use mathlib.Core.Path.{_≡_, refl, sym, ap, _∙_}
 use native.Mathlib.Omega.{arith}
 use Rattle.report.proofs.Placed.{put-long, put-join, put-same, count-line}
 use borrow.Author.Needs.{needs}

@@ -1,3 +1,5 @@
+-- `report::text::put_number` meets its contract.
+-- Assumes nothing.
 use Rattle.report.proofs.Placed.{put-same}
 use borrow.Author.Needs.{needs}
 use Rattle.report.proofs.text.put_number.Statement.{statement}

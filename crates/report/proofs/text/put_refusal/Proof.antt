@@ -1,4 +1,6 @@
-use mathlib.Core.Path.{_≡_, ap₂, _∙_}
+-- `report::text::put_refusal` meets its contract.
+-- Assumes nothing.
+use mathlib.Core.Path.{ap₂, _∙_}
 use mathlib.Core.List.{[], _∷_}
 use Prim.Native.Nat.{ℕ}
 use native.Mathlib.Omega.{arith}

@@ -1,11 +1,11 @@
+-- `report::text::spell` meets its contract.
+-- Assumes nothing.
 use Rattle.report.proofs.Digits.{begun, one-more, all-there}
-use mathlib.Core.Path.{_≡_, refl, sym, ap, _∙_}
-use mathlib.Core.List.{List, []}
-use Prim.Native.Nat.{ℕ, suc, _+_, _-_, _<_, _≤_}
+use mathlib.Core.Path.{_≡_, sym, ap, _∙_}
+use Prim.Native.Nat.{ℕ, _-_, _≤_}
 use native.Mathlib.Omega.{arith}
-use lib.ListN.{length, drop, set, length-set}
+use lib.ListN.{length, drop, length-set}
 use Rattle.model.specs.Program.{decimal, digitsBefore}
-use Rattle.report.proofs.Digits.{digit-more, digit-first}
 use borrow.Author.Needs.{needs}
 use Rattle.report.proofs.text.spell.Statement.{statement}
 use Rattle.report.proofs.text.spell.Tie as tie

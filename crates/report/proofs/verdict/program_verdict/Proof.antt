@@ -1,4 +1,6 @@
-use mathlib.Core.Path.{_≡_, refl, sym, ap, _∙_}
+-- `report::verdict::program_verdict` meets its contract.
+-- Assumes nothing.
+use mathlib.Core.Path.{_∙_}
 use Rattle.model.specs.GrammarFile.{grammarRefusal, rulesOf}
 use Rattle.model.proofs.Verdicts.{passed, met}
 use Rattle.report.proofs.Whole.{by-grammar, by-length, by-count}
