@@ -40,6 +40,16 @@ module _ (file table chain sentence : List ℕ) (read : ℕ) (q : List ℕ) (fro
   rules-few : R ≤ 256
   rules-few = omega (arith, rules-length file, rules-in file (ready .accepted) .1)
 
+  slots : length (rowOf q from to) ≡ to - from
+  slots = length-map (slice from to q) unpacked ∙ length-slice from to q (omega (arith, ready .held .within, ready .held .long))
+
+  -- the row is empty where nothing is predicted, and nowhere else
+  pub none-left : from ≡ to → pending ≡ 0
+  none-left e = omega (arith, file-row file (ready .accepted) S (ready .reached) .1, slots)
+
+  pub some-left : (from ≡ to → ⊥) → 1 ≤ pending
+  some-left n = not-none pending (λ z. n (omega (arith, file-row file (ready .accepted) S (ready .reached) .0, slots, ready .held .ordered)))
+
   -- every state has a live prefix: the empty one
   effort-some : (n : ℕ) → 1 ≤ effortBelow g n S
   effort-some zero = omega arith

@@ -54,14 +54,15 @@ pub fn search(
     requires { ⌜ Known (now t) (now chain) (now s) read (now q) from to pending made fuel (now sheet) ⌝ }
     ensures { λ b. ⌜ KnownAt (now (t .entry)) (now (chain .entry)) (now (s .entry)) read (now (q .entry)) from to pending made fuel (now (sheet .entry)) b (now (sheet .exit)) ⌝ }
 {
+    let place = 96 - fuel;
     let budget = sheet[1];
     if budget == 0 {
         return false;
     }
     sheet[1] = budget - 1;
-    if pending == 0 {
+    if from == to {
         if s.len() == read {
-            complete(sheet, 96 - fuel);
+            complete(sheet, place);
         }
         return true;
     }
@@ -83,7 +84,7 @@ pub fn search(
             sheet,
             r,
         );
-        note(sheet, first, 96 - fuel, r);
+        note(sheet, first, place, r);
         if within {
             let i = r as usize;
             r = chain[64 + i];

@@ -13,7 +13,7 @@ use Rattle.recognizer.specs.Row.{unpacked}
 use Rattle.analyses.specs.Tally.{spentOne}
 use Rattle.analyses.specs.Search.{standing, SearchedAt, SearchedUnder, Ready, KnownTo}
 use Rattle.analyses.proofs.Turns.{row-some, rule-small, head-here, fit, empty-ready, empty-word, no-words, word-ready, next-word, other-word, queue-long, row-room, made-small, row-ready-by, next-row-by, noted-rule}
-use Rattle.analyses.proofs.AtState.{not-none, no-budget, all-read, words-left, rules-ready, below-rules}
+use Rattle.analyses.proofs.AtState.{not-none, none-left, some-left, no-budget, all-read, words-left, rules-ready, below-rules}
 use Rattle.analyses.proofs.Loop.{came-first, fronted, ready-now, came-next, later, over-budget, came-last}
 use borrow.Author.Needs.{needs}
 use Prim.Native.Nat.{ℕ, _<_}
@@ -66,7 +66,7 @@ stepped-at t = and 5 stepped-kinds.ps (is 5 stepped-kinds.ps μ-stepped t) stepp
 abbrev stepped-below : ℕ → In 5 stepped-kinds.ps
 stepped-below t = and 5 stepped-kinds.ps (falls 5 stepped-kinds.ps _<_ μ-stepped t) stepped.Pre
 
--- src/search.rt:194:46
+-- src/search.rt:195:46
 expanded-mul-expand : (t : ℕ) → expanded-lts.Need-mul-expand (
   expand-reads.Asked,
   expand-reads.Learnt,
@@ -75,7 +75,7 @@ expanded-mul-expand : (t : ℕ) → expanded-lts.Need-mul-expand (
 ) (expanded-at t) expanded.Post
 expanded-mul-expand t c = search needs
 
--- src/search.rt:194:9
+-- src/search.rt:195:9
 expanded-expand-requires : (t : ℕ) → expanded-lts.Need-expand-requires (
   expand-reads.Asked,
   expand-reads.Learnt,
@@ -93,7 +93,7 @@ expanded-expand-requires t c κs =
     let l : a .pending + getD (a .t .now) (32 * a .r) 0 ≤ a .fuel = omega (arith, p .1, p .3) in
     (fit f (a .t .now) (a .chain .now) (a .s .now) (a .read) (a .q .now) (a .from) (a .to) (a .pending) (a .made) (a .fuel) (a .sheet .now) rd (a .r) fr, rd .held, head-here f (a .t .now) (a .chain .now) (a .s .now) (a .read) (a .q .now) (a .from) (a .to) (a .pending) (a .made) (a .fuel) (a .sheet .now) rd (a .r) fr, made-small f (a .t .now) (a .chain .now) (a .s .now) (a .read) (a .q .now) (a .from) (a .to) (a .pending) (a .made) (a .fuel) (a .sheet .now) rd (a .r) fr h l, refl, row-room f (a .t .now) (a .chain .now) (a .s .now) (a .read) (a .q .now) (a .from) (a .to) (a .pending) (a .made) (a .fuel) (a .sheet .now) rd (a .r) fr h l)
 
--- src/search.rt:203:9
+-- src/search.rt:204:9
 expanded-sub-search : (t : ℕ) → expanded-lts.Need-sub-search (
   expand-reads.Asked,
   expand-reads.Learnt,
@@ -104,7 +104,7 @@ expanded-sub-search t c =
     let s = c .before .before .before .before in
     omega (arith, s .pre .1 .0 .fronted .predicted)
 
--- src/search.rt:203:9
+-- src/search.rt:204:9
 expanded-add-search : (t : ℕ) → expanded-lts.Need-add-search (
   expand-reads.Asked,
   expand-reads.Learnt,
@@ -115,7 +115,7 @@ expanded-add-search t c =
     let s = c .before .before .before .before in
     omega (arith, s .pre .1 .0 .ready .short, s .pre .1 .3)
 
--- src/search.rt:204:9
+-- src/search.rt:205:9
 expanded-add-search-2 : (t : ℕ) → expanded-lts.Need-add-search-2 (
   expand-reads.Asked,
   expand-reads.Learnt,
@@ -126,7 +126,7 @@ expanded-add-search-2 t c =
     let s = c .before .before .before .before in
     omega (arith, s .pre .1 .0 .ready .short, s .pre .1 .0 .ready .numbered, s .pre .1 .0 .ready .fits, s .pre .1 .3)
 
--- src/search.rt:205:9
+-- src/search.rt:206:9
 expanded-sub-search-2 : (t : ℕ) → expanded-lts.Need-sub-search-2 (
   expand-reads.Asked,
   expand-reads.Learnt,
@@ -137,7 +137,7 @@ expanded-sub-search-2 t c =
     let s = c .before .before .before .before in
     omega (arith, s .pre .1 .0 .ready .fits, s .pre .1 .0 .fronted .predicted)
 
--- src/search.rt:195:5
+-- src/search.rt:196:5
 expanded-search-requires : (t : ℕ) → expanded-lts.Need-search-requires (
   expand-reads.Asked,
   expand-reads.Learnt,
@@ -154,7 +154,7 @@ expanded-search-requires t c κs =
     let x = c .before .before .expand in
     (omega (arith, s .pre .0, rd .fits, fr .predicted), record { file = f; ready = row-ready-by f (a .t .now) (a .chain .now) (a .s .now) (a .read) (a .q .now) (a .from) (a .to) (a .pending) (a .made) (a .fuel) (a .sheet .now) rd (a .r) fr (a .d) (p .1) (p .2) (p .3) _ _ (x .result) (x .ensures) (x .ensures .kept) })
 
--- src/search.rt:175:1
+-- src/search.rt:176:1
 expanded-returns : (t : ℕ) → expanded-lts.Need-returns (
   expand-reads.Asked,
   expand-reads.Learnt,
@@ -171,13 +171,26 @@ expanded-returns t c =
     next-row-by f (a .t .now) (a .chain .now) (a .s .now) (a .read) (a .q .now) (a .from) (a .to) (a .pending) (a .made) (a .fuel) (a .sheet .now) rd (a .r) fr (a .d) (p .1) (p .2) (p .3) _ _ (x .result) (x .ensures) (x .ensures .kept) (k .result) _ (k .ensures f (row-ready-by f (a .t .now) (a .chain .now) (a .s .now) (a .read) (a .q .now) (a .from) (a .to) (a .pending) (a .made) (a .fuel) (a .sheet .now) rd (a .r) fr (a .d) (p .1) (p .2) (p .3) _ _ (x .result) (x .ensures) (x .ensures .kept)))
 
 abbrev search-Inv-loop : search-lts.InvT-loop
-search-Inv-loop t chain s read q from to pending made fuel sheet₀ budget a r₀ sheet r =
+search-Inv-loop t chain s read q from to pending made fuel sheet₀ place budget a r₀ sheet r =
     (length sheet ≡ 100) × KnownTo t chain s read q from to pending made fuel sheet₀ sheet r
 
 abbrev search-μ-loop : search-lts.MeasureT-loop
-search-μ-loop t chain s read q from to pending made fuel sheet₀ budget a r₀ sheet r = 256 - r
+search-μ-loop t chain s read q from to pending made fuel sheet₀ place budget a r₀ sheet r = 256 - r
 
--- src/search.rt:57:18
+-- src/search.rt:57:17
+search-sub-place : (t : ℕ) → search-lts.Need-sub-place (
+  complete-reads.Asked,
+  complete-reads.Learnt,
+  category-reads.Asked,
+  category-reads.Learnt,
+  stepped-below t,
+  stepped.Post,
+  note-reads.Asked,
+  note-reads.Learnt,
+) (search-at t) search′.Post search-Inv-loop search-μ-loop
+search-sub-place t c = omega (arith, c .before .pre .1 .ready .short)
+
+-- src/search.rt:58:18
 search-element-copy-out-budget : (t : ℕ) → search-lts.Need-element-copy-out-budget (
   complete-reads.Asked,
   complete-reads.Learnt,
@@ -190,7 +203,7 @@ search-element-copy-out-budget : (t : ℕ) → search-lts.Need-element-copy-out-
 ) (search-at t) search′.Post search-Inv-loop search-μ-loop
 search-element-copy-out-budget t c = search needs
 
--- src/search.rt:59:9
+-- src/search.rt:60:9
 search-returns : (t : ℕ) → search-lts.Need-returns (
   complete-reads.Asked,
   complete-reads.Learnt,
@@ -207,7 +220,7 @@ search-returns t c =
     λ f p.
     no-budget f (a .t .now) (a .chain .now) (a .s .now) (a .read) (a .q .now) (a .from) (a .to) (a .pending) (a .made) (a .fuel) (a .sheet .now) p (c .if1 .taken)
 
--- src/search.rt:61:16
+-- src/search.rt:62:16
 search-sub-sheet : (t : ℕ) → search-lts.Need-sub-sheet (
   complete-reads.Asked,
   complete-reads.Learnt,
@@ -220,7 +233,7 @@ search-sub-sheet : (t : ℕ) → search-lts.Need-sub-sheet (
 ) (search-at t) search′.Post search-Inv-loop search-μ-loop
 search-sub-sheet t c = search needs
 
--- src/search.rt:61:5
+-- src/search.rt:62:5
 search-element-write-sheet : (t : ℕ) → search-lts.Need-element-write-sheet (
   complete-reads.Asked,
   complete-reads.Learnt,
@@ -233,22 +246,7 @@ search-element-write-sheet : (t : ℕ) → search-lts.Need-element-write-sheet (
 ) (search-at t) search′.Post search-Inv-loop search-μ-loop
 search-element-write-sheet t c = search needs
 
--- src/search.rt:64:29
-search-sub-complete : (t : ℕ) → search-lts.Need-sub-complete (
-  complete-reads.Asked,
-  complete-reads.Learnt,
-  category-reads.Asked,
-  category-reads.Learnt,
-  stepped-below t,
-  stepped.Post,
-  note-reads.Asked,
-  note-reads.Learnt,
-) (search-at t) search′.Post search-Inv-loop search-μ-loop
-search-sub-complete t c =
-    let s = c .before .before .before .before .before .before in
-    omega (arith, s .pre .1 .ready .short)
-
--- src/search.rt:64:13
+-- src/search.rt:65:13
 search-complete-requires : (t : ℕ) → search-lts.Need-complete-requires (
   complete-reads.Asked,
   complete-reads.Learnt,
@@ -265,7 +263,7 @@ search-complete-requires t c κs =
     let p = s .pre .1 .ready in
     (length-set (a .sheet .now) 1 _ ∙ p .long, omega (arith, getD-set-other (a .sheet .now) 1 0 (getD (a .sheet .now) 1 0 - 1) 0 (λ z. omega arith), p .bounded))
 
--- src/search.rt:66:9
+-- src/search.rt:67:9
 search-returns-2 : (t : ℕ) → search-lts.Need-returns-2 (
   complete-reads.Asked,
   complete-reads.Learnt,
@@ -280,9 +278,9 @@ search-returns-2 t c =
     let s = c .before .before .before .before .before .before .before in
     let a = s .args in
     λ f p.
-    subst (λ (x : List ℕ). SearchedAt (grammarOf f) (a .fuel) (standing (a .s .now) (a .read) (a .q .now) (a .from) (a .to) (a .pending) (a .made)) (a .sheet .now) true x) (sym (c .complete .ensures)) (all-read f (a .t .now) (a .chain .now) (a .s .now) (a .read) (a .q .now) (a .from) (a .to) (a .pending) (a .made) (a .fuel) (a .sheet .now) p (c .before .before .before .before .if1 .left) (c .before .before .before .if2 .taken) (c .before .before .if3 .taken))
+    subst (λ (x : List ℕ). SearchedAt (grammarOf f) (a .fuel) (standing (a .s .now) (a .read) (a .q .now) (a .from) (a .to) (a .pending) (a .made)) (a .sheet .now) true x) (sym (c .complete .ensures)) (all-read f (a .t .now) (a .chain .now) (a .s .now) (a .read) (a .q .now) (a .from) (a .to) (a .pending) (a .made) (a .fuel) (a .sheet .now) p (c .before .before .before .before .if1 .left) (none-left f (a .t .now) (a .chain .now) (a .s .now) (a .read) (a .q .now) (a .from) (a .to) (a .pending) (a .made) (a .fuel) (a .sheet .now) p (c .before .before .before .if2 .taken)) (c .before .before .if3 .taken))
 
--- src/search.rt:66:9
+-- src/search.rt:67:9
 search-returns-3 : (t : ℕ) → search-lts.Need-returns-3 (
   complete-reads.Asked,
   complete-reads.Learnt,
@@ -297,9 +295,9 @@ search-returns-3 t c =
     let s = c .before .before .before .before .before in
     let a = s .args in
     λ f p.
-    words-left f (a .t .now) (a .chain .now) (a .s .now) (a .read) (a .q .now) (a .from) (a .to) (a .pending) (a .made) (a .fuel) (a .sheet .now) p (c .before .before .if1 .left) (c .before .if2 .taken) (c .if3 .left)
+    words-left f (a .t .now) (a .chain .now) (a .s .now) (a .read) (a .q .now) (a .from) (a .to) (a .pending) (a .made) (a .fuel) (a .sheet .now) p (c .before .before .if1 .left) (none-left f (a .t .now) (a .chain .now) (a .s .now) (a .read) (a .q .now) (a .from) (a .to) (a .pending) (a .made) (a .fuel) (a .sheet .now) p (c .before .if2 .taken)) (c .if3 .left)
 
--- src/search.rt:68:22
+-- src/search.rt:69:22
 search-mul-category : (t : ℕ) → search-lts.Need-mul-category (
   complete-reads.Asked,
   complete-reads.Learnt,
@@ -312,7 +310,7 @@ search-mul-category : (t : ℕ) → search-lts.Need-mul-category (
 ) (search-at t) search′.Post search-Inv-loop search-μ-loop
 search-mul-category t c = search needs
 
--- src/search.rt:68:22
+-- src/search.rt:69:22
 search-element-copy-out-category : (t : ℕ) → search-lts.Need-element-copy-out-category (
   complete-reads.Asked,
   complete-reads.Learnt,
@@ -328,9 +326,9 @@ search-element-copy-out-category t c =
     let a = s .args in
     let f = s .pre .1 .file in
     let p = s .pre .1 .ready in
-    omega (arith, row-some f (a .t .now) (a .chain .now) (a .s .now) (a .read) (a .q .now) (a .from) (a .to) (a .pending) (a .made) (a .fuel) (a .sheet .now) p (not-none (a .pending) (c .if2 .left)), p .held .within)
+    omega (arith, row-some f (a .t .now) (a .chain .now) (a .s .now) (a .read) (a .q .now) (a .from) (a .to) (a .pending) (a .made) (a .fuel) (a .sheet .now) p (some-left (s .pre .1 .file) (a .t .now) (a .chain .now) (a .s .now) (a .read) (a .q .now) (a .from) (a .to) (a .pending) (a .made) (a .fuel) (a .sheet .now) (s .pre .1 .ready) (c .if2 .left)), p .held .within)
 
--- src/search.rt:68:13
+-- src/search.rt:69:13
 search-category-requires : (t : ℕ) → search-lts.Need-category-requires (
   complete-reads.Asked,
   complete-reads.Learnt,
@@ -343,7 +341,7 @@ search-category-requires : (t : ℕ) → search-lts.Need-category-requires (
 ) (search-at t) search′.Post search-Inv-loop search-μ-loop
 search-category-requires t c κs = search needs
 
--- src/search.rt:68:13
+-- src/search.rt:69:13
 search-cast-a : (t : ℕ) → search-lts.Need-cast-a (
   complete-reads.Asked,
   complete-reads.Learnt,
@@ -356,7 +354,7 @@ search-cast-a : (t : ℕ) → search-lts.Need-cast-a (
 ) (search-at t) search′.Post search-Inv-loop search-μ-loop
 search-cast-a t c = search needs
 
--- src/search.rt:69:17
+-- src/search.rt:70:17
 search-mul-r : (t : ℕ) → search-lts.Need-mul-r (
   complete-reads.Asked,
   complete-reads.Learnt,
@@ -369,7 +367,7 @@ search-mul-r : (t : ℕ) → search-lts.Need-mul-r (
 ) (search-at t) search′.Post search-Inv-loop search-μ-loop
 search-mul-r t c = search needs
 
--- src/search.rt:69:17
+-- src/search.rt:70:17
 search-element-copy-out-r : (t : ℕ) → search-lts.Need-element-copy-out-r (
   complete-reads.Asked,
   complete-reads.Learnt,
@@ -382,7 +380,7 @@ search-element-copy-out-r : (t : ℕ) → search-lts.Need-element-copy-out-r (
 ) (search-at t) search′.Post search-Inv-loop search-μ-loop
 search-element-copy-out-r t c = omega (arith, c .before .category .ensures)
 
--- src/search.rt:70:5
+-- src/search.rt:71:5
 search-loop-holds : (t : ℕ) → search-lts.Need-loop-holds (
   complete-reads.Asked,
   complete-reads.Learnt,
@@ -396,10 +394,10 @@ search-loop-holds : (t : ℕ) → search-lts.Need-loop-holds (
 search-loop-holds t c =
     let s = c .before .before .before .before .before .before .before .before in
     let a = s .args in
-    let h = not-none (a .pending) (c .before .before .before .before .if2 .left) in
+    let h = some-left (s .pre .1 .file) (a .t .now) (a .chain .now) (a .s .now) (a .read) (a .q .now) (a .from) (a .to) (a .pending) (a .made) (a .fuel) (a .sheet .now) (s .pre .1 .ready) (c .before .before .before .before .if2 .left) in
     (length-set (a .sheet .now) 1 _ ∙ s .pre .1 .ready .long, λ f ready. came-first f (a .t .now) (a .chain .now) (a .s .now) (a .read) (a .q .now) (a .from) (a .to) (a .pending) (a .made) (a .fuel) (spentOne (a .sheet .now)) ready h _ (ap (λ (k : ℕ). getD (a .chain .now) k 0) (c .before .before .category .ensures)))
 
--- src/search.rt:71:21
+-- src/search.rt:72:21
 search-element-copy-out-first : (t : ℕ) → search-lts.Need-element-copy-out-first (
   complete-reads.Asked,
   complete-reads.Learnt,
@@ -412,7 +410,7 @@ search-element-copy-out-first : (t : ℕ) → search-lts.Need-element-copy-out-f
 ) (search-at t) search′.Post search-Inv-loop search-μ-loop
 search-element-copy-out-first t c = search needs
 
--- src/search.rt:72:13
+-- src/search.rt:73:13
 search-stepped-requires : (t : ℕ) → search-lts.Need-stepped-requires (
   complete-reads.Asked,
   complete-reads.Learnt,
@@ -428,29 +426,14 @@ search-stepped-requires t c κs =
     let s = u .before .before .before .before .before .before .before .before .before in
     let a = s .args in
     let b = u .before .before .before .before .before .before .if1 .left in
-    let h = not-none (a .pending) (u .before .before .before .before .before .if2 .left) in
+    let h = some-left (s .pre .1 .file) (a .t .now) (a .chain .now) (a .s .now) (a .read) (a .q .now) (a .from) (a .to) (a .pending) (a .made) (a .fuel) (a .sheet .now) (s .pre .1 .ready) (u .before .before .before .before .before .if2 .left) in
     let f = s .pre .1 .file in
     let p = s .pre .1 .ready in
     let ready = rules-ready f (a .t .now) (a .chain .now) (a .s .now) (a .read) (a .q .now) (a .from) (a .to) (a .pending) (a .made) (a .fuel) (a .sheet .now) p b h in
     let test = c .before .before .loop-test .taken in
     (omega (arith, s .pre .0), record { file = f; ready = ready-now f (a .t .now) (a .chain .now) (a .s .now) (a .read) (a .q .now) (a .from) (a .to) (a .pending) (a .made) (a .fuel) (spentOne (a .sheet .now)) ready h (u .loop .sheet) (u .loop .r) (u .loop .inv .1 f ready) test; fronted = fronted f (a .t .now) (a .chain .now) (a .s .now) (a .read) (a .q .now) (a .from) (a .to) (a .pending) (a .made) (a .fuel) (spentOne (a .sheet .now)) ready h (u .loop .sheet) (u .loop .r) (u .loop .inv .1 f ready) test })
 
--- src/search.rt:86:28
-search-sub-note : (t : ℕ) → search-lts.Need-sub-note (
-  complete-reads.Asked,
-  complete-reads.Learnt,
-  category-reads.Asked,
-  category-reads.Learnt,
-  stepped-below t,
-  stepped.Post,
-  note-reads.Asked,
-  note-reads.Learnt,
-) (search-at t) search′.Post search-Inv-loop search-μ-loop
-search-sub-note t c =
-    let s = c .before .before .before .before .before .before .before .before .before .before .before .before .before .before in
-    omega (arith, s .pre .1 .ready .short)
-
--- src/search.rt:86:9
+-- src/search.rt:87:9
 search-note-requires : (t : ℕ) → search-lts.Need-note-requires (
   complete-reads.Asked,
   complete-reads.Learnt,
@@ -466,14 +449,14 @@ search-note-requires t c κs =
     let s = u .before .before .before .before .before .before .before .before .before in
     let a = s .args in
     let b = u .before .before .before .before .before .before .if1 .left in
-    let h = not-none (a .pending) (u .before .before .before .before .before .if2 .left) in
+    let h = some-left (s .pre .1 .file) (a .t .now) (a .chain .now) (a .s .now) (a .read) (a .q .now) (a .from) (a .to) (a .pending) (a .made) (a .fuel) (a .sheet .now) (s .pre .1 .ready) (u .before .before .before .before .before .if2 .left) in
     let f = s .pre .1 .file in
     let p = s .pre .1 .ready in
     let ready = rules-ready f (a .t .now) (a .chain .now) (a .s .now) (a .read) (a .q .now) (a .from) (a .to) (a .pending) (a .made) (a .fuel) (a .sheet .now) p b h in
     let test = c .before .before .before .before .loop-test .taken in
     (c .before .stepped .ensures f (ready-now f (a .t .now) (a .chain .now) (a .s .now) (a .read) (a .q .now) (a .from) (a .to) (a .pending) (a .made) (a .fuel) (spentOne (a .sheet .now)) ready h (u .loop .sheet) (u .loop .r) (u .loop .inv .1 f ready) test) (fronted f (a .t .now) (a .chain .now) (a .s .now) (a .read) (a .q .now) (a .from) (a .to) (a .pending) (a .made) (a .fuel) (spentOne (a .sheet .now)) ready h (u .loop .sheet) (u .loop .r) (u .loop .inv .1 f ready) test) .long ∙ u .loop .inv .0, omega (arith, p .short))
 
--- src/search.rt:88:21
+-- src/search.rt:89:21
 search-cast-i : (t : ℕ) → search-lts.Need-cast-i (
   complete-reads.Asked,
   complete-reads.Learnt,
@@ -486,7 +469,7 @@ search-cast-i : (t : ℕ) → search-lts.Need-cast-i (
 ) (search-at t) search′.Post search-Inv-loop search-μ-loop
 search-cast-i t c = search needs
 
--- src/search.rt:89:23
+-- src/search.rt:90:23
 search-add-r : (t : ℕ) → search-lts.Need-add-r (
   complete-reads.Asked,
   complete-reads.Learnt,
@@ -499,7 +482,7 @@ search-add-r : (t : ℕ) → search-lts.Need-add-r (
 ) (search-at t) search′.Post search-Inv-loop search-μ-loop
 search-add-r t c = search needs
 
--- src/search.rt:89:17
+-- src/search.rt:90:17
 search-mul-r-2 : (t : ℕ) → search-lts.Need-mul-r-2 (
   complete-reads.Asked,
   complete-reads.Learnt,
@@ -512,7 +495,7 @@ search-mul-r-2 : (t : ℕ) → search-lts.Need-mul-r-2 (
 ) (search-at t) search′.Post search-Inv-loop search-μ-loop
 search-mul-r-2 t c = search needs
 
--- src/search.rt:89:17
+-- src/search.rt:90:17
 search-element-copy-out-r-2 : (t : ℕ) → search-lts.Need-element-copy-out-r-2 (
   complete-reads.Asked,
   complete-reads.Learnt,
@@ -525,7 +508,7 @@ search-element-copy-out-r-2 : (t : ℕ) → search-lts.Need-element-copy-out-r-2
 ) (search-at t) search′.Post search-Inv-loop search-μ-loop
 search-element-copy-out-r-2 t c = search needs
 
--- src/search.rt:70:5
+-- src/search.rt:71:5
 search-loop-less : (t : ℕ) → search-lts.Need-loop-less (
   complete-reads.Asked,
   complete-reads.Learnt,
@@ -541,13 +524,13 @@ search-loop-less t c =
     let s = u .before .before .before .before .before .before .before .before .before in
     let a = s .args in
     let b = u .before .before .before .before .before .before .if1 .left in
-    let h = not-none (a .pending) (u .before .before .before .before .before .if2 .left) in
+    let h = some-left (s .pre .1 .file) (a .t .now) (a .chain .now) (a .s .now) (a .read) (a .q .now) (a .from) (a .to) (a .pending) (a .made) (a .fuel) (a .sheet .now) (s .pre .1 .ready) (u .before .before .before .before .before .if2 .left) in
     let f = s .pre .1 .file in
     let p = s .pre .1 .ready in
     let ready = rules-ready f (a .t .now) (a .chain .now) (a .s .now) (a .read) (a .q .now) (a .from) (a .to) (a .pending) (a .made) (a .fuel) (a .sheet .now) p b h in
     later f (a .t .now) (a .chain .now) (a .s .now) (a .read) (a .q .now) (a .from) (a .to) (a .pending) (a .made) (a .fuel) (spentOne (a .sheet .now)) ready h (u .loop .sheet) (u .loop .r) (u .loop .inv .1 f ready) (c .before .before .before .before .before .before .before .loop-test .taken) _ refl
 
--- src/search.rt:70:5
+-- src/search.rt:71:5
 search-loop-again : (t : ℕ) → search-lts.Need-loop-again (
   complete-reads.Asked,
   complete-reads.Learnt,
@@ -563,7 +546,7 @@ search-loop-again t c =
     let s = u .before .before .before .before .before .before .before .before .before in
     let a = s .args in
     let b = u .before .before .before .before .before .before .if1 .left in
-    let h = not-none (a .pending) (u .before .before .before .before .before .if2 .left) in
+    let h = some-left (s .pre .1 .file) (a .t .now) (a .chain .now) (a .s .now) (a .read) (a .q .now) (a .from) (a .to) (a .pending) (a .made) (a .fuel) (a .sheet .now) (s .pre .1 .ready) (u .before .before .before .before .before .if2 .left) in
     let test = c .before .before .before .before .before .before .before .loop-test .taken in
     let k = c .before .before .before .before .stepped in
     let w : (f : List ℕ) → Ready f (a .t .now) (a .chain .now) (a .s .now) (a .read) (a .q .now) (a .from) (a .to) (a .pending) (a .made) (a .fuel) (spentOne (a .sheet .now)) → SearchedUnder (grammarOf f) (a .fuel) (standing (a .s .now) (a .read) (a .q .now) (a .from) (a .to) (a .pending) (a .made)) (u .loop .r) (u .loop .sheet) true _ =
@@ -575,7 +558,7 @@ search-loop-again t c =
     let f₀ = s .pre .1 .file in
     (w f₀ (rules-ready f₀ (a .t .now) (a .chain .now) (a .s .now) (a .read) (a .q .now) (a .from) (a .to) (a .pending) (a .made) (a .fuel) (a .sheet .now) (s .pre .1 .ready) b h) .long ∙ u .loop .inv .0, λ f ready. came-next f (a .t .now) (a .chain .now) (a .s .now) (a .read) (a .q .now) (a .from) (a .to) (a .pending) (a .made) (a .fuel) (spentOne (a .sheet .now)) ready h (u .loop .sheet) (u .loop .r) (u .loop .inv .1 f ready) test _ _ (w f ready) refl)
 
--- src/search.rt:91:13
+-- src/search.rt:92:13
 search-returns-4 : (t : ℕ) → search-lts.Need-returns-4 (
   complete-reads.Asked,
   complete-reads.Learnt,
@@ -591,7 +574,7 @@ search-returns-4 t c =
     let s = u .before .before .before .before .before .before .before .before .before in
     let a = s .args in
     let b = u .before .before .before .before .before .before .if1 .left in
-    let h = not-none (a .pending) (u .before .before .before .before .before .if2 .left) in
+    let h = some-left (s .pre .1 .file) (a .t .now) (a .chain .now) (a .s .now) (a .read) (a .q .now) (a .from) (a .to) (a .pending) (a .made) (a .fuel) (a .sheet .now) (s .pre .1 .ready) (u .before .before .before .before .before .if2 .left) in
     λ f p.
     let ready = rules-ready f (a .t .now) (a .chain .now) (a .s .now) (a .read) (a .q .now) (a .from) (a .to) (a .pending) (a .made) (a .fuel) (a .sheet .now) p b h in
     let test = c .before .before .before .before .before .before .loop-test .taken in
@@ -619,12 +602,12 @@ search-returns-5 t c =
     let s = u .before .before .before .before .before .before .before .before .before in
     let a = s .args in
     let b = u .before .before .before .before .before .before .if1 .left in
-    let h = not-none (a .pending) (u .before .before .before .before .before .if2 .left) in
+    let h = some-left (s .pre .1 .file) (a .t .now) (a .chain .now) (a .s .now) (a .read) (a .q .now) (a .from) (a .to) (a .pending) (a .made) (a .fuel) (a .sheet .now) (s .pre .1 .ready) (u .before .before .before .before .before .if2 .left) in
     λ f p.
     let ready = rules-ready f (a .t .now) (a .chain .now) (a .s .now) (a .read) (a .q .now) (a .from) (a .to) (a .pending) (a .made) (a .fuel) (a .sheet .now) p b h in
     below-rules f (a .t .now) (a .chain .now) (a .s .now) (a .read) (a .q .now) (a .from) (a .to) (a .pending) (a .made) (a .fuel) (a .sheet .now) p b h true _ (came-last f (a .t .now) (a .chain .now) (a .s .now) (a .read) (a .q .now) (a .from) (a .to) (a .pending) (a .made) (a .fuel) (spentOne (a .sheet .now)) ready h (u .loop .sheet) (u .loop .r) (u .loop .inv .1 f ready) (c .loop-test .left))
 
--- src/search.rt:115:14
+-- src/search.rt:116:14
 stepped-mul-at : (t : ℕ) → stepped-lts.Need-mul-at (
   daughters-reads.Asked,
   daughters-reads.Learnt,
@@ -639,7 +622,7 @@ stepped-mul-at : (t : ℕ) → stepped-lts.Need-mul-at (
 ) (stepped-at t) stepped.Post
 stepped-mul-at t c = search needs
 
--- src/search.rt:116:9
+-- src/search.rt:117:9
 stepped-daughters-requires : (t : ℕ) → stepped-lts.Need-daughters-requires (
   daughters-reads.Asked,
   daughters-reads.Learnt,
@@ -661,7 +644,7 @@ stepped-daughters-requires t c κs =
     let fr = p .fronted in
     omega (arith, rule-small f (a .t .now) (a .chain .now) (a .s .now) (a .read) (a .q .now) (a .from) (a .to) (a .pending) (a .made) (a .fuel) (a .sheet .now) rd (a .r) fr)
 
--- src/search.rt:118:13
+-- src/search.rt:119:13
 stepped-word-requires : (t : ℕ) → stepped-lts.Need-word-requires (
   daughters-reads.Asked,
   daughters-reads.Learnt,
@@ -683,7 +666,7 @@ stepped-word-requires t c κs =
     let fr = p .fronted in
     omega (arith, rule-small f (a .t .now) (a .chain .now) (a .s .now) (a .read) (a .q .now) (a .from) (a .to) (a .pending) (a .made) (a .fuel) (a .sheet .now) rd (a .r) fr)
 
--- src/search.rt:126:17
+-- src/search.rt:127:17
 stepped-add-search : (t : ℕ) → stepped-lts.Need-add-search (
   daughters-reads.Asked,
   daughters-reads.Learnt,
@@ -705,7 +688,7 @@ stepped-add-search t c =
     let fr = p .fronted in
     omega (arith, rd .held .ordered, rd .held .within)
 
--- src/search.rt:128:17
+-- src/search.rt:129:17
 stepped-sub-search : (t : ℕ) → stepped-lts.Need-sub-search (
   daughters-reads.Asked,
   daughters-reads.Learnt,
@@ -727,7 +710,7 @@ stepped-sub-search t c =
     let fr = p .fronted in
     omega (arith, fr .predicted)
 
--- src/search.rt:130:17
+-- src/search.rt:131:17
 stepped-sub-search-2 : (t : ℕ) → stepped-lts.Need-sub-search-2 (
   daughters-reads.Asked,
   daughters-reads.Learnt,
@@ -749,7 +732,7 @@ stepped-sub-search-2 t c =
     let fr = p .fronted in
     omega (arith, fr .predicted, rd .fits)
 
--- src/search.rt:120:13
+-- src/search.rt:121:13
 stepped-search-requires : (t : ℕ) → stepped-lts.Need-search-requires (
   daughters-reads.Asked,
   daughters-reads.Learnt,
@@ -771,7 +754,7 @@ stepped-search-requires t c κs =
     let fr = p .fronted in
     (omega (arith, s .pre .0, fr .predicted, rd .fits), record { file = f; ready = empty-ready f (a .t .now) (a .chain .now) (a .s .now) (a .read) (a .q .now) (a .from) (a .to) (a .pending) (a .made) (a .fuel) (a .sheet .now) rd (a .r) fr (sym (c .before .before .before .before .before .daughters .ensures) ∙ (c .before .before .before .before .if1 .taken)) (sym (c .before .before .before .word .ensures) ∙ (c .before .if2 .taken)) })
 
--- src/search.rt:120:13
+-- src/search.rt:121:13
 stepped-returns : (t : ℕ) → stepped-lts.Need-returns (
   daughters-reads.Asked,
   daughters-reads.Learnt,
@@ -791,7 +774,7 @@ stepped-returns t c =
     let k = c .search in
     empty-word f (a .t .now) (a .chain .now) (a .s .now) (a .read) (a .q .now) (a .from) (a .to) (a .pending) (a .made) (a .fuel) (a .sheet .now) rd (a .r) fr (sym (c .before .before .before .before .before .before .daughters .ensures) ∙ (c .before .before .before .before .before .if1 .taken)) (sym (c .before .before .before .before .word .ensures) ∙ (c .before .before .if2 .taken)) (k .result) _ (k .ensures f (empty-ready f (a .t .now) (a .chain .now) (a .s .now) (a .read) (a .q .now) (a .from) (a .to) (a .pending) (a .made) (a .fuel) (a .sheet .now) rd (a .r) fr (sym (c .before .before .before .before .before .before .daughters .ensures) ∙ (c .before .before .before .before .before .if1 .taken)) (sym (c .before .before .before .before .word .ensures) ∙ (c .before .before .if2 .taken))))
 
--- src/search.rt:135:13
+-- src/search.rt:136:13
 stepped-returns-2 : (t : ℕ) → stepped-lts.Need-returns-2 (
   daughters-reads.Asked,
   daughters-reads.Learnt,
@@ -810,7 +793,7 @@ stepped-returns-2 t c =
     λ f rd fr.
     no-words f (a .t .now) (a .chain .now) (a .s .now) (a .read) (a .q .now) (a .from) (a .to) (a .pending) (a .made) (a .fuel) (a .sheet .now) rd (a .r) fr (sym (c .before .before .before .before .before .daughters .ensures) ∙ (c .before .before .before .before .if1 .taken)) (λ z. (c .before .if2 .left) ((c .before .before .before .word .ensures) ∙ z)) (c .if3 .taken)
 
--- src/search.rt:137:20
+-- src/search.rt:138:20
 stepped-mul-fits : (t : ℕ) → stepped-lts.Need-mul-fits (
   daughters-reads.Asked,
   daughters-reads.Learnt,
@@ -825,7 +808,7 @@ stepped-mul-fits : (t : ℕ) → stepped-lts.Need-mul-fits (
 ) (stepped-at t) stepped.Post
 stepped-mul-fits t c = search needs
 
--- src/search.rt:137:20
+-- src/search.rt:138:20
 stepped-shared-slice-read-fits : (t : ℕ) → stepped-lts.Need-shared-slice-read-fits (
   daughters-reads.Asked,
   daughters-reads.Learnt,
@@ -840,7 +823,7 @@ stepped-shared-slice-read-fits : (t : ℕ) → stepped-lts.Need-shared-slice-rea
 ) (stepped-at t) stepped.Post
 stepped-shared-slice-read-fits t c = search needs
 
--- src/search.rt:137:12
+-- src/search.rt:138:12
 stepped-fits-requires : (t : ℕ) → stepped-lts.Need-fits-requires (
   daughters-reads.Asked,
   daughters-reads.Learnt,
@@ -855,7 +838,7 @@ stepped-fits-requires : (t : ℕ) → stepped-lts.Need-fits-requires (
 ) (stepped-at t) stepped.Post
 stepped-fits-requires t c κs = search needs
 
--- src/search.rt:142:17
+-- src/search.rt:143:17
 stepped-add-search-2 : (t : ℕ) → stepped-lts.Need-add-search-2 (
   daughters-reads.Asked,
   daughters-reads.Learnt,
@@ -877,7 +860,7 @@ stepped-add-search-2 t c =
     let fr = p .fronted in
     omega (arith, (c .before .before .before .if3 .left))
 
--- src/search.rt:144:17
+-- src/search.rt:145:17
 stepped-add-search-3 : (t : ℕ) → stepped-lts.Need-add-search-3 (
   daughters-reads.Asked,
   daughters-reads.Learnt,
@@ -899,7 +882,7 @@ stepped-add-search-3 t c =
     let fr = p .fronted in
     omega (arith, rd .held .ordered, rd .held .within)
 
--- src/search.rt:146:17
+-- src/search.rt:147:17
 stepped-sub-search-3 : (t : ℕ) → stepped-lts.Need-sub-search-3 (
   daughters-reads.Asked,
   daughters-reads.Learnt,
@@ -921,7 +904,7 @@ stepped-sub-search-3 t c =
     let fr = p .fronted in
     omega (arith, fr .predicted)
 
--- src/search.rt:148:17
+-- src/search.rt:149:17
 stepped-sub-search-4 : (t : ℕ) → stepped-lts.Need-sub-search-4 (
   daughters-reads.Asked,
   daughters-reads.Learnt,
@@ -943,7 +926,7 @@ stepped-sub-search-4 t c =
     let fr = p .fronted in
     omega (arith, fr .predicted, rd .fits)
 
--- src/search.rt:138:13
+-- src/search.rt:139:13
 stepped-search-requires-2 : (t : ℕ) → stepped-lts.Need-search-requires-2 (
   daughters-reads.Asked,
   daughters-reads.Learnt,
@@ -965,7 +948,7 @@ stepped-search-requires-2 t c κs =
     let fr = p .fronted in
     (omega (arith, s .pre .0, fr .predicted, rd .fits), record { file = f; ready = word-ready f (a .t .now) (a .chain .now) (a .s .now) (a .read) (a .q .now) (a .from) (a .to) (a .pending) (a .made) (a .fuel) (a .sheet .now) rd (a .r) fr (sym (c .before .before .before .before .before .before .before .before .before .daughters .ensures) ∙ (c .before .before .before .before .before .before .before .before .if1 .taken)) (λ z. (c .before .before .before .before .before .if2 .left) ((c .before .before .before .before .before .before .before .word .ensures) ∙ z)) (c .before .before .before .before .if3 .left) (ap (λ (w : ℕ). wordFits w (getD (a .s .now) (a .read) 0)) (sym (c .before .before .before .before .before .before .before .word .ensures)) ∙ sym (c .before .before .fits2 .ensures) ∙ (c .before .if4 .taken)) })
 
--- src/search.rt:138:13
+-- src/search.rt:139:13
 stepped-returns-3 : (t : ℕ) → stepped-lts.Need-returns-3 (
   daughters-reads.Asked,
   daughters-reads.Learnt,
@@ -985,7 +968,7 @@ stepped-returns-3 t c =
     let k = c .search2 in
     next-word f (a .t .now) (a .chain .now) (a .s .now) (a .read) (a .q .now) (a .from) (a .to) (a .pending) (a .made) (a .fuel) (a .sheet .now) rd (a .r) fr (sym (c .before .before .before .before .before .before .before .before .before .before .daughters .ensures) ∙ (c .before .before .before .before .before .before .before .before .before .if1 .taken)) (λ z. (c .before .before .before .before .before .before .if2 .left) ((c .before .before .before .before .before .before .before .before .word .ensures) ∙ z)) (c .before .before .before .before .before .if3 .left) (ap (λ (w : ℕ). wordFits w (getD (a .s .now) (a .read) 0)) (sym (c .before .before .before .before .before .before .before .before .word .ensures)) ∙ sym (c .before .before .before .fits2 .ensures) ∙ (c .before .before .if4 .taken)) (k .result) _ (k .ensures f (word-ready f (a .t .now) (a .chain .now) (a .s .now) (a .read) (a .q .now) (a .from) (a .to) (a .pending) (a .made) (a .fuel) (a .sheet .now) rd (a .r) fr (sym (c .before .before .before .before .before .before .before .before .before .before .daughters .ensures) ∙ (c .before .before .before .before .before .before .before .before .before .if1 .taken)) (λ z. (c .before .before .before .before .before .before .if2 .left) ((c .before .before .before .before .before .before .before .before .word .ensures) ∙ z)) (c .before .before .before .before .before .if3 .left) (ap (λ (w : ℕ). wordFits w (getD (a .s .now) (a .read) 0)) (sym (c .before .before .before .before .before .before .before .before .word .ensures)) ∙ sym (c .before .before .before .fits2 .ensures) ∙ (c .before .before .if4 .taken))))
 
--- src/search.rt:152:9
+-- src/search.rt:153:9
 stepped-returns-4 : (t : ℕ) → stepped-lts.Need-returns-4 (
   daughters-reads.Asked,
   daughters-reads.Learnt,
@@ -1004,7 +987,7 @@ stepped-returns-4 t c =
     λ f rd fr.
     other-word f (a .t .now) (a .chain .now) (a .s .now) (a .read) (a .q .now) (a .from) (a .to) (a .pending) (a .made) (a .fuel) (a .sheet .now) rd (a .r) fr (sym (c .before .before .before .before .before .before .before .before .daughters .ensures) ∙ (c .before .before .before .before .before .before .before .if1 .taken)) (λ z. (c .before .before .before .before .if2 .left) ((c .before .before .before .before .before .before .word .ensures) ∙ z)) (c .before .before .before .if3 .left) (ap (λ (w : ℕ). wordFits w (getD (a .s .now) (a .read) 0)) (sym (c .before .before .before .before .before .before .word .ensures)) ∙ sym (c .before .fits2 .ensures) ∙ c .if4 .left)
 
--- src/search.rt:154:25
+-- src/search.rt:155:25
 stepped-cast-if5 : (t : ℕ) → stepped-lts.Need-cast-if5 (
   daughters-reads.Asked,
   daughters-reads.Learnt,
@@ -1019,7 +1002,7 @@ stepped-cast-if5 : (t : ℕ) → stepped-lts.Need-cast-if5 (
 ) (stepped-at t) stepped.Post
 stepped-cast-if5 t c = search needs
 
--- src/search.rt:154:15
+-- src/search.rt:155:15
 stepped-add-if5 : (t : ℕ) → stepped-lts.Need-add-if5 (
   daughters-reads.Asked,
   daughters-reads.Learnt,
@@ -1041,7 +1024,7 @@ stepped-add-if5 t c =
     let fr = p .fronted in
     omega (arith, rd .fits, rd .short, fit f (a .t .now) (a .chain .now) (a .s .now) (a .read) (a .q .now) (a .from) (a .to) (a .pending) (a .made) (a .fuel) (a .sheet .now) rd (a .r) fr .few, (c .before .daughters .ensures))
 
--- src/search.rt:155:9
+-- src/search.rt:156:9
 stepped-returns-5 : (t : ℕ) → stepped-lts.Need-returns-5 (
   daughters-reads.Asked,
   daughters-reads.Learnt,
@@ -1060,7 +1043,7 @@ stepped-returns-5 t c =
     λ f rd fr.
     queue-long f (a .t .now) (a .chain .now) (a .s .now) (a .read) (a .q .now) (a .from) (a .to) (a .pending) (a .made) (a .fuel) (a .sheet .now) rd (a .r) fr (not-none (getD (a .t .now) (32 * a .r) 0) (λ z. (c .before .if1 .left) ((c .before .before .daughters .ensures) ∙ z))) (omega (arith, c .if5 .taken, (c .before .before .daughters .ensures)))
 
--- src/search.rt:157:5
+-- src/search.rt:158:5
 stepped-expanded-requires : (t : ℕ) → stepped-lts.Need-expanded-requires (
   daughters-reads.Asked,
   daughters-reads.Learnt,
@@ -1083,7 +1066,7 @@ stepped-expanded-requires t c κs =
     let e = (c .before .before .before .daughters .ensures) in
     (omega (arith, s .pre .0), (p, e, omega (arith, e, (not-none (getD (a .t .now) (32 * a .r) 0) (λ z. (c .before .before .if1 .left) ((c .before .before .before .daughters .ensures) ∙ z)))), omega (arith, (c .before .if5 .left))))
 
--- src/search.rt:98:1
+-- src/search.rt:99:1
 stepped-returns-6 : (t : ℕ) → stepped-lts.Need-returns-6 (
   daughters-reads.Asked,
   daughters-reads.Learnt,
@@ -1129,11 +1112,11 @@ pub +expanded+search+stepped-spec : {M : Type 1} → statement M
     search′.Post
     search-Inv-loop
     search-μ-loop
+    (search-sub-place t)
     (search-element-copy-out-budget t)
     (search-returns t)
     (search-sub-sheet t)
     (search-element-write-sheet t)
-    (search-sub-complete t)
     (search-complete-requires t)
     (search-returns-2 t)
     (search-returns-3 t)
@@ -1146,7 +1129,6 @@ pub +expanded+search+stepped-spec : {M : Type 1} → statement M
     (search-loop-holds t)
     (search-element-copy-out-first t)
     (search-stepped-requires t)
-    (search-sub-note t)
     (search-note-requires t)
     (search-cast-i t)
     (search-add-r t)
