@@ -430,7 +430,7 @@ search-stepped-requires t c κs =
     let f = s .pre .1 .file in
     let p = s .pre .1 .ready in
     let ready = rules-ready f (a .t .now) (a .chain .now) (a .s .now) (a .read) (a .q .now) (a .from) (a .to) (a .pending) (a .made) (a .fuel) (a .sheet .now) p b h in
-    let test = c .before .before .loop-test .taken in
+    let test : u .loop .r < 256 = omega (arith, c .before .before .loop-test .taken) in
     (omega (arith, s .pre .0), record { file = f; ready = ready-now f (a .t .now) (a .chain .now) (a .s .now) (a .read) (a .q .now) (a .from) (a .to) (a .pending) (a .made) (a .fuel) (spentOne (a .sheet .now)) ready h (u .loop .sheet) (u .loop .r) (u .loop .inv .1 f ready) test; fronted = fronted f (a .t .now) (a .chain .now) (a .s .now) (a .read) (a .q .now) (a .from) (a .to) (a .pending) (a .made) (a .fuel) (spentOne (a .sheet .now)) ready h (u .loop .sheet) (u .loop .r) (u .loop .inv .1 f ready) test })
 
 -- src/search.rt:87:9
@@ -453,7 +453,7 @@ search-note-requires t c κs =
     let f = s .pre .1 .file in
     let p = s .pre .1 .ready in
     let ready = rules-ready f (a .t .now) (a .chain .now) (a .s .now) (a .read) (a .q .now) (a .from) (a .to) (a .pending) (a .made) (a .fuel) (a .sheet .now) p b h in
-    let test = c .before .before .before .before .loop-test .taken in
+    let test : u .loop .r < 256 = omega (arith, c .before .before .before .before .loop-test .taken) in
     (c .before .stepped .ensures f (ready-now f (a .t .now) (a .chain .now) (a .s .now) (a .read) (a .q .now) (a .from) (a .to) (a .pending) (a .made) (a .fuel) (spentOne (a .sheet .now)) ready h (u .loop .sheet) (u .loop .r) (u .loop .inv .1 f ready) test) (fronted f (a .t .now) (a .chain .now) (a .s .now) (a .read) (a .q .now) (a .from) (a .to) (a .pending) (a .made) (a .fuel) (spentOne (a .sheet .now)) ready h (u .loop .sheet) (u .loop .r) (u .loop .inv .1 f ready) test) .long ∙ u .loop .inv .0, omega (arith, p .short))
 
 -- src/search.rt:89:21
@@ -528,7 +528,7 @@ search-loop-less t c =
     let f = s .pre .1 .file in
     let p = s .pre .1 .ready in
     let ready = rules-ready f (a .t .now) (a .chain .now) (a .s .now) (a .read) (a .q .now) (a .from) (a .to) (a .pending) (a .made) (a .fuel) (a .sheet .now) p b h in
-    later f (a .t .now) (a .chain .now) (a .s .now) (a .read) (a .q .now) (a .from) (a .to) (a .pending) (a .made) (a .fuel) (spentOne (a .sheet .now)) ready h (u .loop .sheet) (u .loop .r) (u .loop .inv .1 f ready) (c .before .before .before .before .before .before .before .loop-test .taken) _ refl
+    later f (a .t .now) (a .chain .now) (a .s .now) (a .read) (a .q .now) (a .from) (a .to) (a .pending) (a .made) (a .fuel) (spentOne (a .sheet .now)) ready h (u .loop .sheet) (u .loop .r) (u .loop .inv .1 f ready) (omega (arith, c .before .before .before .before .before .before .before .loop-test .taken)) _ refl
 
 -- src/search.rt:71:5
 search-loop-again : (t : ℕ) → search-lts.Need-loop-again (
@@ -547,7 +547,7 @@ search-loop-again t c =
     let a = s .args in
     let b = u .before .before .before .before .before .before .if1 .left in
     let h = some-left (s .pre .1 .file) (a .t .now) (a .chain .now) (a .s .now) (a .read) (a .q .now) (a .from) (a .to) (a .pending) (a .made) (a .fuel) (a .sheet .now) (s .pre .1 .ready) (u .before .before .before .before .before .if2 .left) in
-    let test = c .before .before .before .before .before .before .before .loop-test .taken in
+    let test : u .loop .r < 256 = omega (arith, c .before .before .before .before .before .before .before .loop-test .taken) in
     let k = c .before .before .before .before .stepped in
     let w : (f : List ℕ) → Ready f (a .t .now) (a .chain .now) (a .s .now) (a .read) (a .q .now) (a .from) (a .to) (a .pending) (a .made) (a .fuel) (spentOne (a .sheet .now)) → SearchedUnder (grammarOf f) (a .fuel) (standing (a .s .now) (a .read) (a .q .now) (a .from) (a .to) (a .pending) (a .made)) (u .loop .r) (u .loop .sheet) true _ =
     λ f ready.
@@ -577,7 +577,7 @@ search-returns-4 t c =
     let h = some-left (s .pre .1 .file) (a .t .now) (a .chain .now) (a .s .now) (a .read) (a .q .now) (a .from) (a .to) (a .pending) (a .made) (a .fuel) (a .sheet .now) (s .pre .1 .ready) (u .before .before .before .before .before .if2 .left) in
     λ f p.
     let ready = rules-ready f (a .t .now) (a .chain .now) (a .s .now) (a .read) (a .q .now) (a .from) (a .to) (a .pending) (a .made) (a .fuel) (a .sheet .now) p b h in
-    let test = c .before .before .before .before .before .before .loop-test .taken in
+    let test : u .loop .r < 256 = omega (arith, c .before .before .before .before .before .before .loop-test .taken) in
     let k = c .before .before .before .stepped in
     let now = ready-now f (a .t .now) (a .chain .now) (a .s .now) (a .read) (a .q .now) (a .from) (a .to) (a .pending) (a .made) (a .fuel) (spentOne (a .sheet .now)) ready h (u .loop .sheet) (u .loop .r) (u .loop .inv .1 f ready) test in
     let fr = fronted f (a .t .now) (a .chain .now) (a .s .now) (a .read) (a .q .now) (a .from) (a .to) (a .pending) (a .made) (a .fuel) (spentOne (a .sheet .now)) ready h (u .loop .sheet) (u .loop .r) (u .loop .inv .1 f ready) test in
@@ -605,7 +605,7 @@ search-returns-5 t c =
     let h = some-left (s .pre .1 .file) (a .t .now) (a .chain .now) (a .s .now) (a .read) (a .q .now) (a .from) (a .to) (a .pending) (a .made) (a .fuel) (a .sheet .now) (s .pre .1 .ready) (u .before .before .before .before .before .if2 .left) in
     λ f p.
     let ready = rules-ready f (a .t .now) (a .chain .now) (a .s .now) (a .read) (a .q .now) (a .from) (a .to) (a .pending) (a .made) (a .fuel) (a .sheet .now) p b h in
-    below-rules f (a .t .now) (a .chain .now) (a .s .now) (a .read) (a .q .now) (a .from) (a .to) (a .pending) (a .made) (a .fuel) (a .sheet .now) p b h true _ (came-last f (a .t .now) (a .chain .now) (a .s .now) (a .read) (a .q .now) (a .from) (a .to) (a .pending) (a .made) (a .fuel) (spentOne (a .sheet .now)) ready h (u .loop .sheet) (u .loop .r) (u .loop .inv .1 f ready) (c .loop-test .left))
+    below-rules f (a .t .now) (a .chain .now) (a .s .now) (a .read) (a .q .now) (a .from) (a .to) (a .pending) (a .made) (a .fuel) (a .sheet .now) p b h true _ (came-last f (a .t .now) (a .chain .now) (a .s .now) (a .read) (a .q .now) (a .from) (a .to) (a .pending) (a .made) (a .fuel) (spentOne (a .sheet .now)) ready h (u .loop .sheet) (u .loop .r) (u .loop .inv .1 f ready) (omega (arith, c .loop-test .left)))
 
 -- src/search.rt:116:14
 stepped-mul-at : (t : ℕ) → stepped-lts.Need-mul-at (
