@@ -50,7 +50,7 @@ fn search_all(file: &[u8], sentence: &[u16], n: usize, sheet: &mut [u64; 100]) -
     let t = compile(file);
     let chain = chain_rules(file);
     let q = first_row(start(file));
-    search(&t, &chain, sentence, 0, &q, 0, 1, 1, 1, n, sheet)
+    search(sheet, &t, &chain, &q, 0, 1, sentence, 0, 1, 1, n)
 }
 
 // A sheet with a budget and the entry that is asked for.

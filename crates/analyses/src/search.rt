@@ -39,17 +39,17 @@ fn note(sheet: &mut [u64; 100], first: u64, place: usize, r: u16)
 // The search below the row q[from..to], with `read` words read and `fuel` steps left. The sheet has count, budget and the entry asked for; the tables t
 // and chain are those of the file. Says whether the budget sufficed. Costs a few operations a live prefix, and one for each slot of a row that is written.
 pub fn search(
+    sheet: &mut [u64; 100],
     t: &[u16; 8192],
     chain: &[u16; 320],
-    s: &[u16],
-    read: usize,
     q: &[u16; 384],
     from: usize,
     to: usize,
+    s: &[u16],
+    read: usize,
     pending: usize,
     made: u16,
     fuel: usize,
-    sheet: &mut [u64; 100],
 ) -> bool
     requires { ⌜ Known (now t) (now chain) (now s) read (now q) from to pending made fuel (now sheet) ⌝ }
     ensures { λ b. ⌜ KnownAt (now (t .entry)) (now (chain .entry)) (now (s .entry)) read (now (q .entry)) from to pending made fuel (now (sheet .entry)) b (now (sheet .exit)) ⌝ }
@@ -71,17 +71,17 @@ pub fn search(
     while r < 256 {
         let first = sheet[0];
         let within = stepped(
+            sheet,
             t,
             chain,
-            s,
-            read,
             q,
             from,
             to,
+            s,
+            read,
             pending,
             made,
             fuel,
-            sheet,
             r,
         );
         note(sheet, first, place, r);
@@ -97,17 +97,17 @@ pub fn search(
 
 // The search after the step of rule r, where it applies and leaves a queue that is no longer than the steps left.
 fn stepped(
+    sheet: &mut [u64; 100],
     t: &[u16; 8192],
     chain: &[u16; 320],
-    s: &[u16],
-    read: usize,
     q: &[u16; 384],
     from: usize,
     to: usize,
+    s: &[u16],
+    read: usize,
     pending: usize,
     made: u16,
     fuel: usize,
-    sheet: &mut [u64; 100],
     r: u16,
 ) -> bool
     requires { ⌜ KnownRule (now t) (now chain) (now s) read (now q) from to pending made fuel (now sheet) r ⌝ }
@@ -119,17 +119,17 @@ fn stepped(
         let w = word(t, at);
         if w.0 == 65535 {
             return search(
+                sheet,
                 t,
                 chain,
-                s,
-                read,
                 q,
                 from + 1,
                 to,
+                s,
+                read,
                 pending - 1,
                 made,
                 fuel - 1,
-                sheet,
             );
         }
         if s.len() <= read {
@@ -137,17 +137,17 @@ fn stepped(
         }
         if fits(w, s[read]) {
             return search(
+                sheet,
                 t,
                 chain,
-                s,
-                read + 1,
                 q,
                 from + 1,
                 to,
+                s,
+                read + 1,
                 pending - 1,
                 made,
                 fuel - 1,
-                sheet,
             );
         }
         return true;
@@ -156,17 +156,17 @@ fn stepped(
         return true;
     }
     expanded(
+        sheet,
         t,
         chain,
-        s,
-        read,
         q,
         from,
         to,
+        s,
+        read,
         pending,
         made,
         fuel,
-        sheet,
         r,
         d,
     )
@@ -174,17 +174,17 @@ fn stepped(
 
 // The search after a nonlexical step, from the row that it writes.
 fn expanded(
+    sheet: &mut [u64; 100],
     t: &[u16; 8192],
     chain: &[u16; 320],
-    s: &[u16],
-    read: usize,
     q: &[u16; 384],
     from: usize,
     to: usize,
+    s: &[u16],
+    read: usize,
     pending: usize,
     made: u16,
     fuel: usize,
-    sheet: &mut [u64; 100],
     r: u16,
     d: u16,
 ) -> bool
@@ -194,16 +194,16 @@ fn expanded(
     let mut out = [0u16; 384];
     let n = expand(t, q, from, to, &mut out, 32 * (r as usize), made);
     search(
+        sheet,
         t,
         chain,
-        s,
-        read,
         &out,
         0,
         n,
+        s,
+        read,
         pending - 1 + d as usize,
         made + d,
         fuel - 1,
-        sheet,
     )
 }

@@ -39,13 +39,13 @@ use Rattle.analyses.proofs.search.+expanded+search+stepped.{statement}
 use Rattle.analyses.proofs.search.+expanded+search+stepped.Tie.{close}
 
 abbrev μ-expanded : Measures 5 expanded-kinds.ps ℕ
-μ-expanded κs a = 3 * a .1 .1 .1 .1 .1 .1 .1 .1 .1 .0 + 0
+μ-expanded κs a = 3 * a .1 .1 .1 .1 .1 .1 .1 .1 .1 .1 .0 + 0
 
 abbrev μ-search : Measures 5 search-kinds.ps ℕ
-μ-search κs a = 3 * a .1 .1 .1 .1 .1 .1 .1 .1 .1 .0 + 2
+μ-search κs a = 3 * a .1 .1 .1 .1 .1 .1 .1 .1 .1 .1 .0 + 2
 
 abbrev μ-stepped : Measures 5 stepped-kinds.ps ℕ
-μ-stepped κs a = 3 * a .1 .1 .1 .1 .1 .1 .1 .1 .1 .0 + 1
+μ-stepped κs a = 3 * a .1 .1 .1 .1 .1 .1 .1 .1 .1 .1 .0 + 1
 
 abbrev expanded-at : ℕ → In 5 expanded-kinds.ps
 expanded-at t = and 5 expanded-kinds.ps (is 5 expanded-kinds.ps μ-expanded t) expanded.Pre
@@ -93,7 +93,7 @@ expanded-expand-requires t c κs =
     let l : a .pending + getD (a .t .now) (32 * a .r) 0 ≤ a .fuel = omega (arith, p .1, p .3) in
     (fit f (a .t .now) (a .chain .now) (a .s .now) (a .read) (a .q .now) (a .from) (a .to) (a .pending) (a .made) (a .fuel) (a .sheet .now) rd (a .r) fr, rd .held, head-here f (a .t .now) (a .chain .now) (a .s .now) (a .read) (a .q .now) (a .from) (a .to) (a .pending) (a .made) (a .fuel) (a .sheet .now) rd (a .r) fr, made-small f (a .t .now) (a .chain .now) (a .s .now) (a .read) (a .q .now) (a .from) (a .to) (a .pending) (a .made) (a .fuel) (a .sheet .now) rd (a .r) fr h l, refl, row-room f (a .t .now) (a .chain .now) (a .s .now) (a .read) (a .q .now) (a .from) (a .to) (a .pending) (a .made) (a .fuel) (a .sheet .now) rd (a .r) fr h l)
 
--- src/search.rt:204:9
+-- src/search.rt:205:9
 expanded-sub-search : (t : ℕ) → expanded-lts.Need-sub-search (
   expand-reads.Asked,
   expand-reads.Learnt,
@@ -101,10 +101,10 @@ expanded-sub-search : (t : ℕ) → expanded-lts.Need-sub-search (
   search′.Post,
 ) (expanded-at t) expanded.Post
 expanded-sub-search t c =
-    let s = c .before .before .before .before in
+    let s = c .before .before .before .before .before in
     omega (arith, s .pre .1 .0 .fronted .predicted)
 
--- src/search.rt:204:9
+-- src/search.rt:205:9
 expanded-add-search : (t : ℕ) → expanded-lts.Need-add-search (
   expand-reads.Asked,
   expand-reads.Learnt,
@@ -112,10 +112,10 @@ expanded-add-search : (t : ℕ) → expanded-lts.Need-add-search (
   search′.Post,
 ) (expanded-at t) expanded.Post
 expanded-add-search t c =
-    let s = c .before .before .before .before in
+    let s = c .before .before .before .before .before in
     omega (arith, s .pre .1 .0 .ready .short, s .pre .1 .3)
 
--- src/search.rt:205:9
+-- src/search.rt:206:9
 expanded-add-search-2 : (t : ℕ) → expanded-lts.Need-add-search-2 (
   expand-reads.Asked,
   expand-reads.Learnt,
@@ -123,10 +123,10 @@ expanded-add-search-2 : (t : ℕ) → expanded-lts.Need-add-search-2 (
   search′.Post,
 ) (expanded-at t) expanded.Post
 expanded-add-search-2 t c =
-    let s = c .before .before .before .before in
+    let s = c .before .before .before .before .before in
     omega (arith, s .pre .1 .0 .ready .short, s .pre .1 .0 .ready .numbered, s .pre .1 .0 .ready .fits, s .pre .1 .3)
 
--- src/search.rt:206:9
+-- src/search.rt:207:9
 expanded-sub-search-2 : (t : ℕ) → expanded-lts.Need-sub-search-2 (
   expand-reads.Asked,
   expand-reads.Learnt,
@@ -134,7 +134,7 @@ expanded-sub-search-2 : (t : ℕ) → expanded-lts.Need-sub-search-2 (
   search′.Post,
 ) (expanded-at t) expanded.Post
 expanded-sub-search-2 t c =
-    let s = c .before .before .before .before in
+    let s = c .before .before .before .before .before in
     omega (arith, s .pre .1 .0 .ready .fits, s .pre .1 .0 .fronted .predicted)
 
 -- src/search.rt:196:5
@@ -171,11 +171,11 @@ expanded-returns t c =
     next-row-by f (a .t .now) (a .chain .now) (a .s .now) (a .read) (a .q .now) (a .from) (a .to) (a .pending) (a .made) (a .fuel) (a .sheet .now) rd (a .r) fr (a .d) (p .1) (p .2) (p .3) _ _ (x .result) (x .ensures) (x .ensures .kept) (k .result) _ (k .ensures f (row-ready-by f (a .t .now) (a .chain .now) (a .s .now) (a .read) (a .q .now) (a .from) (a .to) (a .pending) (a .made) (a .fuel) (a .sheet .now) rd (a .r) fr (a .d) (p .1) (p .2) (p .3) _ _ (x .result) (x .ensures) (x .ensures .kept)))
 
 abbrev search-Inv-loop : search-lts.InvT-loop
-search-Inv-loop t chain s read q from to pending made fuel sheet₀ place budget a r₀ sheet r =
+search-Inv-loop sheet₀ t chain q from to s read pending made fuel place budget a r₀ sheet r =
     (length sheet ≡ 100) × KnownTo t chain s read q from to pending made fuel sheet₀ sheet r
 
 abbrev search-μ-loop : search-lts.MeasureT-loop
-search-μ-loop t chain s read q from to pending made fuel sheet₀ place budget a r₀ sheet r = 256 - r
+search-μ-loop sheet₀ t chain q from to s read pending made fuel place budget a r₀ sheet r = 256 - r
 
 -- src/search.rt:57:17
 search-sub-place : (t : ℕ) → search-lts.Need-sub-place (
@@ -430,7 +430,7 @@ search-stepped-requires t c κs =
     let f = s .pre .1 .file in
     let p = s .pre .1 .ready in
     let ready = rules-ready f (a .t .now) (a .chain .now) (a .s .now) (a .read) (a .q .now) (a .from) (a .to) (a .pending) (a .made) (a .fuel) (a .sheet .now) p b h in
-    let test = c .before .before .loop-test .taken in
+    let test : u .loop .r < 256 = omega (arith, c .before .before .loop-test .taken) in
     (omega (arith, s .pre .0), record { file = f; ready = ready-now f (a .t .now) (a .chain .now) (a .s .now) (a .read) (a .q .now) (a .from) (a .to) (a .pending) (a .made) (a .fuel) (spentOne (a .sheet .now)) ready h (u .loop .sheet) (u .loop .r) (u .loop .inv .1 f ready) test; fronted = fronted f (a .t .now) (a .chain .now) (a .s .now) (a .read) (a .q .now) (a .from) (a .to) (a .pending) (a .made) (a .fuel) (spentOne (a .sheet .now)) ready h (u .loop .sheet) (u .loop .r) (u .loop .inv .1 f ready) test })
 
 -- src/search.rt:87:9
@@ -453,7 +453,7 @@ search-note-requires t c κs =
     let f = s .pre .1 .file in
     let p = s .pre .1 .ready in
     let ready = rules-ready f (a .t .now) (a .chain .now) (a .s .now) (a .read) (a .q .now) (a .from) (a .to) (a .pending) (a .made) (a .fuel) (a .sheet .now) p b h in
-    let test = c .before .before .before .before .loop-test .taken in
+    let test : u .loop .r < 256 = omega (arith, c .before .before .before .before .loop-test .taken) in
     (c .before .stepped .ensures f (ready-now f (a .t .now) (a .chain .now) (a .s .now) (a .read) (a .q .now) (a .from) (a .to) (a .pending) (a .made) (a .fuel) (spentOne (a .sheet .now)) ready h (u .loop .sheet) (u .loop .r) (u .loop .inv .1 f ready) test) (fronted f (a .t .now) (a .chain .now) (a .s .now) (a .read) (a .q .now) (a .from) (a .to) (a .pending) (a .made) (a .fuel) (spentOne (a .sheet .now)) ready h (u .loop .sheet) (u .loop .r) (u .loop .inv .1 f ready) test) .long ∙ u .loop .inv .0, omega (arith, p .short))
 
 -- src/search.rt:89:21
@@ -528,7 +528,7 @@ search-loop-less t c =
     let f = s .pre .1 .file in
     let p = s .pre .1 .ready in
     let ready = rules-ready f (a .t .now) (a .chain .now) (a .s .now) (a .read) (a .q .now) (a .from) (a .to) (a .pending) (a .made) (a .fuel) (a .sheet .now) p b h in
-    later f (a .t .now) (a .chain .now) (a .s .now) (a .read) (a .q .now) (a .from) (a .to) (a .pending) (a .made) (a .fuel) (spentOne (a .sheet .now)) ready h (u .loop .sheet) (u .loop .r) (u .loop .inv .1 f ready) (c .before .before .before .before .before .before .before .loop-test .taken) _ refl
+    later f (a .t .now) (a .chain .now) (a .s .now) (a .read) (a .q .now) (a .from) (a .to) (a .pending) (a .made) (a .fuel) (spentOne (a .sheet .now)) ready h (u .loop .sheet) (u .loop .r) (u .loop .inv .1 f ready) (omega (arith, c .before .before .before .before .before .before .before .loop-test .taken)) _ refl
 
 -- src/search.rt:71:5
 search-loop-again : (t : ℕ) → search-lts.Need-loop-again (
@@ -547,7 +547,7 @@ search-loop-again t c =
     let a = s .args in
     let b = u .before .before .before .before .before .before .if1 .left in
     let h = some-left (s .pre .1 .file) (a .t .now) (a .chain .now) (a .s .now) (a .read) (a .q .now) (a .from) (a .to) (a .pending) (a .made) (a .fuel) (a .sheet .now) (s .pre .1 .ready) (u .before .before .before .before .before .if2 .left) in
-    let test = c .before .before .before .before .before .before .before .loop-test .taken in
+    let test : u .loop .r < 256 = omega (arith, c .before .before .before .before .before .before .before .loop-test .taken) in
     let k = c .before .before .before .before .stepped in
     let w : (f : List ℕ) → Ready f (a .t .now) (a .chain .now) (a .s .now) (a .read) (a .q .now) (a .from) (a .to) (a .pending) (a .made) (a .fuel) (spentOne (a .sheet .now)) → SearchedUnder (grammarOf f) (a .fuel) (standing (a .s .now) (a .read) (a .q .now) (a .from) (a .to) (a .pending) (a .made)) (u .loop .r) (u .loop .sheet) true _ =
     λ f ready.
@@ -577,7 +577,7 @@ search-returns-4 t c =
     let h = some-left (s .pre .1 .file) (a .t .now) (a .chain .now) (a .s .now) (a .read) (a .q .now) (a .from) (a .to) (a .pending) (a .made) (a .fuel) (a .sheet .now) (s .pre .1 .ready) (u .before .before .before .before .before .if2 .left) in
     λ f p.
     let ready = rules-ready f (a .t .now) (a .chain .now) (a .s .now) (a .read) (a .q .now) (a .from) (a .to) (a .pending) (a .made) (a .fuel) (a .sheet .now) p b h in
-    let test = c .before .before .before .before .before .before .loop-test .taken in
+    let test : u .loop .r < 256 = omega (arith, c .before .before .before .before .before .before .loop-test .taken) in
     let k = c .before .before .before .stepped in
     let now = ready-now f (a .t .now) (a .chain .now) (a .s .now) (a .read) (a .q .now) (a .from) (a .to) (a .pending) (a .made) (a .fuel) (spentOne (a .sheet .now)) ready h (u .loop .sheet) (u .loop .r) (u .loop .inv .1 f ready) test in
     let fr = fronted f (a .t .now) (a .chain .now) (a .s .now) (a .read) (a .q .now) (a .from) (a .to) (a .pending) (a .made) (a .fuel) (spentOne (a .sheet .now)) ready h (u .loop .sheet) (u .loop .r) (u .loop .inv .1 f ready) test in
@@ -605,7 +605,7 @@ search-returns-5 t c =
     let h = some-left (s .pre .1 .file) (a .t .now) (a .chain .now) (a .s .now) (a .read) (a .q .now) (a .from) (a .to) (a .pending) (a .made) (a .fuel) (a .sheet .now) (s .pre .1 .ready) (u .before .before .before .before .before .if2 .left) in
     λ f p.
     let ready = rules-ready f (a .t .now) (a .chain .now) (a .s .now) (a .read) (a .q .now) (a .from) (a .to) (a .pending) (a .made) (a .fuel) (a .sheet .now) p b h in
-    below-rules f (a .t .now) (a .chain .now) (a .s .now) (a .read) (a .q .now) (a .from) (a .to) (a .pending) (a .made) (a .fuel) (a .sheet .now) p b h true _ (came-last f (a .t .now) (a .chain .now) (a .s .now) (a .read) (a .q .now) (a .from) (a .to) (a .pending) (a .made) (a .fuel) (spentOne (a .sheet .now)) ready h (u .loop .sheet) (u .loop .r) (u .loop .inv .1 f ready) (c .loop-test .left))
+    below-rules f (a .t .now) (a .chain .now) (a .s .now) (a .read) (a .q .now) (a .from) (a .to) (a .pending) (a .made) (a .fuel) (a .sheet .now) p b h true _ (came-last f (a .t .now) (a .chain .now) (a .s .now) (a .read) (a .q .now) (a .from) (a .to) (a .pending) (a .made) (a .fuel) (spentOne (a .sheet .now)) ready h (u .loop .sheet) (u .loop .r) (u .loop .inv .1 f ready) (omega (arith, c .loop-test .left)))
 
 -- src/search.rt:116:14
 stepped-mul-at : (t : ℕ) → stepped-lts.Need-mul-at (
@@ -666,7 +666,7 @@ stepped-word-requires t c κs =
     let fr = p .fronted in
     omega (arith, rule-small f (a .t .now) (a .chain .now) (a .s .now) (a .read) (a .q .now) (a .from) (a .to) (a .pending) (a .made) (a .fuel) (a .sheet .now) rd (a .r) fr)
 
--- src/search.rt:127:17
+-- src/search.rt:126:17
 stepped-add-search : (t : ℕ) → stepped-lts.Need-add-search (
   daughters-reads.Asked,
   daughters-reads.Learnt,
@@ -680,7 +680,7 @@ stepped-add-search : (t : ℕ) → stepped-lts.Need-add-search (
   expanded.Post,
 ) (stepped-at t) stepped.Post
 stepped-add-search t c =
-    let s = c .before .before .before .before .before .before in
+    let s = c .before .before .before .before .before .before .before in
     let a = s .args in
     let p = s .pre .1 in
     let f = p .file in
@@ -688,7 +688,7 @@ stepped-add-search t c =
     let fr = p .fronted in
     omega (arith, rd .held .ordered, rd .held .within)
 
--- src/search.rt:129:17
+-- src/search.rt:130:17
 stepped-sub-search : (t : ℕ) → stepped-lts.Need-sub-search (
   daughters-reads.Asked,
   daughters-reads.Learnt,
@@ -702,7 +702,7 @@ stepped-sub-search : (t : ℕ) → stepped-lts.Need-sub-search (
   expanded.Post,
 ) (stepped-at t) stepped.Post
 stepped-sub-search t c =
-    let s = c .before .before .before .before .before .before in
+    let s = c .before .before .before .before .before .before .before in
     let a = s .args in
     let p = s .pre .1 in
     let f = p .file in
@@ -710,7 +710,7 @@ stepped-sub-search t c =
     let fr = p .fronted in
     omega (arith, fr .predicted)
 
--- src/search.rt:131:17
+-- src/search.rt:132:17
 stepped-sub-search-2 : (t : ℕ) → stepped-lts.Need-sub-search-2 (
   daughters-reads.Asked,
   daughters-reads.Learnt,
@@ -724,7 +724,7 @@ stepped-sub-search-2 : (t : ℕ) → stepped-lts.Need-sub-search-2 (
   expanded.Post,
 ) (stepped-at t) stepped.Post
 stepped-sub-search-2 t c =
-    let s = c .before .before .before .before .before .before in
+    let s = c .before .before .before .before .before .before .before in
     let a = s .args in
     let p = s .pre .1 in
     let f = p .file in
@@ -838,7 +838,7 @@ stepped-fits-requires : (t : ℕ) → stepped-lts.Need-fits-requires (
 ) (stepped-at t) stepped.Post
 stepped-fits-requires t c κs = search needs
 
--- src/search.rt:143:17
+-- src/search.rt:144:17
 stepped-add-search-2 : (t : ℕ) → stepped-lts.Need-add-search-2 (
   daughters-reads.Asked,
   daughters-reads.Learnt,
@@ -852,15 +852,15 @@ stepped-add-search-2 : (t : ℕ) → stepped-lts.Need-add-search-2 (
   expanded.Post,
 ) (stepped-at t) stepped.Post
 stepped-add-search-2 t c =
-    let s = c .before .before .before .before .before .before .before .before .before .before in
+    let s = c .before .before .before .before .before .before .before .before .before .before .before in
     let a = s .args in
     let p = s .pre .1 in
     let f = p .file in
     let rd = p .ready in
     let fr = p .fronted in
-    omega (arith, (c .before .before .before .if3 .left))
+    omega (arith, (c .before .before .before .before .if3 .left))
 
--- src/search.rt:145:17
+-- src/search.rt:147:17
 stepped-add-search-3 : (t : ℕ) → stepped-lts.Need-add-search-3 (
   daughters-reads.Asked,
   daughters-reads.Learnt,
@@ -874,7 +874,7 @@ stepped-add-search-3 : (t : ℕ) → stepped-lts.Need-add-search-3 (
   expanded.Post,
 ) (stepped-at t) stepped.Post
 stepped-add-search-3 t c =
-    let s = c .before .before .before .before .before .before .before .before .before .before in
+    let s = c .before .before .before .before .before .before .before .before .before .before .before in
     let a = s .args in
     let p = s .pre .1 in
     let f = p .file in
@@ -882,7 +882,7 @@ stepped-add-search-3 t c =
     let fr = p .fronted in
     omega (arith, rd .held .ordered, rd .held .within)
 
--- src/search.rt:147:17
+-- src/search.rt:148:17
 stepped-sub-search-3 : (t : ℕ) → stepped-lts.Need-sub-search-3 (
   daughters-reads.Asked,
   daughters-reads.Learnt,
@@ -896,7 +896,7 @@ stepped-sub-search-3 : (t : ℕ) → stepped-lts.Need-sub-search-3 (
   expanded.Post,
 ) (stepped-at t) stepped.Post
 stepped-sub-search-3 t c =
-    let s = c .before .before .before .before .before .before .before .before .before .before in
+    let s = c .before .before .before .before .before .before .before .before .before .before .before in
     let a = s .args in
     let p = s .pre .1 in
     let f = p .file in
@@ -904,7 +904,7 @@ stepped-sub-search-3 t c =
     let fr = p .fronted in
     omega (arith, fr .predicted)
 
--- src/search.rt:149:17
+-- src/search.rt:150:17
 stepped-sub-search-4 : (t : ℕ) → stepped-lts.Need-sub-search-4 (
   daughters-reads.Asked,
   daughters-reads.Learnt,
@@ -918,7 +918,7 @@ stepped-sub-search-4 : (t : ℕ) → stepped-lts.Need-sub-search-4 (
   expanded.Post,
 ) (stepped-at t) stepped.Post
 stepped-sub-search-4 t c =
-    let s = c .before .before .before .before .before .before .before .before .before .before in
+    let s = c .before .before .before .before .before .before .before .before .before .before .before in
     let a = s .args in
     let p = s .pre .1 in
     let f = p .file in
