@@ -104,6 +104,9 @@ module _ (file : List ℕ) (accepted : grammarRefusal file ≡ none) (sentence :
             let l : 0 < length L = omega (arith, d .listing-counts) in
             let e = next-is (enough d h) [] out room (omega arith) (getD L 0 []) (drop 1 L) (after-nothing g sentence n ∙ drop-cons L 0 [] l) in
             (answers .next-promised [] out .0 ∙ e .0, answers .next-promised [] out .1 ∙ e .1);
+        no-first = λ h out room k.
+            let l : length L ≡ 0 = d .listing-counts ∙ k in
+            answers .next-promised [] out .0 ∙ none-next (enough d h) [] out room (omega arith) (after-nothing g sentence n ∙ drop-of-length-le L {i = 0} (omega arith));
         next = λ h out room m k.
             let l : suc m < length L = omega (arith, d .listing-counts) in
             let e = next-is (enough d h) (getD L m []) out room (entry-short m (omega arith)) (getD L (suc m) []) (drop (suc (suc m)) L) (after-entry g sentence n m (omega arith) ∙ drop-cons L (suc m) [] l) in

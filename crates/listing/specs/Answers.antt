@@ -51,7 +51,8 @@ module _ (file sentence : List ℕ) (n limit : ℕ) where
     -- and then entry m is the m-th of the traces, and there is none after the last
     pub entries : length prefixes ≤ limit → (out : List ℕ) → 96 ≤ length out → (m : ℕ) → m < length trees → Writes (getD traces m []) out (answers .entry m out)
     pub no-entry : length prefixes ≤ limit → (out : List ℕ) → 96 ≤ length out → (m : ℕ) → length trees ≤ m → answers .entry m out .0 ≡ Verdict.Refused (Refusal.Desk 26 0)
-    -- the stream: after the empty list comes the first, after each the next, after the last none
+    -- the stream: after the empty list comes the first, after each the next, after the last none; and where there is no trace, none comes after the empty list
     pub first : length prefixes ≤ limit → (out : List ℕ) → 96 ≤ length out → 0 < length trees → Writes (getD traces 0 []) out (answers .next [] out)
+    pub no-first : length prefixes ≤ limit → (out : List ℕ) → 96 ≤ length out → length trees ≡ 0 → answers .next [] out .0 ≡ Verdict.Refused (Refusal.Desk 26 0)
     pub next : length prefixes ≤ limit → (out : List ℕ) → 96 ≤ length out → (m : ℕ) → suc m < length trees → Writes (getD traces (suc m) []) out (answers .next (getD traces m []) out)
     pub no-next : length prefixes ≤ limit → (out : List ℕ) → 96 ≤ length out → (m : ℕ) → suc m ≡ length trees → answers .next (getD traces m []) out .0 ≡ Verdict.Refused (Refusal.Desk 26 0)

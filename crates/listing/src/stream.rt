@@ -127,7 +127,8 @@ fn next_tests(
 }
 
 // The first entry of the listing under node limit n that comes after a list in dictionary order; after the empty list, entry 0. Refusals 1 to 10, 23, 24,
-// 11, 12, 25, 26; else its steps, at the front of the output. From entry to entry, the whole listing costs one search, and n steps an entry.
+// 11, 12, 25, 26; else its steps, at the front of the output. From entry to entry, the whole listing costs one search, n steps an entry, and for each call
+// the tests of the grammar and its tables; `follow`, which is given the tables, leaves these out.
 pub fn next_entry(
     file: &[u8],
     sentence: &[u16],
