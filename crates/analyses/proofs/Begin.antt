@@ -16,6 +16,7 @@ use Rattle.model.proofs.RowsAgree.{rows-agree}
 use Rattle.model.proofs.RowsBounds.{Reached, reached-begin}
 use Rattle.recognizer.specs.Row.{rowOf, Held}
 use Rattle.recognizer.specs.Table.{Compiled}
+use Rattle.recognizer.proofs.Checked as checked
 use Rattle.analyses.specs.Chain.{Chained}
 use Rattle.analyses.specs.Tally.{effortBelow, Searched}
 use Rattle.analyses.specs.Search.{standing, Ready, SearchedAt}
@@ -26,10 +27,8 @@ module _ (file : List ℕ) (accepted : grammarRefusal file ≡ none) (sentence t
   abbrev g : Grammar
   g = grammarOf file
 
-  pub begins : standing sentence 0 q 0 1 1 1 ≡ beginRow g sentence
-  begins =
-      ap (λ (row : List Slot). record { row = row; made = 1; pending = 1; words = sentence })
-      (first ∙ ap (λ (x : ℕ). record { owner = 0; category = x; component = 0 } ∷ []) start)
+  begins : standing sentence 0 q 0 1 1 1 ≡ beginRow g sentence
+  begins = checked.begins file sentence q a start first
 
   found-all : (k : ℕ) → 1 ≤ k → foundFromRow g k (beginRow g sentence) ≡ listing g sentence k
   found-all zero h = let z : ⊥ = omega arith in absurd z

@@ -10,7 +10,7 @@ use Rattle.model.specs.declared.Refusal.{Refusal}
 use Rattle.model.specs.declared.Verdict.{Verdict}
 use Rattle.model.specs.Verdict.{refuseIf, verdict}
 use Rattle.model.specs.Counting.{limitsRefusal}
-use Rattle.model.proofs.Tests.{no-refusal, not-off, and-l, and-r}
+use Rattle.model.proofs.Tests.{passes, no-refusal, not-off, and-l, and-r}
 
 module _ (n limit : ℕ) where
   by : (a b c d : Bool) → leb 1 n ≡ a → leb n 96 ≡ b → leb 1 limit ≡ c → leb limit 1000000000 ≡ d
@@ -38,18 +38,14 @@ module _ (n limit : ℕ) where
     pub limit-some : 1 ≤ limit
     pub limit-few : limit ≤ 1000000000
 
-  on : (b : Bool) → T b → b ≡ true
-  on true t = refl
-  on false t = absurd t
-
   pub ranges : limitsRefusal n limit ≡ none → Ranges
   ranges e =
       let t = not-off (leb 1 n && leb n 96 && leb 1 limit && leb limit 1000000000) (no-refusal (not (leb 1 n && leb n 96 && leb 1 limit && leb limit 1000000000)) (Refusal.Desk 24 0) e) in
       let u = and-l (leb 1 n && leb n 96 && leb 1 limit) (leb limit 1000000000) t in
       let v = and-l (leb 1 n && leb n 96) (leb 1 limit) u in
       record {
-        nodes-some = leb-true 1 n (on (leb 1 n) (and-l (leb 1 n) (leb n 96) v));
-        nodes-few = leb-true n 96 (on (leb n 96) (and-r (leb 1 n) (leb n 96) v));
-        limit-some = leb-true 1 limit (on (leb 1 limit) (and-r (leb 1 n && leb n 96) (leb 1 limit) u));
-        limit-few = leb-true limit 1000000000 (on (leb limit 1000000000) (and-r (leb 1 n && leb n 96 && leb 1 limit) (leb limit 1000000000) t));
+        nodes-some = leb-true 1 n (passes (leb 1 n) (and-l (leb 1 n) (leb n 96) v));
+        nodes-few = leb-true n 96 (passes (leb n 96) (and-r (leb 1 n) (leb n 96) v));
+        limit-some = leb-true 1 limit (passes (leb 1 limit) (and-r (leb 1 n && leb n 96) (leb 1 limit) u));
+        limit-few = leb-true limit 1000000000 (passes (leb limit 1000000000) (and-r (leb 1 n && leb n 96 && leb 1 limit) (leb limit 1000000000) t));
       }

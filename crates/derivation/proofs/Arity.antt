@@ -34,7 +34,7 @@ scan-made w row made pending ws t e = go (eqb w emptyWord) e
     go true f = made-same (record { row = row; made = made; pending = pending; words = ws }) t f
     go false f = word ws f
 
-lexical-arity : (rule : Rule) → isLexical rule ≡ true → length (rule .daughters) ≡ 0
+pub lexical-arity : (rule : Rule) → isLexical rule ≡ true → length (rule .daughters) ≡ 0
 lexical-arity rule e = go (rule .daughters) e
   where
     go : (ds : List ℕ) → _≡_ {A = Bool} (elim ds [ [] ↦ true | d ∷ es ↦ false ]) true → length ds ≡ 0

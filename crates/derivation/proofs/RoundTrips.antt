@@ -19,7 +19,7 @@ use Rattle.model.specs.Tree.{treeRefusal}
 use Rattle.model.specs.Conversions.{treeOf, traceOf}
 use Rattle.model.specs.Calls.{written, roomRefusal, checkTraceVerdict, checkTreeVerdict, traceToTreeVerdict, traceToTreeOutput, treeToTraceVerdict, treeToTraceOutput}
 use Rattle.model.proofs.Tests.{first-of, rest-of}
-use Rattle.model.proofs.Verdicts.{passed}
+use Rattle.model.proofs.Verdicts.{none-accepted, passed}
 use Rattle.model.proofs.Demands.{demand-2}
 use Rattle.derivation.specs.RoundTrips.{TraceBack, TreeBack}
 
@@ -27,9 +27,6 @@ use Rattle.derivation.specs.RoundTrips.{TraceBack, TreeBack}
 the-number : (o : Option Refusal) (n m : ℕ) → verdict o n ≡ Verdict.Accepted m → n ≡ m
 the-number none n m e = cc
 the-number (some r) n m e = let z : _≡_ {A = ℕ} 0 1 = cc in absurd (omega arith)
-
-same-verdict : {o : Option Refusal} (n : ℕ) → o ≡ none → verdict o n ≡ Verdict.Accepted n
-same-verdict n e = rw e
 
 -- an output with room is not refused
 has-room : (out : List ℕ) → 96 ≤ length out → roomRefusal out ≡ none
@@ -73,7 +70,7 @@ module _ (file sentence : List ℕ) where
       let none-refused = passed (G orElse O orElse W orElse R) (length trace) (traceToTreeVerdict file sentence trace out) refl e in
       let p = all-passed G O W R none-refused in
       let l = the-number (G orElse O orElse W orElse R) (length trace) n e in
-      let d = demand-2 file (p .0) sentence (p .1) .to-tree trace (same-verdict (length trace) (pass-three G W R (p .0) (p .1) (p .2))) in
+      let d = demand-2 file (p .0) sentence (p .1) .to-tree trace (none-accepted (length trace) (pass-three G W R (p .0) (p .1) (p .2))) in
       let tree = treeOf g sentence trace in
       let T = treeRefusal g sentence tree in
       let a : checkTreeVerdict file sentence tree ≡ Verdict.Accepted n = d .accepted ∙ ap Verdict.Accepted l in
@@ -87,7 +84,7 @@ module _ (file sentence : List ℕ) where
         steps = l;
         nodes = ap length w ∙ size;
         tree-accepted = ap (checkTreeVerdict file sentence) w ∙ a;
-        back-accepted = λ other h. ap (λ (x : List ℕ). treeToTraceVerdict file sentence x other) w ∙ same-verdict (length tree) (through other h) ∙ ap Verdict.Accepted size;
+        back-accepted = λ other h. ap (λ (x : List ℕ). treeToTraceVerdict file sentence x other) w ∙ none-accepted (length tree) (through other h) ∙ ap Verdict.Accepted size;
         back = λ other h.
             ap (λ (x : List ℕ). treeToTraceOutput file sentence x other) w
             ∙ writes (traceOf g sentence tree) other (through other h)
@@ -102,7 +99,7 @@ module _ (file sentence : List ℕ) where
       let none-refused = passed (G orElse O orElse W orElse R) (length tree) (treeToTraceVerdict file sentence tree out) refl e in
       let p = all-passed G O W R none-refused in
       let l = the-number (G orElse O orElse W orElse R) (length tree) n e in
-      let d = demand-2 file (p .0) sentence (p .1) .to-trace tree (same-verdict (length tree) (pass-three G W R (p .0) (p .1) (p .2))) in
+      let d = demand-2 file (p .0) sentence (p .1) .to-trace tree (none-accepted (length tree) (pass-three G W R (p .0) (p .1) (p .2))) in
       let trace = traceOf g sentence tree in
       let T = traceRefusal g sentence trace in
       let a : checkTraceVerdict file sentence trace ≡ Verdict.Accepted n = d .accepted ∙ ap Verdict.Accepted l in
@@ -116,7 +113,7 @@ module _ (file sentence : List ℕ) where
         nodes = l;
         steps = ap length w ∙ size;
         trace-accepted = ap (checkTraceVerdict file sentence) w ∙ a;
-        back-accepted = λ other h. ap (λ (x : List ℕ). traceToTreeVerdict file sentence x other) w ∙ same-verdict (length trace) (through other h) ∙ ap Verdict.Accepted size;
+        back-accepted = λ other h. ap (λ (x : List ℕ). traceToTreeVerdict file sentence x other) w ∙ none-accepted (length trace) (through other h) ∙ ap Verdict.Accepted size;
         back = λ other h.
             ap (λ (x : List ℕ). traceToTreeOutput file sentence x other) w
             ∙ writes (treeOf g sentence trace) other (through other h)

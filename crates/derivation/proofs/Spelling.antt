@@ -27,7 +27,7 @@ use Rattle.model.proofs.Checker.{tree-accepted}
 use Rattle.model.proofs.Demands.{belongs, trace-only}
 use Rattle.model.proofs.RowsAgree.{rows-agree}
 use Rattle.recognizer.specs.Row.{rowOf, stateOf}
-use Rattle.recognizer.proofs.Checked.{trace-by-rows}
+use Rattle.recognizer.proofs.Checked.{begins, trace-by-rows}
 use Rattle.derivation.specs.Places.{Ended}
 use Rattle.derivation.specs.TreeRun.{Traced, Stood, RunSays, TreeRun, Spelled}
 
@@ -147,17 +147,12 @@ module _ (file sentence list : List ℕ) (accepted : grammarRefusal file ≡ non
 
   -- from the first row, with prediction 0 at place 0
   module _ (q : List ℕ) (c : ℕ) (start : c ≡ startOf file) (first : rowOf q 0 1 ≡ record { owner = 0; category = c; component = 0 } ∷ []) where
-    begins : stateOf q 0 1 1 1 sentence ≡ beginRow g sentence
-    begins =
-        ap (λ (row : List Slot). record { row = row; made = 1; pending = 1; words = sentence })
-        (first ∙ ap (λ (x : ℕ). record { owner = 0; category = x; component = 0 } ∷ []) start)
-
     pub run-spelled : (places before after : List ℕ) → getD places 0 0 ≡ 0 → length before ≡ 96 → (b : Bool) → TreeRun (grammarOf file) sentence list 0 (stateOf q 0 1 1 1 (drop 0 sentence)) places before after b
         → Spelled (grammarOf file) sentence list after b
     run-spelled places before after zero-is l b h =
         let n : length list - 0 ≡ length list = omega arith in
         let s : RunSays g sentence 0 (length list - 0) names (stateOf q 0 1 1 1 sentence) before after b = h names (λ p k. let e : p ≡ 0 = omega arith in sym (ap (λ (x : ℕ). treeOfList g (drop x list)) (ap (λ (x : ℕ). getD places x 0) e ∙ zero-is))) in
-        spelled-by before after l b (subst (λ (x : RowState). RunSays g sentence 0 (length list) names x before after b) begins (subst (λ (m : ℕ). RunSays g sentence 0 m names (stateOf q 0 1 1 1 sentence) before after b) n s)) (spells g sentence tree) refl
+        spelled-by before after l b (subst (λ (x : RowState). RunSays g sentence 0 (length list) names x before after b) (begins file sentence q c start first) (subst (λ (m : ℕ). RunSays g sentence 0 m names (stateOf q 0 1 1 1 sentence) before after b) n s)) (spells g sentence tree) refl
 
   pub first-stood : (ends places : List ℕ) → length ends ≡ 96 → Ended (grammarOf file) list ends 0 (length list) → length places ≡ 96 → getD places 0 0 ≡ 0 → Stood (grammarOf file) list ends places 1
   first-stood ends places l e k z =

@@ -10,6 +10,8 @@ use lib.Seq.{drop-cons, drop-drop, take-suc-set, drop-set-lt, length-take-le}
 use Rattle.model.specs.Base.{numbersFrom}
 use Rattle.model.specs.Tree.{Tree, Forest, node, nil, cons, preorder, preorders}
 use Rattle.model.proofs.Lists.{length-numbers}
+use Rattle.model.proofs.Analyses.{tree-counts}
+use Rattle.model.proofs.Analyses.{tree-counts}
 use Rattle.derivation.specs.Unfold.{Grows, GrowsAll}
 
 -- two forests, one after the other
@@ -20,9 +22,6 @@ join (cons t ts) f = cons t (join ts f)
 preorders-join : (a b : Forest) → preorders (join a b) ≡ preorders a ++ preorders b
 preorders-join nil b = refl
 preorders-join (cons t ts) b = ap (λ (l : List ℕ). preorder t ++ l) (preorders-join ts b) ∙ sym (append-assoc (preorder t) (preorders ts) (preorders b))
-
-node-counts : (t : Tree) → 1 ≤ length (preorder t)
-node-counts (node r ts) = omega arith
 
 -- lists that agree from place n on agree from the next on
 drop-more : (a b : List ℕ) (n : ℕ) → drop n a ≡ drop n b → drop (suc n) a ≡ drop (suc n) b
@@ -43,7 +42,7 @@ module _ (count : ℕ → ℕ) (trace steps first : List ℕ) where
   grows-counts nil [] h = omega arith
   grows-counts nil (p ∷ ps) h = absurd h
   grows-counts (cons t ts) [] h = absurd h
-  grows-counts (cons t ts) (p ∷ ps) h = omega (arith, length-append (preorder t) (preorders ts), node-counts t, grows-counts ts ps (h .1))
+  grows-counts (cons t ts) (p ∷ ps) h = omega (arith, length-append (preorder t) (preorders ts), tree-counts t, grows-counts ts ps (h .1))
 
   below : (t : Tree) (p : ℕ) → Grows count trace steps first t p → p < 96
   below (node r ts) p h = h .0

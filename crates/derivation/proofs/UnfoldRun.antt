@@ -18,8 +18,6 @@ use Rattle.model.specs.Rows.{Slot, RowState, RowOutcome, halts, moves, stepRow,
 use Rattle.model.specs.WellFormed.{Right}
 use Rattle.model.specs.RowsAgree.{number}
 use Rattle.model.proofs.Tests.{and-r}
-use Rattle.model.proofs.Lists.{number-below}
-use Rattle.model.proofs.WellFormed.{rules-length}
 use Rattle.model.proofs.Perm.{perm-sym}
 use Rattle.model.proofs.Apart.{Every, every-left, every-right, every-to, every-perm}
 use Rattle.model.proofs.Forward.{Good}
@@ -28,7 +26,7 @@ use Rattle.model.proofs.Analyses.{at-good, rooted-of}
 use Rattle.model.proofs.Addresses.{tree-of}
 use Rattle.model.proofs.Checker.{accepted-trace}
 use Rattle.model.proofs.Demands.{belongs}
-use Rattle.model.proofs.FromFile.{accepted-right, ruleRead, rule-read, record-tested}
+use Rattle.model.proofs.FromFile.{accepted-right, rule-is, record-tested}
 use Rattle.model.proofs.RuleFromRecord.{daughters-length}
 use Rattle.model.proofs.RowsLine.{nodesOf}
 use Rattle.model.proofs.Rows.{AgreeRow, begin-agree}
@@ -207,12 +205,8 @@ module _ (file sentence trace : List ℕ) (accepted : grammarRefusal file ≡ no
 
   pub count-is : (r : ℕ) (rule : Rule) → ruleAt g r ≡ some rule → daughterCount file r ≡ length (rule .daughters)
   count-is r rule e =
-      let here : r < rulesOf file = omega (arith, number-below (g .rules) r e, rules-length file) in
-      let same : ruleRead file r ≡ rule = some-one (sym (rule-read file r here) ∙ e) in
+      let (here, same) = rule-is file r rule e in
       sym (daughters-length g (recordOf file r) (record-tested file accepted r here)) ∙ ap (λ (x : Rule). length (x .daughters)) same
-    where
-      some-one : {a b : Rule} → some a ≡ some b → a ≡ b
-      some-one p = cc
 
   pub unfolded : traceRefusal g sentence trace ≡ none → Unfolded (takenRow g (beginRow g sentence) trace)
   unfolded e =

@@ -21,6 +21,7 @@ use Rattle.model.proofs.RowsLine.{first, nodesOf}
 use Rattle.model.proofs.Rows.{next-nodes, Kept, AgreeRow, step-agree}
 use Rattle.model.proofs.RowsNamed.{frontOwner}
 use Rattle.model.proofs.RowsBounds.{step-counts}
+use Rattle.derivation.proofs.Arity.{lexical-arity}
 
 -- a step of the queue
 module _ (g : Grammar) (made : ℕ) where
@@ -36,13 +37,6 @@ module _ (g : Grammar) (made : ℕ) where
   fails-not : {B : Type 0} {n : ℕ} {s : State ℕ} → fails n ≡ leads s → B
   fails-not e = let z : _≡_ {A = ℕ} 0 1 = cc in absurd (omega arith)
 
-  no-daughters : (rule : Rule) → isLexical rule ≡ true → length (rule .daughters) ≡ 0
-  no-daughters rule e = go (rule .daughters) e
-    where
-      go : (ds : List ℕ) → (elim ds [ [] ↦ true | d ∷ es ↦ false ]) ≡ true → length ds ≡ 0
-      go [] e = refl
-      go (d ∷ ds) e = let z : _≡_ {A = ℕ} 0 1 = cc in absurd (omega arith)
-
   queued : (q : List (Prediction ℕ)) (o : Option Rule) (ws : List ℕ) (next : State ℕ) → apply (number made) g o q ws ≡ leads next → Queued q o next
   queued q none ws next e = fails-not e
   queued [] (some rule) ws next e = fails-not e
@@ -55,7 +49,7 @@ module _ (g : Grammar) (made : ℕ) where
       go false l f h = fails-not h
       go true true f h =
           let s = scan-to (rule .word) q ws next h in
-          made-of (same (ap (λ (d : ℕ). numbersFrom made d ++ nodesOf q) (no-daughters rule f) ∙ sym (ap nodesOf (s .queue-is))))
+          made-of (same (ap (λ (d : ℕ). numbersFrom made d ++ nodesOf q) (lexical-arity rule f) ∙ sym (ap nodesOf (s .queue-is))))
       go true false f h =
           let e : record { queue = trim (sort (expand (number made) g rule p ++ q)); words = ws } ≡ next = leads-one h in
           made-of (chain (next-nodes g rule made p q) (same (ap (λ (x : State ℕ). nodesOf (x .queue)) e)))

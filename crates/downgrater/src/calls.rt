@@ -11,7 +11,7 @@ use analyses::entry;
 use derivation::check_tree;
 use derivation::trace_to_tree;
 use derivation::tree_to_trace;
-use grammar::read_grammar;
+use reader::read_grammar;
 use recognizer::check_trace;
 use survey::survey;
 use writer::write_grammar;

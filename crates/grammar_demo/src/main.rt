@@ -9,7 +9,7 @@ fn show(path: &[u8]) {
     io::write_all(STDOUT_FILENO, b": ");
     let mut file = [0u8; 7169];
     let n = load(path, &mut file);
-    print_verdict(grammar::read_grammar(&file[0..n]));
+    print_verdict(reader::read_grammar(&file[0..n]));
 }
 
 fn main() {

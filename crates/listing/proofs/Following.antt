@@ -40,19 +40,19 @@ first-same f h e b [] = refl
 first-same f h e zero (x ∷ l) = refl
 first-same f h e (suc b) (x ∷ l) = ap₂ (λ (c : Bool) (r : Found). if c then found x else r) (e x) (first-same f h e b l)
 
+pub kept-by : (f : List ℕ → Bool) (x : List ℕ) (m : List (List ℕ)) (b : Bool) → f x ≡ b → keep f (x ∷ m) ≡ (if b then x ∷ keep f m else keep f m)
+kept-by f x m b e = ap (λ (z : Bool). if z then x ∷ keep f m else keep f m) e
+
 -- two tests, one after the other
 pub keep-swap : (f h : List ℕ → Bool) (l : List (List ℕ)) → keep f (keep h l) ≡ keep h (keep f l)
 keep-swap f h [] = refl
 keep-swap f h (x ∷ l) = go (f x) (h x) refl refl (keep-swap f h l)
   where
-    kept-by : (f : List ℕ → Bool) (m : List (List ℕ)) (b : Bool) → f x ≡ b → keep f (x ∷ m) ≡ (if b then x ∷ keep f m else keep f m)
-    kept-by f m b e = ap (λ (z : Bool). if z then x ∷ keep f m else keep f m) e
-
     go : (b c : Bool) → f x ≡ b → h x ≡ c → keep f (keep h l) ≡ keep h (keep f l)
         → keep f (if c then x ∷ keep h l else keep h l) ≡ keep h (if b then x ∷ keep f l else keep f l)
-    go true true e d s = kept-by f (keep h l) true e ∙ ap (λ (m : List (List ℕ)). x ∷ m) s ∙ sym (kept-by h (keep f l) true d)
-    go true false e d s = s ∙ sym (kept-by h (keep f l) false d)
-    go false true e d s = kept-by f (keep h l) false e ∙ s
+    go true true e d s = kept-by f x (keep h l) true e ∙ ap (λ (m : List (List ℕ)). x ∷ m) s ∙ sym (kept-by h x (keep f l) true d)
+    go true false e d s = s ∙ sym (kept-by h x (keep f l) false d)
+    go false true e d s = kept-by f x (keep h l) false e ∙ s
     go false false e d s = s
 
 -- what a search within a budget tells of the list

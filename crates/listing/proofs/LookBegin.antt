@@ -11,8 +11,8 @@ use Rattle.model.proofs.FromFile.{accepted-right}
 use Rattle.model.proofs.RowsBounds.{Reached, reached-begin}
 use Rattle.recognizer.specs.Row.{rowOf, Held}
 use Rattle.recognizer.specs.Table.{Compiled}
+use Rattle.recognizer.proofs.Checked.{begins}
 use Rattle.analyses.specs.Chain.{Chained}
-use Rattle.analyses.proofs.Begin.{begins}
 use Rattle.listing.specs.Look.{Stood}
 
 module _ (file : List ℕ) (accepted : grammarRefusal file ≡ none) (sentence table chain q : List ℕ) (a n : ℕ)
@@ -28,7 +28,7 @@ module _ (file : List ℕ) (accepted : grammarRefusal file ≡ none) (sentence t
         chained = chained;
         held = held;
         known = omega arith;
-        reached = subst (Reached g) (sym (begins file accepted sentence table chain q a n start first some few)) (reached-begin g (accepted-right file accepted) sentence);
+        reached = subst (Reached g) (sym (begins file sentence q a start first)) (reached-begin g (accepted-right file accepted) sentence);
         fits = some;
         numbered = omega arith;
       }

@@ -18,12 +18,8 @@ use Rattle.model.proofs.Listing.{listing-lists}
 use Rattle.model.proofs.Lists.{mem-getD}
 use Rattle.model.proofs.Order.{before-irrefl, or-cases}
 use Rattle.model.proofs.Search.{keep-short}
-use Rattle.model.proofs.Tests.{and-l, and-r}
+use Rattle.model.proofs.Tests.{passes, and-l, and-r}
 use Rattle.listing.specs.Stream.{upToFirst, liveAfter, lookedAt, entriesAfter, firstOf, nextOf, streamed}
-
-is-true : (b : Bool) → T b → b ≡ true
-is-true true t = refl
-is-true false t = absurd t
 
 pub is-false : (b : Bool) → (T b → ⊥) → b ≡ false
 is-false true f = absurd (f tt)
@@ -46,7 +42,7 @@ before-asym (x ∷ p) (y ∷ q) t u =
 pub keep-whole : (f : List ℕ → Bool) (l : List (List ℕ)) → ((p : List ℕ) → List·Memᴰ p l → T (f p)) → keep f l ≡ l
 keep-whole f [] h = refl
 keep-whole f (x ∷ l) h =
-    ap₂ (λ (b : Bool) (m : List (List ℕ)). if b then x ∷ m else m) (is-true (f x) (h x (List·Memᴰ·head refl))) (keep-whole f l (λ p m. h p (List·Memᴰ·tail m)))
+    ap₂ (λ (b : Bool) (m : List (List ℕ)). if b then x ∷ m else m) (passes (f x) (h x (List·Memᴰ·head refl))) (keep-whole f l (λ p m. h p (List·Memᴰ·tail m)))
 
 -- what comes after entry m of lists in order
 pub drop-after : (l : List (List ℕ)) → InOrder l → (m : ℕ) → m < length l → keep (before (getD l m [])) l ≡ drop (suc m) l

@@ -17,12 +17,12 @@ use Rattle.model.specs.Tree.{Tree, Forest, node, nil, cons, preorder, pr
 use Rattle.model.specs.WellFormed.{Perm, same, more, swap, chain, Right}
 use Rattle.model.specs.Conversions.{label, childAt, subtree, Address, below, insertNode, sortNodes, placed, treeOf, Step, Traces}
 use Rattle.model.proofs.Order.{before-irrefl, before-tail, before-head}
-use Rattle.model.proofs.Digits.{before-asym, before-between, Compared, compared, lex-less, lex-same}
+use Rattle.model.proofs.Digits.{before-asym, before-trans, Compared, compared, lex-less, lex-same}
 use Rattle.model.proofs.Digits as digits
 use Rattle.model.proofs.Perm.{perm-mem, perm-each, perm-sym}
 use Rattle.model.proofs.Queue.{sort-perm}
 use Rattle.model.proofs.Remark.{remark, renamed, renamedOutcome, step-remark}
-use Rattle.model.proofs.Forward.{Good}
+use Rattle.model.proofs.Forward.{Good, no-trees}
 use Rattle.model.proofs.Traces.{Root, root, scan-to, leads-one, advance}
 use Rattle.model.proofs.Tests.{and-r}
 use Rattle.model.proofs.Lists.{each-append}
@@ -143,13 +143,6 @@ before-or (x ∷ a) (y ∷ b) = go (compared x y) (before-or a b)
     go (digits.same e) (inl (inl t)) = inl (inl (lex-same x y (before a b) e t))
     go (digits.same e) (inl (inr t)) = inl (inr (lex-same y x (before b a) (sym e) t))
     go (digits.same e) (inr f) = inr (cc (e, f))
-
-before-trans : (a b c : Address) → T (before a b) → T (before b c) → T (before a c)
-before-trans a b c t u = go (before-between b a c u)
-  where
-    go : T (before b a) ⊎ T (before a c) → T (before a c)
-    go (inl v) = absurd (before-asym a b t v)
-    go (inr v) = v
 
 -- no address twice
 abbrev Unlike : List Spot → Type 0
@@ -272,11 +265,6 @@ module _ (g : Grammar) (right : Right g) (t : Tree) where
     leads-to : step below g s r ≡ leads next
     left : Perm (queueSpots (x ∷ q)) ((x .node, r) ∷ queueSpots (next .queue))
 
-  no-trees : (ds : List ℕ) (us : Forest) → (elim ds [ [] ↦ true | d ∷ es ↦ false ]) ≡ true → T (hasRoots g us ds) → us ≡ nil
-  no-trees [] nil e u = refl
-  no-trees [] (cons v us) e u = absurd u
-  no-trees (d ∷ ds) us e u = let z : _≡_ {A = ℕ} 0 1 = cc in absurd (omega arith)
-
   next-of : (s : State Address) (r : ℕ) (x : Prediction Address) (q : List (Prediction Address)) (s′ : State Tree) → s .queue ≡ x ∷ q
       → T (hasRoot g (at t (x .node)) (x .category)) → label (at t (x .node)) ≡ r → step subtree g (renamed (at t) s) r ≡ leads s′ → Next s r x q
   next-of s r x q s′ e h l k = go (isLexical (R .rule)) refl
@@ -307,7 +295,7 @@ module _ (g : Grammar) (right : Right g) (t : Tree) where
       go true b = scanned (step below g s r) refl
         where
           a : queueSpots (x ∷ q) ≡ (x .node, r) ∷ queueSpots q
-          a = ap (λ (u : Tree). spots u (x .node) ++ queueSpots q) (n ∙ ap (node r) (no-trees (R .rule .daughters) (R .trees) b (R .below)))
+          a = ap (λ (u : Tree). spots u (x .node) ++ queueSpots q) (n ∙ ap (node r) (no-trees g (R .rule .daughters) (R .trees) b (R .below)))
 
           outcome : renamedOutcome (at t) (step below g s r) ≡ leads s′
           outcome = step-remark (at t) below subtree (λ i j. at-below t i j) g s r ∙ k

@@ -45,6 +45,10 @@ same-refl : (a : List ℕ) → T (stringFits a a)
 same-refl [] = tt
 same-refl (x ∷ a) = and-both (wordFits x x) (stringFits a a) (eqb-refl x) (same-refl a)
 
+-- a tree has a node
+pub tree-counts : (t : Tree) → 1 ≤ length (preorder t)
+tree-counts (node r ts) = omega arith
+
 module _ (g : Grammar) (right : Right g) (sentence : List ℕ) where
   abbrev pub at : Tree → State Tree
   at t = begin subtree g t sentence
@@ -108,9 +112,6 @@ module _ (g : Grammar) (right : Right g) (sentence : List ℕ) where
       ∙ from-traces (length (preorder t)) p (at t) (omega (arith, trace-size t p r h)) h
 
   -- the trace is a live prefix that leads to the end
-  pub tree-counts : (t : Tree) → 1 ≤ length (preorder t)
-  tree-counts (node r ts) = omega arith
-
   queue-counts : (q : List (Prediction Tree)) → length (map bare q) ≤ length (nodes q)
   queue-counts [] = omega arith
   queue-counts (p ∷ q) = omega (arith, length-append (preorder (p .node)) (nodes q), queue-counts q, tree-counts (p .node))

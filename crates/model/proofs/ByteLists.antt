@@ -32,19 +32,20 @@ fields-same a b i j n ha hb same =
 pub after-front : (a b : List ℕ) (n p j : ℕ) → length a ≡ n → p ≡ n + j → getD (a ++ b) p 0 ≡ getD b j 0
 after-front a b n p j la e = ap (λ (k : ℕ). getD (a ++ b) k 0) (omega arith) ∙ getD-append-add a b j 0
 
+-- every element of a list of zeros is 0
+pub zero-at : (n i : ℕ) → _≡_ {A = ℕ} (getD (replicate n 0) i 0) 0
+zero-at zero i = refl
+zero-at (suc n) zero = refl
+zero-at (suc n) (suc i) = zero-at n i
+
 -- zeros after a list change no element
 pub with-zeros : (l : List ℕ) (n i : ℕ) → getD (l ++ replicate n 0) i 0 ≡ getD l i 0
 with-zeros l n i = go (decLt i (length l))
   where
-    zeros : (n i : ℕ) → _≡_ {A = ℕ} (getD (replicate n 0) i 0) 0
-    zeros zero i = refl
-    zeros (suc n) zero = refl
-    zeros (suc n) (suc i) = zeros n i
-
     go : Dec (i < length l) → getD (l ++ replicate n 0) i 0 ≡ getD l i 0
     go (yes h) = List·getD-append l (replicate n 0) 0 i h
     go (no h) =
-        after-front l (replicate n 0) (length l) i (i - length l) refl (omega arith) ∙ zeros n (i - length l)
+        after-front l (replicate n 0) (length l) i (i - length l) refl (omega arith) ∙ zero-at n (i - length l)
         ∙ sym (List·getD-eq-default l 0 (omega arith))
 
 pub padded-length : (n : ℕ) (l : List ℕ) → length (padded n l) ≡ n

@@ -23,15 +23,11 @@ use Rattle.model.specs.Conversions.{traceOf}
 use Rattle.model.specs.Demands.{Ends}
 use Rattle.model.proofs.Live.{cons-unlive, queue-fits}
 use Rattle.model.proofs.Analyses.{at, at-good, derived-trace, trace-derives, trace-size, trace-of, traces-live, traces-end, of-tree, rooted-of, tree-counts}
-use Rattle.model.proofs.Tests.{none-some, no-refusal}
+use Rattle.model.proofs.Tests.{none-some, no-refusal, both-none}
 
 nothing-left : (ws : List ℕ) → ltb 0 (length ws) ≡ false → ws ≡ []
 nothing-left [] e = refl
 nothing-left (w ∷ ws) e = let z : ⊥ = omega (arith, ltb-false 0 (suc (length ws)) e) in absurd z
-
-both-none : (a b : Option Refusal) → a orElse b ≡ none → (a ≡ none) × (b ≡ none)
-both-none none b e = (refl, e)
-both-none (some r) b e = none-some e
 
 module _ (g : Grammar) (sentence : List ℕ) where
   -- what the checker takes leads to the end
@@ -101,5 +97,5 @@ module _ (g : Grammar) (right : Right g) (sentence : List ℕ) where
       let p = d .0 in
       let k = trace-size g right sentence t p r (d .1) in
       let s = end-steps g sentence p 0 (start g sentence) (traces-live g right sentence (length p) p (at g right sentence t) (at-good g right sentence t r) (d .1) (omega arith)) (traces-end g right sentence p (at g right sentence t) (d .1)) in
-      let z : length p ≡ 0 → ⊥ = λ e. omega (arith, tree-counts g right sentence t) in
+      let z : length p ≡ 0 → ⊥ = λ e. omega (arith, tree-counts t) in
       rw (trace-of g right sentence t p r (d .1), le-ltb 96 (length p) (omega arith), ne-eqb (length p) 0 z) s

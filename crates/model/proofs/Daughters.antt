@@ -72,12 +72,8 @@ module _ (g : Grammar) (right : Right g) where
   yield-by : (o : Option Rule) (c : ℕ) (ys : List (List (List ℕ))) (roots : List ℕ → Bool) → ((rule : Rule) → o ≡ some rule → RightRule g rule)
       → T (rootBy o c roots) → length (yieldBy o ys) ≡ dimension g c
   yield-by none c ys roots h t = absurd t
-  yield-by (some rule) c ys roots h t = go (isLexical rule) refl (eqb→eq (rule .category) c (and-left (eqb (rule .category) c) (roots (rule .daughters)) t))
+  yield-by (some rule) c ys roots h t = go (isLexical rule) refl (eqb→eq (rule .category) c (and-l (eqb (rule .category) c) (roots (rule .daughters)) t))
     where
-      and-left : (a b : Bool) → T (a && b) → T a
-      and-left true b u = tt
-      and-left false b u = absurd u
-
       go : (b : Bool) → isLexical rule ≡ b → rule .category ≡ c
           → length (if b then wordString (rule .word) ∷ [] else map (λ vs. each (stringOf ys) vs) (rule .components)) ≡ dimension g c
       go true e f = sym (h rule refl .word-alone e) ∙ ap (dimension g) f

@@ -24,6 +24,7 @@ use Rattle.model.specs.Counting.{start, live, effort, listing, count, en
 use Rattle.model.specs.Calls.{written, checkTraceVerdict, checkTreeVerdict, countCall, entryVerdict, entryOutput}
 use Rattle.model.specs.Demands.{_⇔_, Recognized, Derivation, ToTree, ToTrace, Demand2, Analysis, traceOfTree, Belongs, Demand3}
 use Rattle.model.proofs.Tests.{none-some}
+use Rattle.model.proofs.Verdicts.{none-accepted}
 use Rattle.model.proofs.Live.{live-lists}
 use Rattle.model.proofs.Listing.{listing-lists, order-different}
 use Rattle.model.proofs.Reading.{accepted-derives, derives-accepted}
@@ -105,20 +106,17 @@ module _ (file : List ℕ) (accepted : grammarRefusal file ≡ none) (sentence :
   accepted-none none n e = refl
   accepted-none (some r) n e = let z : _≡_ {A = ℕ} 0 1 = cc in absurd (omega arith)
 
-  none-accepted : (o : Option Refusal) (n : ℕ) → o ≡ none → verdict o n ≡ Verdict.Accepted n
-  none-accepted o n e = rw e
-
   trace-passed : (p : List ℕ) → checkTraceVerdict file sentence p ≡ Verdict.Accepted (length p) → traceRefusal g sentence p ≡ none
   trace-passed p e = accepted-none (traceRefusal g sentence p) (length p) (sym (past (traceRefusal g sentence p) (length p)) ∙ e)
 
   trace-passes : (p : List ℕ) → traceRefusal g sentence p ≡ none → checkTraceVerdict file sentence p ≡ Verdict.Accepted (length p)
-  trace-passes p e = past (traceRefusal g sentence p) (length p) ∙ none-accepted (traceRefusal g sentence p) (length p) e
+  trace-passes p e = past (traceRefusal g sentence p) (length p) ∙ none-accepted (length p) e
 
   tree-passed : (l : List ℕ) → checkTreeVerdict file sentence l ≡ Verdict.Accepted (length l) → treeRefusal g sentence l ≡ none
   tree-passed l e = accepted-none (treeRefusal g sentence l) (length l) (sym (past (treeRefusal g sentence l) (length l)) ∙ e)
 
   tree-passes : (l : List ℕ) → treeRefusal g sentence l ≡ none → checkTreeVerdict file sentence l ≡ Verdict.Accepted (length l)
-  tree-passes l e = past (treeRefusal g sentence l) (length l) ∙ none-accepted (treeRefusal g sentence l) (length l) e
+  tree-passes l e = past (treeRefusal g sentence l) (length l) ∙ none-accepted (length l) e
 
   to-tree : (p : List ℕ) → checkTraceVerdict file sentence p ≡ Verdict.Accepted (length p) → ToTree file sentence p
   to-tree p e =

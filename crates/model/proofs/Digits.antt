@@ -85,6 +85,13 @@ left [] j = false
 left (x ∷ xs) [] = false
 left (x ∷ xs) (y ∷ ys) = ltb x y || (eqb x y && left xs ys)
 
+pub before-trans : (a b c : Index) → T (before a b) → T (before b c) → T (before a c)
+before-trans a b c t u = go (before-between b a c u)
+  where
+    go : T (before b a) ⊎ T (before a c) → T (before a c)
+    go (inl v) = absurd (before-asym a b t v)
+    go (inr v) = v
+
 pub left-before : (i j : Index) → T (left i j) → T (before i j)
 left-before [] j t = absurd t
 left-before (x ∷ xs) [] t = absurd t

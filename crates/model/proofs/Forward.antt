@@ -40,6 +40,12 @@ pub record Good (g : Grammar) (q : List (Prediction Tree)) : Type 0 where
 abbrev pub nodes : List (Prediction Tree) → List ℕ
 nodes q = each (λ p. preorder (p .node)) q
 
+-- a rule without daughters has no trees below it
+pub no-trees : (g : Grammar) (ds : List ℕ) (us : Forest) → (elim ds [ [] ↦ true | d ∷ es ↦ false ]) ≡ true → T (hasRoots g us ds) → us ≡ nil
+no-trees g [] nil e t = refl
+no-trees g [] (cons u us) e t = absurd t
+no-trees g (d ∷ ds) us e t = let z : _≡_ {A = ℕ} 0 1 = cc in absurd (omega arith)
+
 module _ (g : Grammar) (right : Right g) where
   daughters-fit : (n : Tree) (ss : List (Variable × Index)) (j : ℕ) (ds : List ℕ) (us : Forest) → T (hasRoots g us ds)
       → ((d : ℕ) → List·Memᴰ d ds → 1 ≤ dimension g d)
@@ -204,13 +210,8 @@ module _ (g : Grammar) (right : Right g) where
     pub scan-good : Good g (p ∷ q) → Good g q
     scan-good h = record { fit = λ x m. h .fit x (List·Memᴰ·tail m); sorted = h .sorted .1 }
 
-    no-trees : (ds : List ℕ) (us : Forest) → (elim ds [ [] ↦ true | d ∷ es ↦ false ]) ≡ true → T (hasRoots g us ds) → us ≡ nil
-    no-trees [] nil e t = refl
-    no-trees [] (cons u us) e t = absurd t
-    no-trees (d ∷ ds) us e t = let z : _≡_ {A = ℕ} 0 1 = cc in absurd (omega arith)
-
     pub scan-nodes : nodes (p ∷ q) ≡ r ∷ nodes q
-    scan-nodes = ap (λ (t : Tree). preorder t ++ nodes q) (is-node ∙ ap (node r) (no-trees (rule .daughters) ts lex below))
+    scan-nodes = ap (λ (t : Tree). preorder t ++ nodes q) (is-node ∙ ap (node r) (no-trees g (rule .daughters) ts lex below))
 
     one-index : (is : List Index) → length is ≡ 1 → (i : Index) × (is ≡ i ∷ [])
     one-index [] e = let z : ⊥ = omega arith in absurd z

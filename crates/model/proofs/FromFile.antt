@@ -39,12 +39,17 @@ module _ (file : List ℕ) where
   pub rule-read : (r : ℕ) → r < rulesOf file → ruleAt (grammarOf file) r ≡ some (ruleRead r)
   rule-read r h = let k : 0 + r ≡ r = omega arith in at-rule ruleRead 0 (rulesOf file) r h ∙ ap (λ (i : ℕ). some (ruleRead i)) k
 
+  pub rule-is : (r : ℕ) (rule : Rule) → ruleAt (grammarOf file) r ≡ some rule → (r < rulesOf file) × (ruleRead r ≡ rule)
+  rule-is r rule e =
+      let x = rule-at ruleRead 0 (rulesOf file) r rule e in
+      let k : 0 + r ≡ r = omega arith in
+      (x .0, subst (λ (i : ℕ). ruleRead i ≡ rule) k (x .1))
+
   -- what holds of the rule of every record holds of every rule of the grammar
   pub each-rule : (P : Rule → Type 0) → ((r : ℕ) → r < rulesOf file → P (ruleRead r)) → (r : ℕ) (rule : Rule) → ruleAt (grammarOf file) r ≡ some rule → P rule
   each-rule P h r rule e =
-      let x = rule-at ruleRead 0 (rulesOf file) r rule e in
-      let k : 0 + r ≡ r = omega arith in
-      subst P (subst (λ (i : ℕ). ruleRead i ≡ rule) k (x .1)) (h r (x .0))
+      let x = rule-is r rule e in
+      subst P (x .1) (h r (x .0))
 
 module _ (file : List ℕ) (accepted : grammarRefusal file ≡ none) where
   -- the tests, all passed

@@ -16,7 +16,7 @@ use Rattle.model.specs.WellFormed.{Right}
 use Rattle.model.specs.Conversions.{label, childAt, subtree, Step, Traces}
 use Rattle.model.proofs.Marks.{Bare, bare, bareState, bareOutcome, sort-bare, append-bare, daughters-bare, step-bare}
 use Rattle.model.proofs.Unmark.{same-prediction, trim-one, sort-one}
-use Rattle.model.proofs.Forward.{Good}
+use Rattle.model.proofs.Forward.{Good, no-trees}
 use Rattle.model.proofs.Traces.{Root, root, after, step-nonlexical, step-lexical, scan-to, leads-one, advance}
 use Rattle.model.proofs.Lifting.{marks}
 use Rattle.model.proofs.Tests.{and-r}
@@ -44,11 +44,6 @@ module _ (g : Grammar) where
 
   trees-of : (rule : Rule) (p : Prediction Tree) (r : ℕ) (ts : Forest) → p .node ≡ node r ts → T (hasRoots g ts (rule .daughters)) → marks (expand subtree g rule p) ≡ ts
   trees-of rule p r ts e h = marks-expand (p .node) (variableIndices (p .indices) (rule .components)) 0 (rule .daughters) ts h (λ k l. let m : 0 + k ≡ k = omega arith in rw (m, e))
-
-  no-trees : (ds : List ℕ) (us : Forest) → (elim ds [ [] ↦ true | d ∷ es ↦ false ]) ≡ true → T (hasRoots g us ds) → us ≡ nil
-  no-trees [] nil e t = refl
-  no-trees [] (cons u us) e t = absurd t
-  no-trees (d ∷ ds) us e t = let z : _≡_ {A = ℕ} 0 1 = cc in absurd (omega arith)
 
   bare-expand : (rule : Rule) (p p′ : Prediction Tree) → bare p ≡ bare p′ → map bare (expand subtree g rule p) ≡ map bare (expand subtree g rule p′)
   bare-expand rule p p′ e =
@@ -83,7 +78,7 @@ module _ (g : Grammar) where
   back-lexical : (r : ℕ) (rule : Rule) (p p′ : Prediction Tree) (q q′ : List (Prediction Tree)) → Fronts r rule p → Fronts r rule p′ → isLexical rule ≡ true
       → bare p ≡ bare p′ → q ≡ q′ → _≡_ {A = List (Prediction Tree)} (p ∷ q) (p′ ∷ q′)
   back-lexical r rule p p′ q q′ x x′ l e f =
-      let ts : x .trees ≡ x′ .trees = no-trees (rule .daughters) (x .trees) l (x .below) ∙ sym (no-trees (rule .daughters) (x′ .trees) l (x′ .below)) in
+      let ts : x .trees ≡ x′ .trees = no-trees g (rule .daughters) (x .trees) l (x .below) ∙ sym (no-trees g (rule .daughters) (x′ .trees) l (x′ .below)) in
       cc (same-front r rule p p′ x x′ e ts, f)
 
 module _ (g : Grammar) (right : Right g) where

@@ -16,11 +16,7 @@ use Rattle.model.specs.Trace.{lengthRefusal}
 use Rattle.model.specs.Grammar.{Grammar, Rule, ruleAt}
 use Rattle.model.specs.Tree.{Tree, Forest, node, nil, cons, preorder, preorders, hasRoot, hasRoots, rootBy, arity, firsts, others, forest, nodesRefusal, treeRefusal, treeOfList, spells, derives}
 use Rattle.model.specs.Demands.{Derivation}
-use Rattle.model.proofs.Tests.{and-l, and-r, and-both, no-refusal, not-off}
-
-passes : (b : Bool) → T b → b ≡ true
-passes true t = refl
-passes false t = absurd t
+use Rattle.model.proofs.Tests.{passes, and-l, and-r, and-both, no-refusal, both-none, not-off}
 
 -- a forest, taken apart
 parts-preorder : (n : ℕ) (f : Forest) → preorders f ≡ preorders (firsts n f) ++ preorders (others n f)
@@ -140,10 +136,6 @@ module _ (g : Grammar) where
         (back u c (preorders us ++ rest) (and-l (hasRoot g u c) (hasRoots g us cs) t)
         ∙ ap (λ (x : Forest). cons u x) (backs us cs rest (and-r (hasRoot g u c) (hasRoots g us cs) t)))
 
-use-none : (a b : Option Refusal) → a orElse b ≡ none → (a ≡ none) × (b ≡ none)
-use-none none b e = (refl, e)
-use-none (some r) b e = let z : _≡_ {A = ℕ} 0 1 = cc in absurd (omega arith)
-
 module _ (g : Grammar) (sentence : List ℕ) where
   one-tree : (f : Forest) (c : ℕ) → T (hasRoots g f (c ∷ [])) → (t : Tree) × (f ≡ cons t nil) × T (hasRoot g t c)
   one-tree nil c h = absurd h
@@ -160,8 +152,8 @@ module _ (g : Grammar) (sentence : List ℕ) where
   -- what the tree checker accepts is the list of a tree that derives the sentence
   pub accepted-derives : (list : List ℕ) → treeRefusal g sentence list ≡ none → Derivation g sentence list
   accepted-derives list e =
-      let b = use-none (lengthRefusal list) (nodesRefusal g 0 (g .start ∷ []) list orElse refuseIf (not (spells g sentence (treeOfList g list))) (Refusal.Analysis 22 0)) e in
-      let c = use-none (nodesRefusal g 0 (g .start ∷ []) list) (refuseIf (not (spells g sentence (treeOfList g list))) (Refusal.Analysis 22 0)) (b .1) in
+      let b = both-none (lengthRefusal list) (nodesRefusal g 0 (g .start ∷ []) list orElse refuseIf (not (spells g sentence (treeOfList g list))) (Refusal.Analysis 22 0)) e in
+      let c = both-none (nodesRefusal g 0 (g .start ∷ []) list) (refuseIf (not (spells g sentence (treeOfList g list))) (Refusal.Analysis 22 0)) (b .1) in
       let u = read g 0 (g .start ∷ []) list (c .0) in
       accepted-by list u (no-refusal (not (spells g sentence (treeOfList g list))) (Refusal.Analysis 22 0) (c .1)) (one-tree (forest g list) (g .start) (u .roots))
 

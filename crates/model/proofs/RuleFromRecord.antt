@@ -129,17 +129,19 @@ module _ (g : Grammar) (e : List ℕ) (tested : Tested g e) where
     abbrev addUp : Bool
     addUp = eqb (total (lengthsOf dimensions e)) (variables dimensions e)
 
-    pub variables-right : isLexical rule ≡ false → T (addUp && eachOnce dimensions e)
-    variables-right l = not-off (addUp && eachOnce dimensions e) (rw (lt-ltb 0 n (not-lexical-some l)) at (tested .variables))
+    variables-right : 0 < n → T (addUp && eachOnce dimensions e)
+    variables-right h = not-off (addUp && eachOnce dimensions e) (rw (lt-ltb 0 n h) at (tested .variables))
+
+    pub lengths-total : 0 < n → total (lengthsOf dimensions e) ≡ variables dimensions e
+    lengths-total h = eqb→eq (total (lengthsOf dimensions e)) (variables dimensions e) (and-l addUp (eachOnce dimensions e) (variables-right h))
 
     components-are : isLexical rule ≡ false → rule .components ≡ sequences (lengthsOf dimensions e) (fields e 11 12)
     components-are l = rw (lt-ltb 0 n (not-lexical-some l))
 
     pub named-are : isLexical rule ≡ false → named (rule .components) ≡ map decode (fields e 11 (variables dimensions e))
     named-are l =
-        let t = eqb→eq (total (lengthsOf dimensions e)) (variables dimensions e) (and-l addUp (eachOnce dimensions e) (variables-right l)) in
         ap named (components-are l) ∙ parts-named (lengthsOf dimensions e) (fields e 11 12)
-        ∙ ap (λ (k : ℕ). map decode (take k (fields e 11 12))) t
+        ∙ ap (λ (k : ℕ). map decode (take k (fields e 11 12))) (lengths-total (not-lexical-some l))
         ∙ ap (map decode) (take-take (variables dimensions e) 12 (drop 11 e) twelve)
 
     abbrev onceIn : ℕ → ℕ → Bool
@@ -149,7 +151,7 @@ module _ (g : Grammar) (e : List ℕ) (tested : Tested g e) where
     once-each l j c h k =
         eqb→eq (occurrences (4 * j + c) (fields e 11 (variables dimensions e))) 1
         (all-true (onceIn j) (dimensionIn dimensions (field e (2 + j)))
-        (all-true (λ j. allBelow (onceIn j) (dimensionIn dimensions (field e (2 + j)))) n (and-r addUp (eachOnce dimensions e) (variables-right l)) j h) c k)
+        (all-true (λ j. allBelow (onceIn j) (dimensionIn dimensions (field e (2 + j)))) n (and-r addUp (eachOnce dimensions e) (variables-right (not-lexical-some l))) j h) c k)
 
     complete : isLexical rule ≡ false → Perm (named (rule .components)) (daughterVariables g 0 (rule .daughters))
     complete l =

@@ -18,6 +18,7 @@ use Rattle.model.specs.Survey.{surveyRound, rounds, survey}
 use Rattle.model.specs.Examples.{copy}
 use Rattle.model.proofs.Lists.{number-below}
 use Rattle.model.proofs.Tests.{after-test}
+use Rattle.model.proofs.ByteLists.{zero-at}
 use Rattle.model.proofs.SurveyVisits.{Found, Bounded, Keeps, Round, ready-found, found-ready, visits-keep, round, gives}
 
 -- how many figures there are
@@ -45,12 +46,6 @@ unfolding figured
 figured-set [] c k e l i = let z : ⊥ = omega arith in absurd z
 figured-set (x ∷ F) zero k e l i = rw (eq-eqb x 0 e, ne-eqb k 0 (λ q. omega arith)) (omega arith)
 figured-set (x ∷ F) (suc c) k e l i = omega (arith, figured-set F c k e (omega arith) i)
-
--- at first no category has a figure
-none-yet : (n category : ℕ) → _≡_ {A = ℕ} (getD (replicate n 0) category 0) 0
-none-yet zero c = refl
-none-yet (suc n) zero = refl
-none-yet (suc n) (suc c) = none-yet n c
 
 -- what holds of n, and of the next where it holds of one, holds from n on
 from : (n : ℕ) (P : ℕ → Type 0) → P n → ((m : ℕ) → P m → P (suc m)) → (m : ℕ) → n ≤ m → P m
@@ -96,7 +91,7 @@ module _ (g : Grammar) (well : WellFormed g) where
   next-round n = round g well (suc n) (length (g .rules)) (rounds g n) (rounds-long n)
 
   pub rounds-bounded : (n : ℕ) → Bounded n (rounds g n)
-  rounds-bounded zero c = omega (arith, none-yet (length (g .dimensions)) c)
+  rounds-bounded zero c = omega (arith, zero-at (length (g .dimensions)) c)
   rounds-bounded (suc n) c = ⊎-elim (λ q. omega (arith, rounds-bounded n c)) (λ q. omega (arith, q .1)) (next-round n .each c)
 
   -- a rule whose daughters have figures after n rounds has a category with one after n + 1

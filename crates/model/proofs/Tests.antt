@@ -33,6 +33,9 @@ pub rest-of : (a b : Option Refusal) → a orElse b ≡ none → b ≡ none
 rest-of none b e = e
 rest-of (some r) b e = none-some e
 
+pub both-none : (a b : Option Refusal) → a orElse b ≡ none → (a ≡ none) × (b ≡ none)
+both-none a b e = (first-of a b e, rest-of a b e)
+
 pub first-none : (f : ℕ → Option Refusal) (from n : ℕ) → firstFrom f from n ≡ none → (k : ℕ) → k < n → f (from + k) ≡ none
 first-none f from zero e k h = let z : ⊥ = omega arith in absurd z
 first-none f from (suc n) e zero h = let a : from + 0 ≡ from = omega arith in rw a (first-of (f from) (firstFrom f (suc from) n) e)
@@ -41,6 +44,10 @@ first-none f from (suc n) e (suc k) h =
     subst (λ (x : ℕ). f x ≡ none) a (first-none f (suc from) n (rest-of (f from) (firstFrom f (suc from) n) e) k (omega arith))
 
 -- tests
+pub passes : (b : Bool) → T b → b ≡ true
+passes true t = refl
+passes false t = absurd t
+
 pub not-off : (b : Bool) → not b ≡ false → T b
 not-off true e = tt
 not-off false e = let z : _≡_ {A = ℕ} 0 1 = cc in absurd (omega arith)

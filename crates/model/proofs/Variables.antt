@@ -13,7 +13,7 @@ use Rattle.model.specs.Base.{if_then_else_, numbersFrom, occurrences, to
 use Rattle.model.specs.Grammar.{Grammar, Variable, variable, dimension}
 use Rattle.model.specs.GrammarFile.{sequences}
 use Rattle.model.specs.WellFormed.{Perm, same, more, swap, chain, daughterVariables, named}
-use Rattle.model.proofs.Lists.{map-out, map-append}
+use Rattle.model.proofs.Lists.{map-out, map-append, mem-getD}
 use Rattle.model.proofs.Perm.{perm-mem, perm-map, perm-length}
 use Rattle.model.proofs.Once.{Once, numbers-low, vars-once, vars-length}
 
@@ -115,13 +115,8 @@ module _ (g : Grammar) where
       (e ∙ sym (vars-length g 0 ds) ∙ sym (length-map (daughterVariables g 0 ds) code)) found))
       (same (decode-all (daughterVariables g 0 ds) low))
     where
-      getD-in : (l : List ℕ) (k : ℕ) → k < length l → List·Memᴰ (getD l k 0) l
-      getD-in [] k b = let z : ⊥ = omega arith in absurd z
-      getD-in (x ∷ l) zero b = List·Memᴰ·head refl
-      getD-in (x ∷ l) (suc k) b = List·Memᴰ·tail (getD-in l k (omega arith))
-
       low : (v : Variable) → List·Memᴰ v (daughterVariables g 0 ds) → v .component < 4
-      low v m = let p = vars-out 0 ds v m in omega (arith, p .comp-in, four (getD ds (p .k) 0) (getD-in ds (p .k) (p .in-range)))
+      low v m = let p = vars-out 0 ds v m in omega (arith, p .comp-in, four (getD ds (p .k) 0) (mem-getD ds 0 (p .k) (p .in-range)))
 
       found : (c : ℕ) → List·Memᴰ c (map code (daughterVariables g 0 ds)) → List·Memᴰ c vs
       found c m =

@@ -23,6 +23,9 @@ refused o n x e = sym (ap (λ (p : Option Refusal). verdict p n) e)
 pub accepted : (o : Option Refusal) (n m : ℕ) → o ≡ none → m ≡ n → Verdict.Accepted m ≡ verdict o n
 accepted o n m e d = ap Verdict.Accepted d ∙ sym (ap (λ (p : Option Refusal). verdict p n) e)
 
+pub none-accepted : {o : Option Refusal} (n : ℕ) → o ≡ none → verdict o n ≡ Verdict.Accepted n
+none-accepted n e = rw e
+
 -- v is the verdict of the tests o
 module _ (o : Option Refusal) (n : ℕ) (v : Verdict) (is : v ≡ verdict o n) where
   pub passed : {m : ℕ} → v ≡ Verdict.Accepted m → o ≡ none

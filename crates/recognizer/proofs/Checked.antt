@@ -27,6 +27,12 @@ use Rattle.recognizer.specs.Row.{rowOf, stateOf}
 use Rattle.recognizer.specs.Traces.{Runs, takenRow}
 
 -- every step of an accepted trace takes a prediction
+-- the first row is that of the beginning
+pub begins : (file sentence q : List ℕ) (c : ℕ) → c ≡ startOf file → rowOf q 0 1 ≡ record { owner = 0; category = c; component = 0 } ∷ [] → stateOf q 0 1 1 1 sentence ≡ beginRow (grammarOf file) sentence
+begins file sentence q c start first =
+    ap (λ (row : List Slot). record { row = row; made = 1; pending = 1; words = sentence })
+    (first ∙ ap (λ (x : ℕ). record { owner = 0; category = x; component = 0 } ∷ []) start)
+
 module _ (g : Grammar) (sentence : List ℕ) where
   pub taken-length : (k : ℕ) (s : RowState) (rs : List ℕ) → stepsRefusalRow g sentence k s rs ≡ none → length (takenRow g s rs) ≡ length rs
   taken-length k s [] h = refl
@@ -69,22 +75,17 @@ module _ (file sentence trace : List ℕ) (accepted : grammarRefusal file ≡ no
 
     -- from the first row
     module _ (q : List ℕ) (c : ℕ) (start : c ≡ startOf file) (first : rowOf q 0 1 ≡ record { owner = 0; category = c; component = 0 } ∷ []) where
-      begins : stateOf q 0 1 1 1 sentence ≡ beginRow g sentence
-      begins =
-          ap (λ (row : List Slot). record { row = row; made = 1; pending = 1; words = sentence })
-          (first ∙ ap (λ (x : ℕ). record { owner = 0; category = x; component = 0 } ∷ []) start)
-
       pub begin-runs : Runs g (stateOf q 0 1 1 1 sentence) 0 (length trace)
       begin-runs =
           record {
-            reached = subst (Reached g) (sym begins) (reached-begin g (accepted-right file accepted) sentence);
+            reached = subst (Reached g) (sym (begins file sentence q c start first)) (reached-begin g (accepted-right file accepted) sentence);
             counted = omega arith;
             short = omega arith;
             few = few;
           }
 
       begin-refusal : stepsRefusalRow g sentence 0 (stateOf q 0 1 1 1 sentence) trace ≡ traceRefusal g sentence trace
-      begin-refusal = ap (λ (s : RowState). stepsRefusalRow g sentence 0 s trace) begins ∙ sym trace-by-rows
+      begin-refusal = ap (λ (s : RowState). stepsRefusalRow g sentence 0 s trace) (begins file sentence q c start first) ∙ sym trace-by-rows
 
       pub begin-verdict : (v : Verdict) → v ≡ verdict (stepsRefusalRow g sentence 0 (stateOf q 0 1 1 1 sentence) trace) (length trace) → v ≡ verdict (traceRefusal g sentence trace) (length trace)
       begin-verdict v e = e ∙ ap (λ (o : Option Refusal). verdict o (length trace)) begin-refusal
@@ -96,4 +97,4 @@ module _ (file sentence trace : List ℕ) (accepted : grammarRefusal file ≡ no
           let s = stateOf q 0 1 1 1 sentence in
           let e = begin-refusal ∙ a in
           ap (take (length trace)) (h e) ∙ stored-front before (takenRow g s trace) (length trace) (taken-length g sentence 0 s trace e) (omega arith)
-          ∙ ap (λ (x : RowState). takenRow g x trace) begins
+          ∙ ap (λ (x : RowState). takenRow g x trace) (begins file sentence q c start first)

@@ -12,10 +12,8 @@ use Rattle.model.specs.Base.{sumBelow}
 use Rattle.model.specs.Grammar.{Rule}
 use Rattle.model.specs.GrammarFile.{fields, field, daughtersOf, dimensionsOf, rulesOf, recordOf, grammarRefusal, decoded, ruleOf, grammarOf}
 use Rattle.model.specs.Rows.{varSlot, block, packed}
-use Rattle.model.proofs.Lists.{number-below}
-use Rattle.model.proofs.WellFormed.{rules-length}
 use Rattle.model.proofs.RuleFromRecord.{three, category-in, daughter-in, field-length, field-at, daughters-length}
-use Rattle.model.proofs.FromFile.{ruleRead, rule-read, rules-in, record-tested, categories-few}
+use Rattle.model.proofs.FromFile.{ruleRead, rule-is, rules-in, record-tested, categories-few}
 use Rattle.recognizer.specs.Row.{unpacked}
 use Rattle.recognizer.specs.Table.{startCell, slotCell, cellOf, begins, slots, CellsFit, RuleCells, Compiled}
 use Rattle.recognizer.proofs.Lists.{same-parts, sum-rises}
@@ -124,9 +122,5 @@ module _ (file : List ℕ) (bytes : Bytes file) (accepted : grammarRefusal file 
 
   pub compiled : Compiled (grammarOf file) t
   compiled r rule found =
-      let here : r < rulesOf file = omega (arith, number-below (grammarOf file .rules) r found, rules-length file) in
-      let same : ruleRead file r ≡ rule = some-one (sym (rule-read file r here) ∙ found) in
+      let (here, same) = rule-is file r rule found in
       subst (λ (x : Rule). RuleCells x t (32 * r)) same (rule-cells r here)
-    where
-      some-one : {a b : Rule} → some a ≡ some b → a ≡ b
-      some-one p = cc

@@ -18,10 +18,10 @@ use Rattle.model.specs.Verdict.{refuseIf}
 use Rattle.model.specs.Grammar.{Variable, Rule, Grammar, isLexical}
 use Rattle.model.specs.GrammarFile.{fields, field, allZero, daughtersOf, lengthsOf, variables, dimensionIn, dimensionsOf, wordsOf, rulesOf, recordOf, wrongCategory, wrongWord, wrongVariables, unusedSet, unusedBytes, eachOnce, repeated, ruleRefusal, wrongRest, grammarRefusal, decoded, sequences, ruleOf, grammarOf}
 use Rattle.model.proofs.Tests.{no-refusal, first-of, rest-of, first-none, not-off, and-l, every-getD}
-use Rattle.model.proofs.Lists.{map-in}
+use Rattle.model.proofs.Lists.{map-in, mem-getD}
 use Rattle.model.proofs.Perm.{perm-mem}
 use Rattle.model.proofs.Variables.{vars-out}
-use Rattle.model.proofs.RuleFromRecord.{Tested, field-length, field-at, daughters-length, twelve, variables-right, named-are, rule-right}
+use Rattle.model.proofs.RuleFromRecord.{Tested, field-length, field-at, daughters-length, twelve, lengths-total, named-are, rule-right}
 use Rattle.model.proofs.FileTests.{passed}
 use Rattle.model.proofs.FromFile.{record-tested, dimensions-in, dimensions-four}
 use Rattle.recognizer.proofs.Lists.{sum-same, sum-first, sum-total, every-left, every-right}
@@ -123,8 +123,7 @@ module _ (file : List ℕ) (accepted : grammarRefusal file ≡ none) (r : ℕ) (
   adds-up : 0 < n → before 4 ≡ variables d e
   adds-up h =
       sym (before-is h 4 (omega arith)) ∙ sum-total (lengthsOf d e) 4 (omega (arith, field-length (grammarOf file) e tested 7 dim (omega (arith, dim-four)), dim-four))
-      ∙ eqb→eq (total (lengthsOf d e)) (variables d e)
-      (and-l (eqb (total (lengthsOf d e)) (variables d e)) (eachOnce d e) (variables-right (grammarOf file) e tested (dimensions-in file accepted) (not-lexical h)))
+      ∙ lengths-total (grammarOf file) e tested (dimensions-in file accepted) h
 
   -- a record has room for 12 variables
   pub before-twelve : before 4 ≤ 12
@@ -151,17 +150,12 @@ module _ (file : List ℕ) (accepted : grammarRefusal file ≡ none) (r : ℕ) (
   pub variable-daughter : (v : ℕ) → v < before 4 → field e (11 + v) / 4 < n
   variable-daughter v b = go (decLt 0 n)
     where
-      in-list : (l : List ℕ) (k : ℕ) → k < length l → List·Memᴰ (getD l k 0) l
-      in-list [] k c = absurd (omega arith)
-      in-list (x ∷ l) zero c = List·Memᴰ·head refl
-      in-list (x ∷ l) (suc k) c = List·Memᴰ·tail (in-list l k (omega arith))
-
       named : (h : 0 < n) → List·Memᴰ (decoded (field e (11 + v))) (map decoded (fields e 11 (variables d e)))
       named h =
           let l = fields e 11 (variables d e) in
           let c : v < variables d e = omega (arith, adds-up h) in
           subst (λ (x : ℕ). List·Memᴰ (decoded x) (map decoded l)) (field-at (grammarOf file) e tested 11 (variables d e) v c)
-          (map-in decoded (in-list l v (omega (arith, field-length (grammarOf file) e tested 11 (variables d e) (omega (arith, twelve (grammarOf file) e tested (dimensions-in file accepted)))))))
+          (map-in decoded (mem-getD l 0 v (omega (arith, field-length (grammarOf file) e tested 11 (variables d e) (omega (arith, twelve (grammarOf file) e tested (dimensions-in file accepted)))))))
 
       go : Dec (0 < n) → field e (11 + v) / 4 < n
       go (yes h) =

@@ -14,11 +14,11 @@ use crate::rules::compile;
 use crate::sentence::sentence_refusal;
 use crate::step::Stepped;
 use crate::step::step;
-use grammar::read_grammar;
 use grammar::start;
 use model::Refusal;
 use model::RuleNumber;
 use model::Verdict;
+use reader::read_grammar;
 
 // Steps k and after of the trace, from the row q[from..to], with so many words read. Answers the trace's verdict, and stores for each step the number of
 // the prediction that it takes.

@@ -19,7 +19,9 @@ use Rattle.model.proofs.Order.{or-cases, before-irrefl, before-head, before-tai
 use Rattle.model.proofs.Tests.{and-l, and-r}
 use Rattle.listing.specs.declared.stream.Followed.{Followed}
 use Rattle.listing.specs.Stream.{entriesAfter, Follows}
+use Rattle.listing.proofs.Following.{kept-by}
 use Rattle.listing.proofs.Streamed.{is-false, keep-whole, looked-few}
+use Rattle.model.proofs.Digits.{before-trans}
 use Rattle.report.specs.declared.page.Line.{Line}
 use Rattle.report.specs.declared.page.Page.{Page}
 use Rattle.report.specs.Text.{Put}
@@ -29,28 +31,6 @@ use Rattle.report.proofs.Placed.{put-none, put-join, put-long}
 so : (b : Bool) → b ≡ true → T b
 so true e = tt
 so false e = let z : _≡_ {A = ℕ} 0 1 = cc in absurd (omega arith)
-
--- dictionary order goes on
-before-trans : (p q r : List ℕ) → T (before p q) → T (before q r) → T (before p r)
-before-trans [] [] r t u = absurd t
-before-trans [] (y ∷ q) [] t u = absurd u
-before-trans [] (y ∷ q) (z ∷ r) t u = tt
-before-trans (x ∷ p) [] r t u = absurd t
-before-trans (x ∷ p) (y ∷ q) [] t u = absurd u
-before-trans (x ∷ p) (y ∷ q) (z ∷ r) t u =
-    go (or-cases (ltb x y) (eqb x y && before p q) t) (or-cases (ltb y z) (eqb y z && before q r) u) (λ v w. before-trans p q r v w)
-  where
-    go : T (ltb x y) ⊎ T (eqb x y && before p q) → T (ltb y z) ⊎ T (eqb y z && before q r) → (T (before p q) → T (before q r) → T (before p r))
-        → T (before (x ∷ p) (z ∷ r))
-    go (inl v) (inl w) ih = before-head x z p r (omega (arith, ltb→lt x y v, ltb→lt y z w))
-    go (inl v) (inr w) ih = before-head x z p r (omega (arith, ltb→lt x y v, eqb→eq y z (and-l (eqb y z) (before q r) w)))
-    go (inr v) (inl w) ih = before-head x z p r (omega (arith, eqb→eq x y (and-l (eqb x y) (before p q) v), ltb→lt y z w))
-    go (inr v) (inr w) ih =
-        let e : x ≡ z = omega (arith, eqb→eq x y (and-l (eqb x y) (before p q) v), eqb→eq y z (and-l (eqb y z) (before q r) w)) in
-        subst (λ (h : ℕ). T (before (x ∷ p) (h ∷ r))) e (before-tail x p r (ih (and-r (eqb x y) (before p q) v) (and-r (eqb y z) (before q r) w)))
-
-kept-by : (f : List ℕ → Bool) (x : List ℕ) (m : List (List ℕ)) (b : Bool) → f x ≡ b → keep f (x ∷ m) ≡ (if b then x ∷ keep f m else keep f m)
-kept-by f x m b e = ap (λ (z : Bool). if z then x ∷ keep f m else keep f m) e
 
 -- of lists in order, those after the first one that comes after a list are the rest of those that do
 after-first : (l : List (List ℕ)) → InOrder l → (list p : List ℕ) (rest : List (List ℕ)) → keep (before list) l ≡ p ∷ rest → keep (before p) l ≡ rest

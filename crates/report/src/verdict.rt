@@ -2,10 +2,10 @@
 ghost use mathlib.Core.Path.{_≡_};
 ghost use Rattle.report.specs.Whole.{verdictOf};
 use analyses::count;
-use grammar::read_grammar;
 use model::CountVerdict;
 use model::Refusal;
 use model::Verdict;
+use reader::read_grammar;
 
 // The refusal of the grammar, of a sentence file of even length, or of the count with the program's effort limit; else count and effort.
 pub fn program_verdict(file: &[u8], sentence: &[u16], n: u64, even: bool) -> CountVerdict

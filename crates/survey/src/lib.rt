@@ -10,10 +10,10 @@ ghost use Rattle.model.specs.Survey.{ready, visit, surveyRound, rounds, survey}
 use buffers::number_at;
 use buffers::room_refusal;
 use grammar::categories;
-use grammar::read_grammar;
 use model::Category;
 use model::RuleNumber;
 use model::Verdict;
+use reader::read_grammar;
 
 // Every daughter of the rule has a figure, below that of the round.
 fn daughters_ready(file: &[u8], figures: &[u16], r: RuleNumber, round: u16) -> bool

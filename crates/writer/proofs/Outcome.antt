@@ -19,7 +19,7 @@ use Rattle.model.proofs.Tests.{every-by, and-both}
 use Rattle.model.proofs.Verdicts.{met}
 use Rattle.model.proofs.WriterFile.{file-length}
 use Rattle.model.proofs.WriterHeading.{wrongNumbers, writer-refusal}
-use Rattle.grammar.specs.Reading.{tested}
+use Rattle.reader.specs.Reading.{tested}
 use Rattle.writer.specs.Writing.{heading, recordsRefusal}
 
 -- what is given is as wide as its fields

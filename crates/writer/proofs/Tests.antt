@@ -9,9 +9,9 @@ use Rattle.model.specs.declared.Verdict.the-variants.{Accepted, Refused}
 use Rattle.model.specs.Base.{_orElse_}
 use Rattle.model.specs.Verdict.{refuseIf}
 use Rattle.model.specs.GrammarFile.{wrongCategory, wrongWord, wrongVariables, unusedSet, repeated, recordRefusal}
-use Rattle.grammar.specs.Reading.{tested, recordTests}
-use Rattle.grammar.proofs.Answers.{none-by, some-by, join-stop, join-pass}
-use Rattle.grammar.proofs.RuleTests.{join-joined}
+use Rattle.reader.specs.Reading.{tested, recordTests}
+use Rattle.reader.proofs.Answers.{none-by, some-by, join-stop, join-pass}
+use Rattle.reader.proofs.RuleTests.{join-joined}
 use Rattle.writer.specs.Writing.{recordAt}
 
 module _ (dimensions : List ℕ) (words : ℕ) (records : List ℕ) (i : ℕ) where

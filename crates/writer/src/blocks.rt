@@ -8,11 +8,11 @@ ghost use Rattle.model.specs.GrammarFile.{fields, weighted, checkOf, blocksFor}
 ghost use Rattle.model.specs.Writer.{little4, fileOf};
 ghost use Rattle.writer.specs.Writing.{heading, ruleContent, contentAt, Filled, Checked};
 use grammar::block_check;
-use grammar::blocks_for;
 use grammar::byte;
 use grammar::fields;
 use grammar::less;
-use grammar::records_in;
+use reader::blocks_for;
+use reader::records_in;
 
 // Byte i of the heading's block before its check.
 fn heading_byte(

@@ -3,12 +3,12 @@ ghost use mathlib.Core.Path.{_≡_};
 ghost use Rattle.model.proofs.WriterHeading.{wrongNumbers};
 ghost use Rattle.writer.specs.Writing.{heading, numbersIn};
 use grammar::dimension_in;
-use grammar::dimensions_right;
 use grammar::fields;
 use grammar::less;
-use grammar::within;
 use grammar::zeros;
 use model::Category;
+use reader::dimensions_right;
+use reader::within;
 
 // Whether C, W and R are in range.
 fn numbers_in(categories: u8, words: u16, rules: u16) -> bool

@@ -1,14 +1,14 @@
 // Refusals 6 to 10 of the given records, 24 bytes each.
 ghost use mathlib.Core.Path.{_≡_};
 ghost use Rattle.model.specs.GrammarFile.{repeated, recordRefusal};
-ghost use Rattle.grammar.specs.Reading.{tested};
+ghost use Rattle.reader.specs.Reading.{tested};
 ghost use Rattle.writer.specs.Writing.{recordAt, recordsRefusal};
 use grammar::fields;
-use grammar::record_refusal;
 use grammar::same_record;
 use model::Refusal;
 use model::RuleNumber;
 use model::Verdict;
+use reader::record_refusal;
 
 // Record i.
 fn record_at(records: &[u8], i: u16) -> &[u8]

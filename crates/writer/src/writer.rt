@@ -2,15 +2,15 @@
 ghost use mathlib.Core.Path.{_≡_};
 ghost use Rattle.model.specs.Calls.{writeVerdict, writeOutput};
 ghost use Rattle.model.specs.Writer.{writerRefusal};
-ghost use Rattle.grammar.specs.Reading.{tested};
+ghost use Rattle.reader.specs.Reading.{tested};
 ghost use Rattle.writer.specs.Writing.{heading};
 use crate::blocks::put_file;
 use crate::heading::wrong_numbers;
 use crate::records::records_refusal;
-use grammar::blocks_for;
 use grammar::fields;
 use model::Refusal;
 use model::Verdict;
+use reader::blocks_for;
 
 // Refusals 4 to 10 of what is given.
 fn given_refusal(

@@ -18,7 +18,7 @@ use Rattle.survey.proofs.survey.Reads as reads
 use Rattle.survey.proofs.survey.Lts as lts
 use Rattle.buffers.proofs.room_refusal.Reads as room-refusal-reads
 use Rattle.grammar.proofs.categories.Reads as categories-reads
-use Rattle.grammar.proofs.read_grammar.Reads as read-grammar-reads
+use Rattle.reader.proofs.read_grammar.Reads as read-grammar-reads
 use Rattle.survey.proofs.write_figures.Reads as write-figures-reads
 
 -- src/lib.rt:105:9

@@ -11,7 +11,7 @@ use Rattle.analyses.proofs.calls.count_tests.Tie as tie
 use Rattle.analyses.proofs.calls.count_tests.Reads as reads
 use Rattle.analyses.proofs.calls.count_tests.Lts as lts
 use Rattle.analyses.proofs.calls.limits_refusal.Reads as limits-refusal-reads
-use Rattle.grammar.proofs.read_grammar.Reads as read-grammar-reads
+use Rattle.reader.proofs.read_grammar.Reads as read-grammar-reads
 use Rattle.recognizer.proofs.sentence_refusal.Reads as sentence-refusal-reads
 
 -- src/calls.rt:80:9

@@ -13,7 +13,7 @@ use Rattle.analyses.proofs.calls.entry_tests.Reads as reads
 use Rattle.analyses.proofs.calls.entry_tests.Lts as lts
 use Rattle.analyses.proofs.calls.limits_refusal.Reads as limits-refusal-reads
 use Rattle.buffers.proofs.room_refusal.Reads as room-refusal-reads
-use Rattle.grammar.proofs.read_grammar.Reads as read-grammar-reads
+use Rattle.reader.proofs.read_grammar.Reads as read-grammar-reads
 use Rattle.recognizer.proofs.sentence_refusal.Reads as sentence-refusal-reads
 
 -- src/calls.rt:158:9

@@ -1,7 +1,7 @@
 use mathlib.Core.Path.{refl}
 use native.Mathlib.Omega.{arith}
 use Rattle.model.proofs.FromFile.{start-in, categories-in}
-use Rattle.analyses.proofs.Begin.{begins}
+use Rattle.recognizer.proofs.Checked.{begins}
 use Rattle.listing.proofs.LookBegin.{start-stood}
 use Rattle.listing.proofs.Following.{follows-last, follows-next, follows-over}
 use borrow.Author.Needs.{needs}
@@ -39,7 +39,7 @@ returns c =
     let s = c .before .before .before .before .before .before .before .before .before in
     let a = s .args in
     let p = s .pre in
-    follows-last (a .file .now) (p .0) (a .sentence .now) (a .n) (a .limit) (a .len) (p .3) (a .path .now) _ (begins (a .file .now) (p .0) (a .sentence .now) (a .t .now) (a .chain .now) (c .before .before .before .before .before .first-row .result) (c .before .before .before .before .before .before .start .result .0) (a .n) (c .before .before .before .before .before .before .start .ensures) (c .before .before .before .before .before .first-row .ensures .1) (p .3) (p .4)) (c .before .look .result) _ _ (c .before .look .ensures) (c .if1 .taken)
+    follows-last (a .file .now) (p .0) (a .sentence .now) (a .n) (a .limit) (a .len) (p .3) (a .path .now) _ (begins (a .file .now) (a .sentence .now) (c .before .before .before .before .before .first-row .result) (c .before .before .before .before .before .before .start .result .0) (c .before .before .before .before .before .before .start .ensures) (c .before .before .before .before .before .first-row .ensures .1)) (c .before .look .result) _ _ (c .before .look .ensures) (c .if1 .taken)
 
 -- src/stream.rt:65:8
 array-read-if2 : tie.Need-array-read-if2
@@ -55,7 +55,7 @@ returns-2 c =
     let s = c .before .before .before .before .before .before .before .before .before .before in
     let a = s .args in
     let p = s .pre in
-    follows-next (a .file .now) (p .0) (a .sentence .now) (a .n) (a .limit) (a .len) (p .3) (a .path .now) _ (begins (a .file .now) (p .0) (a .sentence .now) (a .t .now) (a .chain .now) (c .before .before .before .before .before .before .first-row .result) (c .before .before .before .before .before .before .before .start .result .0) (a .n) (c .before .before .before .before .before .before .before .start .ensures) (c .before .before .before .before .before .before .first-row .ensures .1) (p .3) (p .4)) (c .before .before .look .result) _ _ (c .before .before .look .ensures) (c .before .if1 .left) (c .if2 .taken)
+    follows-next (a .file .now) (p .0) (a .sentence .now) (a .n) (a .limit) (a .len) (p .3) (a .path .now) _ (begins (a .file .now) (a .sentence .now) (c .before .before .before .before .before .before .first-row .result) (c .before .before .before .before .before .before .before .start .result .0) (c .before .before .before .before .before .before .before .start .ensures) (c .before .before .before .before .before .before .first-row .ensures .1)) (c .before .before .look .result) _ _ (c .before .before .look .ensures) (c .before .if1 .left) (c .if2 .taken)
 
 -- src/stream.rt:32:1
 returns-3 : tie.Need-returns-3
@@ -63,7 +63,7 @@ returns-3 c =
     let s = c .before .before .before .before .before .before .before .before .before .before in
     let a = s .args in
     let p = s .pre in
-    follows-over (a .file .now) (p .0) (a .sentence .now) (a .n) (a .limit) (a .len) (p .3) (a .path .now) _ (begins (a .file .now) (p .0) (a .sentence .now) (a .t .now) (a .chain .now) (c .before .before .before .before .before .before .first-row .result) (c .before .before .before .before .before .before .before .start .result .0) (a .n) (c .before .before .before .before .before .before .before .start .ensures) (c .before .before .before .before .before .before .first-row .ensures .1) (p .3) (p .4)) (c .before .before .look .result) _ _ (c .before .before .look .ensures) (c .before .if1 .left) (c .if2 .left)
+    follows-over (a .file .now) (p .0) (a .sentence .now) (a .n) (a .limit) (a .len) (p .3) (a .path .now) _ (begins (a .file .now) (a .sentence .now) (c .before .before .before .before .before .before .first-row .result) (c .before .before .before .before .before .before .before .start .result .0) (c .before .before .before .before .before .before .before .start .ensures) (c .before .before .before .before .before .before .first-row .ensures .1)) (c .before .before .look .result) _ _ (c .before .before .look .ensures) (c .before .if1 .left) (c .if2 .left)
 
 pub follow-spec : {M : Type 1} → statement M
 follow-spec =

@@ -10,7 +10,7 @@ use Rattle.report.proofs.verdict.program_verdict.Tie as tie
 use Rattle.report.proofs.verdict.program_verdict.Reads as reads
 use Rattle.report.proofs.verdict.program_verdict.Lts as lts
 use Rattle.analyses.proofs.count.Reads as count-reads
-use Rattle.grammar.proofs.read_grammar.Reads as read-grammar-reads
+use Rattle.reader.proofs.read_grammar.Reads as read-grammar-reads
 
 -- src/verdict.rt:14:9
 read-grammar-requires : tie.Need-read-grammar-requires

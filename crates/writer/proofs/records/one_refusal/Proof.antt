@@ -5,8 +5,8 @@ use mathlib.Core.List.{List}
 use Prim.Native.Nat.{ℕ}
 use Rattle.model.specs.declared.Refusal.{Refusal}
 use Rattle.model.specs.GrammarFile.{repeated}
-use Rattle.grammar.specs.Reading.{tested, recordTests}
-use Rattle.grammar.proofs.Answers.{refuse-on, refuse-off}
+use Rattle.reader.specs.Reading.{tested, recordTests}
+use Rattle.reader.proofs.Answers.{refuse-on, refuse-off}
 use Rattle.writer.specs.Writing.{recordAt}
 use Rattle.writer.proofs.Tests.{record-stop, record-pass}
 use borrow.Author.Needs.{needs}

@@ -3,8 +3,8 @@
 use mathlib.Core.Path.{_≡_, sym, _∙_}
 use Prim.Native.Nat.{_-_}
 use Rattle.model.specs.GrammarFile.{recordRefusal}
-use Rattle.grammar.specs.Reading.{tested}
-use Rattle.grammar.proofs.Answers.{none-by, some-by, left, left-all, left-pass, left-stop, left-end}
+use Rattle.reader.specs.Reading.{tested}
+use Rattle.reader.proofs.Answers.{none-by, some-by, left, left-all, left-pass, left-stop, left-end}
 use Rattle.writer.specs.Writing.{recordAt, recordsRefusal}
 use borrow.Author.Needs.{needs}
 use Rattle.writer.proofs.records.records_refusal.Statement.{statement}

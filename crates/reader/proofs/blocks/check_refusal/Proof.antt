@@ -1,0 +1,66 @@
+-- `reader::check_refusal` meets its contract. The loop keeps: the first refusal is the first from block k on.
+-- Assumes nothing.
+use mathlib.Core.Path.{_≡_, sym, _∙_}
+use mathlib.Core.List.{List}
+use mathlib.Core.Option.{Option}
+use Prim.Native.Nat.{ℕ, _-_}
+use Rattle.model.specs.Verdict.{refuseIf}
+use Rattle.model.specs.declared.Refusal.{Refusal}
+use Rattle.model.specs.GrammarFile.{wrongCheck}
+use Rattle.reader.specs.Reading.{tested, checkRefusal}
+use Rattle.reader.proofs.Answers.{refuse-on, refuse-off, left, left-all, left-pass, left-stop, left-end}
+use borrow.Author.Needs.{needs}
+use Rattle.reader.proofs.blocks.check_refusal.Statement.{statement}
+use Rattle.reader.proofs.blocks.check_refusal.Tie as tie
+
+abbrev test : List ℕ → ℕ → Option Refusal
+test file k = refuseIf (wrongCheck file k) (Refusal.Grammar 2 k)
+
+abbrev Inv-loop : tie.InvT-loop
+Inv-loop file n k₀ k = tested (checkRefusal file n) ≡ left (test file) k n
+
+abbrev μ-loop : tie.MeasureT-loop
+μ-loop file n k₀ k = n - k
+
+loop-holds : tie.Need-loop-holds Inv-loop μ-loop
+loop-holds c = left-all (test (c .before .args .file .now)) (c .before .args .n)
+
+wrong-check-requires : tie.Need-wrong-check-requires Inv-loop μ-loop
+wrong-check-requires c κs = search needs
+
+returns : tie.Need-returns Inv-loop μ-loop
+returns c =
+    let file = c .before .before .before .before .before .args .file .now in
+    let k = c .before .before .before .loop .k in
+    let wrong = refuse-on (wrongCheck file k) (Refusal.Grammar 2 k) (sym (c .before .wrong-check .ensures) ∙ c .if1 .taken) in
+    sym (c .before .before .before .loop .inv ∙ left-stop (test file) k (c .before .before .before .before .before .args .n) (c .before .before .loop-test .taken) wrong)
+
+add-k : tie.Need-add-k Inv-loop μ-loop
+add-k c = search needs
+
+loop-less : tie.Need-loop-less Inv-loop μ-loop
+loop-less c = search needs
+
+loop-again : tie.Need-loop-again Inv-loop μ-loop
+loop-again c =
+    let file = c .before .before .before .before .before .args .file .now in
+    let k = c .before .before .before .loop .k in
+    let right = refuse-off (wrongCheck file k) (Refusal.Grammar 2 k) (sym (c .before .wrong-check .ensures) ∙ c .if1 .left) in
+    c .before .before .before .loop .inv ∙ left-pass (test file) k (c .before .before .before .before .before .args .n) (c .before .before .loop-test .taken) right
+
+returns-2 : tie.Need-returns-2 Inv-loop μ-loop
+returns-2 c = sym (c .before .loop .inv ∙ left-end (test (c .before .before .before .args .file .now)) (c .before .loop .k) (c .before .before .before .args .n) (c .loop-test .left))
+
+pub check-refusal-spec : {M : Type 1} → statement M
+check-refusal-spec =
+    tie.close
+    (tie.spec
+    Inv-loop
+    μ-loop
+    loop-holds
+    wrong-check-requires
+    returns
+    add-k
+    loop-less
+    loop-again
+    returns-2)

@@ -1,0 +1,135 @@
+// The tests of the blocks: refusals 1, 2, 3 and 5, and 9 of the rest of the last block.
+ghost use mathlib.Core.Path.{_≡_};
+ghost use Prim.Native.Nat.{_-_};
+ghost use Rattle.model.specs.GrammarFile.{wrongLength, wrongCheck, wrongBlock, wrongCount, wrongBlocks, wrongRest, recordsIn, blocksFor};
+ghost use Rattle.reader.specs.Reading.{tested, checkRefusal, blockRefusal, countRefusal};
+use grammar::block_check;
+use grammar::byte;
+use grammar::fields;
+use grammar::four_bytes;
+use grammar::less;
+use grammar::rules;
+use grammar::two_bytes;
+use grammar::zeros;
+use model::Refusal;
+use model::Verdict;
+
+// Refusal 1: the length is not 512 times 1 to 14.
+pub fn wrong_length(file: &[u8]) -> bool
+    ensures { λ r. ⌜ r ≡ wrongLength (now (file .entry)) ⌝ }
+{
+    if file.len() % 512 != 0 {
+        return true;
+    }
+    let blocks = file.len() / 512;
+    if blocks < 1 {
+        return true;
+    }
+    14 < blocks
+}
+
+// Refusal 2 of block k: the check is wrong.
+pub fn wrong_check(file: &[u8], k: u16) -> bool
+    ensures { λ r. ⌜ r ≡ wrongCheck (now (file .entry)) k ⌝ }
+{
+    let from = 512 * (k as usize);
+    block_check(fields(file, from, 508)) != four_bytes(file, from + 508)
+}
+
+// Refusal 3 of block k: its number or its kind is wrong.
+pub fn wrong_block(file: &[u8], k: u16) -> bool
+    ensures { λ r. ⌜ r ≡ wrongBlock (now (file .entry)) k ⌝ }
+{
+    let from = 512 * (k as usize);
+    if two_bytes(file, from) != k {
+        return true;
+    }
+    if k == 0 {
+        return byte(file, from + 2) != 1;
+    }
+    byte(file, from + 2) != 2
+}
+
+// How many records rule block k holds, of so many rules.
+pub fn records_in(rules: u16, k: u16) -> usize
+    ensures { λ n. ⌜ n ≡ recordsIn rules k ⌝ }
+{
+    let all = rules as usize;
+    let block = k as usize;
+    if 21 * block < all {
+        return 21;
+    }
+    less(all, 21 * less(block, 1))
+}
+
+// Refusal 5 of rule block k: its record count is wrong.
+pub fn wrong_count(file: &[u8], k: u16) -> bool
+    ensures { λ r. ⌜ r ≡ wrongCount (now (file .entry)) k ⌝ }
+{
+    byte(file, 512 * (k as usize) + 3) as usize != records_in(rules(file), k)
+}
+
+// Refusal 2 of the first of n blocks.
+pub fn check_refusal(file: &[u8], n: u16) -> Verdict
+    ensures { λ r. ⌜ r ≡ tested (checkRefusal (now (file .entry)) n) ⌝ }
+{
+    let mut k: u16 = 0;
+    while k < n {
+        if wrong_check(file, k) {
+            return Verdict::Refused(Refusal::Grammar(2, k));
+        }
+        k += 1;
+    }
+    Verdict::Accepted(0)
+}
+
+// Refusal 3 of the first of n blocks.
+pub fn block_refusal(file: &[u8], n: u16) -> Verdict
+    ensures { λ r. ⌜ r ≡ tested (blockRefusal (now (file .entry)) n) ⌝ }
+{
+    let mut k: u16 = 0;
+    while k < n {
+        if wrong_block(file, k) {
+            return Verdict::Refused(Refusal::Grammar(3, k));
+        }
+        k += 1;
+    }
+    Verdict::Accepted(0)
+}
+
+// Refusal 5 of the first of the rule blocks, of n blocks.
+pub fn count_refusal(file: &[u8], n: u16) -> Verdict
+    ensures { λ r. ⌜ r ≡ tested (countRefusal (now (file .entry)) (n - 1)) ⌝ }
+{
+    let mut k: u16 = 1;
+    while k < n {
+        if wrong_count(file, k) {
+            return Verdict::Refused(Refusal::Grammar(5, k));
+        }
+        k += 1;
+    }
+    Verdict::Accepted(0)
+}
+
+// How many blocks so many rules take.
+pub fn blocks_for(rules: u16) -> usize
+    ensures { λ n. ⌜ n ≡ blocksFor rules ⌝ }
+{
+    1 + (rules as usize + 20) / 21
+}
+
+// Refusal 5: the number of blocks.
+pub fn wrong_blocks(file: &[u8]) -> bool
+    ensures { λ r. ⌜ r ≡ wrongBlocks (now (file .entry)) ⌝ }
+{
+    file.len() / 512 != blocks_for(rules(file))
+}
+
+// Refusal 9 at place R: the rest of the last block is not 0.
+pub fn wrong_rest(file: &[u8]) -> bool
+    ensures { λ r. ⌜ r ≡ wrongRest (now (file .entry)) ⌝ }
+{
+    let from = 512 * less(file.len() / 512, 1);
+    let used = 4 + 24 * (byte(file, from + 3) as usize);
+    !zeros(file, from + used, less(508, used))
+}

@@ -1,0 +1,79 @@
+// The tests of the rules: refusals 6 to 10.
+ghost use mathlib.Core.Path.{_≡_};
+ghost use Rattle.model.specs.GrammarFile.{recordOf, repeated, ruleRefusal};
+ghost use Rattle.reader.specs.Reading.{tested, recordTests, rulesRefusal};
+use crate::record_tests::unused_set;
+use crate::record_tests::wrong_category;
+use crate::record_tests::wrong_variables;
+use crate::record_tests::wrong_word;
+use grammar::dimensions;
+use grammar::record_of;
+use grammar::same_record;
+use grammar::words;
+use model::Refusal;
+use model::RuleNumber;
+use model::Verdict;
+
+// Refusals 6 to 9 of record e, which is that of rule r.
+pub fn record_refusal(dimensions: &[u8], words: u16, e: &[u8], r: RuleNumber) -> Verdict
+    ensures { λ v. ⌜ v ≡ tested (recordTests (now (dimensions .entry)) words (now (e .entry)) (r .0)) ⌝ }
+{
+    if wrong_category(dimensions, e) {
+        return Verdict::Refused(Refusal::Grammar(6, r.0));
+    }
+    if wrong_word(dimensions, e, words) {
+        return Verdict::Refused(Refusal::Grammar(7, r.0));
+    }
+    if wrong_variables(dimensions, e) {
+        return Verdict::Refused(Refusal::Grammar(8, r.0));
+    }
+    if unused_set(dimensions, e) {
+        return Verdict::Refused(Refusal::Grammar(9, r.0));
+    }
+    Verdict::Accepted(0)
+}
+
+// Refusal 10: the rule's record is equal to an earlier one.
+fn repeated_rule(file: &[u8], r: RuleNumber) -> bool
+    ensures { λ b. ⌜ b ≡ repeated (recordOf (now (file .entry))) (r .0) ⌝ }
+{
+    let e = record_of(file, r);
+    let n = r.0;
+    let mut j: u16 = 0;
+    while j < n {
+        if same_record(record_of(file, RuleNumber(j)), e) {
+            return true;
+        }
+        j += 1;
+    }
+    false
+}
+
+// Refusals 6 to 10 of a rule.
+fn rule_refusal(file: &[u8], r: RuleNumber) -> Verdict
+    ensures { λ v. ⌜ v ≡ tested (ruleRefusal (now (file .entry)) (r .0)) ⌝ }
+{
+    let v = record_refusal(dimensions(file), words(file), record_of(file, r), r);
+    let Verdict::Accepted(_) = v else {
+        return v;
+    };
+    if repeated_rule(file, r) {
+        return Verdict::Refused(Refusal::Grammar(10, r.0));
+    }
+    Verdict::Accepted(0)
+}
+
+// Refusals 6 to 10 of the first of n rules.
+pub fn rules_refusal(file: &[u8], n: u16) -> Verdict
+    ensures { λ v. ⌜ v ≡ tested (rulesRefusal (now (file .entry)) n) ⌝ }
+{
+    let mut i: u16 = 0;
+    while i < n {
+        let v = rule_refusal(file, RuleNumber(i));
+        let Verdict::Accepted(_) = v else {
+            return v;
+        };
+        i += 1;
+    }
+    Verdict::Accepted(0)
+}
