@@ -15,7 +15,7 @@ use Rattle.model.proofs.FromFile.{rules-in}
 use Rattle.model.proofs.RowsBounds.{file-row}
 use Rattle.model.proofs.WellFormed.{rules-length}
 use Rattle.model.proofs.Tests.{not-both}
-use Rattle.recognizer.specs.Row.{unpacked, rowOf}
+use Rattle.rows.specs.Row.{unpacked, rowOf}
 use Rattle.analyses.specs.Tally.{effortBelow, Searched, spentOne, completed}
 use Rattle.analyses.specs.Search.{standing, Ready, SearchedAt, under, upTo, SearchedRules}
 use Rattle.analyses.proofs.Searches.{searched-as, searched-joined, searched-spent, searched-complete}

@@ -14,8 +14,8 @@ use Rattle.model.specs.Rows.{Slot, beginRow, foundFromRow}
 use Rattle.model.proofs.FromFile.{accepted-right}
 use Rattle.model.proofs.RowsAgree.{rows-agree}
 use Rattle.model.proofs.RowsBounds.{Reached, reached-begin}
-use Rattle.recognizer.specs.Row.{rowOf, Held}
-use Rattle.recognizer.specs.Table.{Compiled}
+use Rattle.rows.specs.Row.{rowOf, Held}
+use Rattle.rows.specs.Table.{Compiled}
 use Rattle.recognizer.proofs.Checked as checked
 use Rattle.analyses.specs.Chain.{Chained}
 use Rattle.analyses.specs.Tally.{effortBelow, Searched}

@@ -7,7 +7,7 @@ use native.Mathlib.Omega.{arith}
 use lib.ListN.{length, getD, set, drop, length-map}
 use lib.Seq.{slice, length-slice, drop-cons, set-append-seam}
 use Rattle.model.proofs.Lists.{map-append}
-use Rattle.recognizer.proofs.Lists.{slice-more}
+use Rattle.rows.proofs.Lists.{slice-more}
 use Rattle.analyses.specs.Tests.{lowWords}
 
 put-next : (a o : List ℕ) (i v : ℕ) → length a ≡ i → i < length o → set (a ++ drop i o) i v ≡ (a ++ (v ∷ [])) ++ drop (suc i) o

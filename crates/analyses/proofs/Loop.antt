@@ -16,7 +16,7 @@ use Rattle.model.specs.Rows.{RowState, walkRow, anyRow, endRow}
 use Rattle.model.proofs.FromFile.{ruleRead, rule-read, rules-in}
 use Rattle.model.proofs.WellFormed.{rules-length}
 use Rattle.model.proofs.Tests.{not-both}
-use Rattle.recognizer.specs.Row.{unpacked, rowOf}
+use Rattle.rows.specs.Row.{unpacked, rowOf}
 use Rattle.analyses.specs.Chain.{isBy, isOf, firstRule}
 use Rattle.analyses.specs.Tally.{Searched}
 use Rattle.analyses.specs.Search.{standing, Ready, under, upTo, SearchedUnder, SearchedRules, Fronted, done, CameTo}

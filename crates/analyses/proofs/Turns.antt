@@ -15,9 +15,9 @@ use Rattle.model.specs.Rows.{RowState, moves, halts, stepRow, scanRow, walkRow,
 use Rattle.model.specs.Step.{wordFits}
 use Rattle.model.proofs.FromFile.{ruleRead, rule-read, rules-in, accepted-right}
 use Rattle.model.proofs.RowsBounds.{reached-step, file-row}
-use Rattle.recognizer.specs.Row.{unpacked, rowOf, Held}
-use Rattle.recognizer.specs.Table.{CellsFit}
-use Rattle.recognizer.specs.Expand.{nextRow, Appended}
+use Rattle.rows.specs.Row.{unpacked, rowOf, Held}
+use Rattle.rows.specs.Table.{CellsFit}
+use Rattle.rows.specs.Expand.{nextRow, Appended}
 use Rattle.recognizer.specs.Steps.{Stands, Goes}
 use Rattle.recognizer.proofs.Steps.{cells-fit, scans, too-long, room, expands}
 use Rattle.analyses.specs.Chain.{isBy}

@@ -12,8 +12,8 @@ use Rattle.model.specs.Grammar.{Grammar}
 use Rattle.model.specs.GrammarFile.{grammarRefusal, grammarOf, rulesOf}
 use Rattle.model.specs.Rows.{RowState, RowOutcome, halts, moves, stepRow, extendRow, walkRow, anyRow, endRow, foundFromRow}
 use Rattle.model.proofs.RowsBounds.{Reached}
-use Rattle.recognizer.specs.Row.{unpacked, stateOf, Held}
-use Rattle.recognizer.specs.Table.{Compiled}
+use Rattle.rows.specs.Row.{unpacked, stateOf, Held}
+use Rattle.rows.specs.Table.{Compiled}
 use Rattle.analyses.specs.Chain.{isOf, Chained}
 use Rattle.analyses.specs.Tally.{effortBelow, Searched}
 

@@ -19,9 +19,9 @@ use model::CountVerdict;
 use model::Refusal;
 use model::Verdict;
 use reader::read_grammar;
-use recognizer::row::first_row;
-use recognizer::rules::compile;
 use recognizer::sentence_refusal;
+use rows::row::first_row;
+use rows::rules::compile;
 
 // Refusal 24: the node limit is not 1 to 96, or the effort limit not 1 to 1,000,000,000.
 fn limits_refusal(n: u64, limit: u64) -> Verdict

@@ -5,11 +5,11 @@ ghost use lib.ListN.{length, getD};
 ghost use Rattle.analyses.specs.Search.{Known, KnownRule, KnownAt, KnownTails};
 ghost use Rattle.analyses.specs.Tally.{spentOne, completed, noted};
 use model::Word;
-use recognizer::row::category;
-use recognizer::row::expand;
-use recognizer::rules::daughters;
-use recognizer::rules::word;
 use recognizer::step::fits;
+use rows::row::category;
+use rows::row::expand;
+use rows::rules::daughters;
+use rows::rules::word;
 
 // A complete trace that ends at a place: it is counted, and its end is kept if it is the entry asked for.
 fn complete(sheet: &mut [u64; 100], place: usize)

@@ -14,9 +14,9 @@ use analyses::chain_rules;
 use libc::STDOUT_FILENO;
 use model::CountVerdict;
 use model::Refusal;
-use recognizer::rules::compile;
 use report::Page;
 use report::fill;
+use rows::rules::compile;
 
 // How many of a file's bytes stand in a buffer, and whether the length of the whole file is even.
 struct Loaded {

@@ -18,7 +18,7 @@ use Rattle.model.specs.Rows.{Slot, RowState, halts, moves, stepRow, extended}
 use Rattle.model.proofs.Apart.{Every}
 use Rattle.model.proofs.FromFile.{accepted-right}
 use Rattle.model.proofs.RowsBounds.{Small, row-small, reached-step, made-bound}
-use Rattle.recognizer.specs.Row.{unpacked, rowOf, stateOf}
+use Rattle.rows.specs.Row.{unpacked, rowOf, stateOf}
 use Rattle.recognizer.specs.Steps.{Stands, Goes}
 use Rattle.recognizer.specs.Traces.{Runs}
 use Rattle.recognizer.proofs.Steps.{row-head}

@@ -26,7 +26,7 @@ use Rattle.model.proofs.Analyses.{at, trace-derives}
 use Rattle.model.proofs.Checker.{tree-accepted}
 use Rattle.model.proofs.Demands.{belongs, trace-only}
 use Rattle.model.proofs.RowsAgree.{rows-agree}
-use Rattle.recognizer.specs.Row.{rowOf, stateOf}
+use Rattle.rows.specs.Row.{rowOf, stateOf}
 use Rattle.recognizer.proofs.Checked.{begins, trace-by-rows}
 use Rattle.derivation.specs.Places.{Ended}
 use Rattle.derivation.specs.TreeRun.{Traced, Stood, RunSays, TreeRun, Spelled}

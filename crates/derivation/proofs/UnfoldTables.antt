@@ -10,7 +10,7 @@ use lib.ListN.{length, getD, take, set}
 use lib.Seq.{getD-take, getD-set-same, getD-set-other}
 use Rattle.model.specs.Base.{numbersFrom}
 use Rattle.model.specs.Tree.{Tree, Forest, node, nil, cons}
-use Rattle.recognizer.proofs.Lists.{store-next}
+use Rattle.rows.proofs.Lists.{store-next}
 use Rattle.derivation.specs.Unfold.{firstMade, Taken, treesFrom, Unfolds, Linked, Grows, GrowsAll}
 
 -- no step yet

@@ -18,8 +18,8 @@ use Rattle.model.specs.Calls.{roomRefusal}
 use Rattle.model.specs.Tree.{Tree, treeOfList, spells, nodesRefusal, treeRefusal}
 use Rattle.model.specs.Conversions.{traceOf}
 use Rattle.model.specs.Rows.{RowState, traceFromRow, stepsRefusalRow}
-use Rattle.recognizer.specs.Row.{stateOf, Held}
-use Rattle.recognizer.specs.Table.{Compiled}
+use Rattle.rows.specs.Row.{stateOf, Held}
+use Rattle.rows.specs.Table.{Compiled}
 use Rattle.recognizer.specs.Traces.{Runs}
 use Rattle.derivation.specs.Places.{Ended, sister}
 

@@ -19,9 +19,9 @@ use grammar::start;
 use model::Refusal;
 use model::Verdict;
 use reader::read_grammar;
-use recognizer::row::first_row;
-use recognizer::rules::compile;
 use recognizer::sentence_refusal;
+use rows::row::first_row;
+use rows::rules::compile;
 
 // Whether the yield of the tree is the sentence, for a list that passes the tests of its nodes; then its trace is stored. A tree's trace reads the words
 // of its yield in their order, so no yield is computed.

@@ -3,13 +3,13 @@ ghost use mathlib.Core.Path.{_≡_};
 ghost use Prim.Native.Nat.{ℕ, _+_, _<_, _≤_};
 ghost use lib.ListN.{length, getD, drop};
 ghost use Rattle.model.specs.GrammarFile.{grammarOf};
-ghost use Rattle.recognizer.specs.Row.{unpacked, stateOf};
+ghost use Rattle.rows.specs.Row.{unpacked, stateOf};
 ghost use Rattle.derivation.specs.Places.{sister};
 ghost use Rattle.derivation.specs.TreeRun.{NamesGiven, Ready, TreeRun};
 use model::RuleNumber;
-use recognizer::row::owner;
 use recognizer::step::Stepped;
 use recognizer::step::step;
+use rows::row::owner;
 
 // The same number, of which it is known that it has 16 bits.
 fn wide(x: u16) -> usize

@@ -17,8 +17,8 @@ use buffers::number_at;
 use grammar::daughter_count;
 use model::RuleNumber;
 use model::Verdict;
-use recognizer::rules::wide;
 use recognizer::run_trace;
+use rows::rules::wide;
 
 // Stores, for the prediction that each step takes, the step, and for each step the number of the first prediction that it makes.
 fn link(file: &[u8], trace: &[u16], taken: &[u16; 96], steps: &mut [u16; 96], first: &mut [u16; 96])

@@ -1,4 +1,4 @@
-// The grammar file: its layout, its fields and its reader (document 01, "The grammar file", refusals 1 to 10).
+// The grammar file as bytes: its layout, and the accessors of its heading and of its rules (document 01, "The grammar file").
 mod bytes;
 mod layout;
 mod lists;
@@ -15,7 +15,6 @@ pub use layout::dimension;
 pub use layout::dimensions;
 pub use layout::record_byte;
 pub use layout::record_of;
-pub use layout::record_place;
 pub use layout::rules;
 pub use layout::start;
 pub use layout::words;

@@ -9,8 +9,8 @@ use Rattle.model.specs.Grammar.{Grammar}
 use Rattle.model.specs.GrammarFile.{grammarRefusal, grammarOf, startOf}
 use Rattle.model.proofs.FromFile.{accepted-right}
 use Rattle.model.proofs.RowsBounds.{Reached, reached-begin}
-use Rattle.recognizer.specs.Row.{rowOf, Held}
-use Rattle.recognizer.specs.Table.{Compiled}
+use Rattle.rows.specs.Row.{rowOf, Held}
+use Rattle.rows.specs.Table.{Compiled}
 use Rattle.recognizer.proofs.Checked.{begins}
 use Rattle.analyses.specs.Chain.{Chained}
 use Rattle.listing.specs.Look.{Stood}

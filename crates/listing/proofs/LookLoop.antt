@@ -17,7 +17,7 @@ use Rattle.model.specs.Rows.{RowState, walkRow, anyRow}
 use Rattle.model.proofs.FromFile.{ruleRead, rule-read, rules-in}
 use Rattle.model.proofs.RowsBounds.{file-row}
 use Rattle.model.proofs.WellFormed.{rules-length}
-use Rattle.recognizer.specs.Row.{unpacked, rowOf}
+use Rattle.rows.specs.Row.{unpacked, rowOf}
 use Rattle.analyses.specs.Chain.{isBy, isOf, firstRule}
 use Rattle.analyses.specs.Search.{standing, under, upTo, Fronted, done}
 use Rattle.listing.specs.Look.{endsRow, Found, nothing, found, over, goesOn, firstComplete, passes, boundAt, beyond, Holds, OnDesk, Looked, LookedUnder, LookedRules, LookedTo, Stood}

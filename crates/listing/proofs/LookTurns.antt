@@ -18,7 +18,7 @@ use Rattle.model.specs.Rows.{Slot, RowState, halts, moves, stepRow, finishedRow
 use Rattle.model.proofs.FromFile.{accepted-right}
 use Rattle.model.proofs.RowsBounds.{reached-step, file-row}
 use Rattle.model.proofs.Search.{keep-append, keep-each, each-same}
-use Rattle.recognizer.specs.Row.{rowOf, Held}
+use Rattle.rows.specs.Row.{rowOf, Held}
 use Rattle.recognizer.specs.Steps.{Stands, Goes}
 use Rattle.analyses.specs.Search.{standing, under, upTo, tails}
 use Rattle.listing.specs.Look.{endsRow, passes, boundAt, beyond, OnDesk, Looked, LookedAt, LookedRules, LookedAfter, Stood, arrivedDesk, arrivedGoes}

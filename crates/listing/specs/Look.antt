@@ -17,8 +17,8 @@ use Rattle.model.specs.GrammarFile.{grammarRefusal, grammarOf}
 use Rattle.model.specs.Rows.{RowState, runRow, finishedRow, anyRow, liveFromRow}
 use Rattle.model.specs.Step.{before}
 use Rattle.model.proofs.RowsBounds.{Reached}
-use Rattle.recognizer.specs.Row.{Held}
-use Rattle.recognizer.specs.Table.{Compiled}
+use Rattle.rows.specs.Row.{Held}
+use Rattle.rows.specs.Table.{Compiled}
 use Rattle.analyses.specs.Chain.{isOf, Chained}
 use Rattle.analyses.specs.Search.{standing, tails, under, upTo, done}
 

@@ -6,9 +6,9 @@ ghost use Rattle.model.specs.GrammarFile.{grammarOf};
 ghost use Rattle.analyses.specs.Search.{standing, Fronted};
 ghost use Rattle.listing.specs.Look.{arrivedDesk, arrivedGoes, taken, takenDesk, takenPath, Stood, OnDesk, LookedAt, LookedRules, LookedUnder, LookedAfter};
 use model::RuleNumber;
-use recognizer::row::category;
 use recognizer::step::Stepped;
 use recognizer::step::step;
+use rows::row::category;
 
 // The search comes to a state at place k. Says whether it goes on below it.
 fn arrive(desk: &mut [u64; 3], k: usize, complete: bool) -> bool

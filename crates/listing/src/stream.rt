@@ -7,7 +7,7 @@ ghost use Rattle.model.specs.GrammarFile.{grammarRefusal, grammarOf};
 ghost use Rattle.model.specs.Calls.{written};
 ghost use Rattle.model.specs.Counting.{limitsRefusal};
 ghost use Rattle.model.specs.Verdict.{verdict};
-ghost use Rattle.recognizer.specs.Table.{Compiled};
+ghost use Rattle.rows.specs.Table.{Compiled};
 ghost use Rattle.analyses.specs.Chain.{Chained};
 ghost use Rattle.listing.specs.Stream.{Follows, nextOf, afterLook, beforeNext, nextVerdict, nextOutput};
 use crate::look::look;
@@ -17,8 +17,8 @@ use buffers::write_front;
 use grammar::start;
 use model::Refusal;
 use model::Verdict;
-use recognizer::row::first_row;
-use recognizer::rules::compile;
+use rows::row::first_row;
+use rows::rules::compile;
 
 // The entry after a list is the first so many numbers of the path; or there is none; or the limit does not suffice.
 pub enum Followed {

@@ -23,7 +23,7 @@ use Rattle.model.proofs.FromFile.{start-in, categories-in, accepted-right}
 use Rattle.model.proofs.RowsNamed.{frontOwner}
 use Rattle.model.proofs.RowsBounds.{Reached, reached-begin}
 use Rattle.model.proofs.RowsAgree.{rows-agree}
-use Rattle.recognizer.specs.Row.{rowOf, stateOf}
+use Rattle.rows.specs.Row.{rowOf, stateOf}
 use Rattle.recognizer.specs.Traces.{Runs, takenRow}
 
 -- every step of an accepted trace takes a prediction

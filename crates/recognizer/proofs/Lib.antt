@@ -1,9 +1,3 @@
-pub mod Lists
-pub mod Packing
-pub mod Cells
-pub mod Record
-pub mod Compiled
-pub mod Expand
 pub mod Steps
 pub mod Running
 pub mod Words

@@ -22,11 +22,11 @@ use Rattle.model.proofs.RowsBounds.{Reached, reached-step, file-row}
 use Rattle.model.proofs.RowsCode.{step-scans, step-predicts}
 use Rattle.recognizer.specs.declared.step.Stepped.{Stepped}
 use Rattle.recognizer.specs.declared.step.Stepped.the-variants.{Halts, Scanned}
-use Rattle.recognizer.specs.Row.{unpacked, rowOf, stateOf, Held}
-use Rattle.recognizer.specs.Table.{CellsFit, RuleCells, Compiled}
-use Rattle.recognizer.specs.Expand.{nextRow, Appended}
+use Rattle.rows.specs.Row.{unpacked, rowOf, stateOf, Held}
+use Rattle.rows.specs.Table.{CellsFit, RuleCells, Compiled}
+use Rattle.rows.specs.Expand.{nextRow, Appended}
 use Rattle.recognizer.specs.Steps.{scanAnswer, Stands, Goes, Says}
-use Rattle.recognizer.proofs.Expand.{expanded, expanded-length}
+use Rattle.rows.proofs.Expand.{expanded, expanded-length}
 
 past-end : {A : Type 0} (l : List A) (r : ℕ) → length l ≤ r → getElem? l r ≡ none
 past-end [] r h = refl

@@ -10,7 +10,7 @@ use Rattle.model.specs.Grammar.{Grammar, emptyWord}
 use Rattle.model.specs.Step.{wordFits}
 use Rattle.model.specs.Rows.{RowState, RowOutcome, halts, moves, stepRow}
 use Rattle.model.proofs.RowsBounds.{Reached}
-use Rattle.recognizer.specs.Row.{stateOf}
+use Rattle.rows.specs.Row.{stateOf}
 use Rattle.recognizer.specs.declared.step.Stepped.{Stepped}
 use Rattle.recognizer.specs.declared.step.Stepped.the-variants.{Halts, Long, Scanned, Expanded}
 

@@ -1,6 +1,4 @@
 // The top-down recognizer on a packed row, and the trace checker (document 01, "One step", "Trace and tree", refusals 11 to 18).
-pub mod row;
-pub mod rules;
 mod sentence;
 pub mod step;
 mod trace;

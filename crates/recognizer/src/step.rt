@@ -5,18 +5,18 @@ ghost use Prim.Native.Nat.{_≤_};
 ghost use lib.ListN.{length, drop};
 ghost use Rattle.model.specs.GrammarFile.{grammarRefusal, grammarOf};
 ghost use Rattle.model.specs.Step.{wordFits};
-ghost use Rattle.recognizer.specs.Row.{stateOf, Held};
+ghost use Rattle.rows.specs.Row.{stateOf, Held};
 ghost use Rattle.recognizer.specs.Steps.{scanAnswer, Stands, StepSays};
-ghost use Rattle.recognizer.specs.Table.{Compiled};
-use crate::row::category as slot_category;
-use crate::row::expand;
-use crate::rules::category;
-use crate::rules::daughters;
-use crate::rules::place_of;
-use crate::rules::word;
+ghost use Rattle.rows.specs.Table.{Compiled};
 use grammar::rules;
 use model::RuleNumber;
 use model::Word;
+use rows::row::category as slot_category;
+use rows::row::expand;
+use rows::rules::category;
+use rows::rules::daughters;
+use rows::rules::place_of;
+use rows::rules::word;
 
 // What a step does: it halts by refusal 13, 14, 15 or 16; or its queue is longer than the steps left; or the head of the row goes and so many words
 // are read; or the next row, of so many slots, is written and so many predictions are made.

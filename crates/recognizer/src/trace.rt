@@ -5,12 +5,9 @@ ghost use Prim.Native.Nat.{_≤_};
 ghost use lib.ListN.{length, drop};
 ghost use Rattle.model.specs.Calls.{checkTraceVerdict};
 ghost use Rattle.model.specs.GrammarFile.{grammarRefusal, grammarOf};
-ghost use Rattle.recognizer.specs.Row.{stateOf, Held};
+ghost use Rattle.rows.specs.Row.{stateOf, Held};
 ghost use Rattle.recognizer.specs.Traces.{Runs, RunSays, TraceSays};
-ghost use Rattle.recognizer.specs.Table.{Compiled};
-use crate::row::first_row;
-use crate::row::owner;
-use crate::rules::compile;
+ghost use Rattle.rows.specs.Table.{Compiled};
 use crate::sentence::sentence_refusal;
 use crate::step::Stepped;
 use crate::step::step;
@@ -19,6 +16,9 @@ use model::Refusal;
 use model::RuleNumber;
 use model::Verdict;
 use reader::read_grammar;
+use rows::row::first_row;
+use rows::row::owner;
+use rows::rules::compile;
 
 // Steps k and after of the trace, from the row q[from..to], with so many words read. Answers the trace's verdict, and stores for each step the number of
 // the prediction that it takes.

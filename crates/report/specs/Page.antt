@@ -10,7 +10,7 @@ use Rattle.model.specs.Grammar.{Grammar}
 use Rattle.model.specs.GrammarFile.{grammarRefusal, grammarOf}
 use Rattle.model.specs.Counting.{effort}
 use Rattle.model.specs.Program.{line, programLimit}
-use Rattle.recognizer.specs.Table.{Compiled}
+use Rattle.rows.specs.Table.{Compiled}
 use Rattle.analyses.specs.Chain.{Chained}
 use Rattle.listing.specs.Stream.{entriesAfter}
 use Rattle.report.specs.Text.{Put}

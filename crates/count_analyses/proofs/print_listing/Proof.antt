@@ -14,7 +14,7 @@ use Rattle.count_analyses.proofs.print_listing.Lts as lts
 use Rattle.analyses.proofs.chain_rules.Reads as chain-rules-reads
 use Rattle.count_analyses.proofs.print_page.Reads as print-page-reads
 use Rattle.io.proofs.large_buffer.Reads as large-buffer-reads
-use Rattle.recognizer.proofs.rules.compile.Reads as compile-reads
+use Rattle.rows.proofs.rules.compile.Reads as compile-reads
 use Rattle.report.proofs.put_count.Reads as put-count-reads
 
 abbrev Inv-loop : tie.InvT-loop

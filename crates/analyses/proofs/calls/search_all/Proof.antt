@@ -11,8 +11,8 @@ use Rattle.analyses.proofs.calls.search_all.Lts as lts
 use Rattle.analyses.proofs.chain.chain_rules.Reads as chain-rules-reads
 use Rattle.analyses.proofs.search.search.Reads as search-reads
 use Rattle.grammar.proofs.start.Reads as start-reads
-use Rattle.recognizer.proofs.row.first_row.Reads as first-row-reads
-use Rattle.recognizer.proofs.rules.compile.Reads as compile-reads
+use Rattle.rows.proofs.row.first_row.Reads as first-row-reads
+use Rattle.rows.proofs.rules.compile.Reads as compile-reads
 
 -- src/calls.rt:46:13
 compile-requires : tie.Need-compile-requires

@@ -9,7 +9,7 @@ use lib.ListN.{length, getD, length-set}
 use lib.Seq.{getD-set-other}
 use Rattle.model.specs.GrammarFile.{grammarOf}
 use Rattle.model.specs.Step.{wordFits}
-use Rattle.recognizer.specs.Row.{unpacked}
+use Rattle.rows.specs.Row.{unpacked}
 use Rattle.analyses.specs.Tally.{spentOne}
 use Rattle.analyses.specs.Search.{standing, SearchedAt, SearchedUnder, Ready, KnownTo}
 use Rattle.analyses.proofs.Turns.{row-some, rule-small, head-here, fit, empty-ready, empty-word, no-words, word-ready, next-word, other-word, queue-long, row-room, made-small, row-ready-by, next-row-by, noted-rule}
@@ -30,10 +30,10 @@ use Rattle.analyses.proofs.search.stepped.Kinds as stepped-kinds
 use Rattle.analyses.proofs.search.+expanded+search+stepped.Lts-stepped as stepped-lts
 use Rattle.analyses.proofs.search.complete.Reads as complete-reads
 use Rattle.analyses.proofs.search.note.Reads as note-reads
-use Rattle.recognizer.proofs.row.category.Reads as category-reads
-use Rattle.recognizer.proofs.row.expand.Reads as expand-reads
-use Rattle.recognizer.proofs.rules.daughters.Reads as daughters-reads
-use Rattle.recognizer.proofs.rules.word.Reads as word-reads
+use Rattle.rows.proofs.row.category.Reads as category-reads
+use Rattle.rows.proofs.row.expand.Reads as expand-reads
+use Rattle.rows.proofs.rules.daughters.Reads as daughters-reads
+use Rattle.rows.proofs.rules.word.Reads as word-reads
 use Rattle.recognizer.proofs.step.fits.Reads as fits-reads
 use Rattle.analyses.proofs.search.+expanded+search+stepped.{statement}
 use Rattle.analyses.proofs.search.+expanded+search+stepped.Tie.{close}

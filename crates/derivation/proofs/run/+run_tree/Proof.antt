@@ -6,7 +6,7 @@ use native.Mathlib.Omega.{arith}
 use lib.ListN.{length, getD, drop, length-set}
 use Rattle.model.specs.GrammarFile.{grammarOf}
 use Rattle.model.specs.Rows.{RowState, moves, stepRow}
-use Rattle.recognizer.specs.Row.{stateOf}
+use Rattle.rows.specs.Row.{stateOf}
 use Rattle.recognizer.specs.Steps.{Goes}
 use Rattle.recognizer.proofs.Steps.{pending-some}
 use Rattle.derivation.specs.TreeRun.{NamesGiven}

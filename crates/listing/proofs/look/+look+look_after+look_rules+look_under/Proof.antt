@@ -4,7 +4,7 @@ use native.Mathlib.Omega.{arith}
 use lib.ListN.{length, getD}
 use Rattle.model.specs.GrammarFile.{grammarOf}
 use Rattle.model.specs.Rows.{RowState, moves, stepRow}
-use Rattle.recognizer.specs.Row.{unpacked}
+use Rattle.rows.specs.Row.{unpacked}
 use Rattle.recognizer.specs.Steps.{Goes}
 use Rattle.analyses.specs.Search.{standing}
 use Rattle.listing.specs.Look.{LookedTo}
@@ -30,7 +30,7 @@ use Rattle.listing.proofs.look.look_under.Kinds as look-under-kinds
 use Rattle.listing.proofs.look.+look+look_after+look_rules+look_under.Lts-look_under as look-under-lts
 use Rattle.listing.proofs.look.arrive.Reads as arrive-reads
 use Rattle.listing.proofs.look.take_up.Reads as take-up-reads
-use Rattle.recognizer.proofs.row.category.Reads as category-reads
+use Rattle.rows.proofs.row.category.Reads as category-reads
 use Rattle.recognizer.proofs.step.step.Reads as step-reads
 use Rattle.listing.proofs.look.+look+look_after+look_rules+look_under.{statement}
 use Rattle.listing.proofs.look.+look+look_after+look_rules+look_under.Tie.{close}

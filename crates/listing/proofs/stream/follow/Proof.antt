@@ -11,7 +11,7 @@ use Rattle.listing.proofs.stream.follow.Reads as reads
 use Rattle.listing.proofs.stream.follow.Lts as lts
 use Rattle.listing.proofs.look.look.Reads as look-reads
 use Rattle.grammar.proofs.start.Reads as start-reads
-use Rattle.recognizer.proofs.row.first_row.Reads as first-row-reads
+use Rattle.rows.proofs.row.first_row.Reads as first-row-reads
 
 -- src/stream.rt:46:23
 start-requires : tie.Need-start-requires

@@ -16,7 +16,7 @@ use Rattle.listing.proofs.stream.found_next.Lts as lts
 use Rattle.analyses.proofs.chain_rules.Reads as chain-rules-reads
 use Rattle.listing.proofs.stream.follow.Reads as follow-reads
 use Rattle.buffers.proofs.write_front.Reads as write-front-reads
-use Rattle.recognizer.proofs.rules.compile.Reads as compile-reads
+use Rattle.rows.proofs.rules.compile.Reads as compile-reads
 
 -- src/stream.rt:85:43
 slice-aggregate-write-front : tie.Need-slice-aggregate-write-front

@@ -7,9 +7,9 @@ use lib.ListN.{length, getD, drop}
 use borrow.Author.Needs.{needs}
 use Rattle.model.specs.GrammarFile.{rulesOf, grammarOf}
 use Rattle.model.specs.Rows.{stepRow, scanRow}
-use Rattle.recognizer.specs.Row.{unpacked, rowOf, stateOf}
-use Rattle.recognizer.specs.Table.{CellsFit}
-use Rattle.recognizer.specs.Expand.{nextRow, Appended}
+use Rattle.rows.specs.Row.{unpacked, rowOf, stateOf}
+use Rattle.rows.specs.Table.{CellsFit}
+use Rattle.rows.specs.Expand.{nextRow, Appended}
 use Rattle.recognizer.proofs.Steps.{no-rule, cells-fit, no-queue, pending-some, wrong-category, scans, too-long, room, expands, scan-says}
 use Rattle.recognizer.proofs.step.step.Statement.{statement}
 use Rattle.recognizer.proofs.step.step.Tie as tie

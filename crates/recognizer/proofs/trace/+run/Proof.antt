@@ -14,7 +14,7 @@ use Rattle.model.specs.Rows.{RowState, moves, stepRow}
 use Rattle.model.proofs.Tests.{none-some}
 use Rattle.model.proofs.FromFile.{accepted-right}
 use Rattle.model.proofs.RowsNamed.{frontOwner}
-use Rattle.recognizer.specs.Row.{stateOf}
+use Rattle.rows.specs.Row.{stateOf}
 use Rattle.recognizer.specs.Steps.{Goes}
 use Rattle.recognizer.proofs.Steps.{row-head, pending-some}
 use Rattle.recognizer.proofs.Running.{words-left, all-read, none-taken, halted, longer, verdict-further, taken-further, runs-further, stands}
@@ -24,7 +24,7 @@ use Rattle.recognizer.proofs.trace.+run.Tie.{close}
 use Rattle.recognizer.proofs.trace.run.Reads as run
 use Rattle.recognizer.proofs.trace.run.Kinds as run-kinds
 use Rattle.recognizer.proofs.trace.+run.Lts-run as run-lts
-use Rattle.recognizer.proofs.row.owner.Reads as owner-reads
+use Rattle.rows.proofs.row.owner.Reads as owner-reads
 use Rattle.recognizer.proofs.step.step.Reads as step-reads
 
 abbrev μ-run : Measures 6 run-kinds.ps ℕ

@@ -1,14 +1,14 @@
--- `recognizer::rules::start_cell` meets its contract.
+-- `rows::rules::start_cell` meets its contract.
 -- Assumes nothing.
 use mathlib.Core.Path.{_≡_, ap, _∙_}
 use Prim.Native.Nat.{_+_, _*_, _-_, _≤_}
 use native.Mathlib.Omega.{arith}
 use borrow.Author.Needs.{needs}
 use Rattle.model.specs.GrammarFile.{recordOf}
-use Rattle.recognizer.specs.Table.{startCell}
-use Rattle.recognizer.proofs.Cells.{start-more}
-use Rattle.recognizer.proofs.rules.start_cell.Statement.{statement}
-use Rattle.recognizer.proofs.rules.start_cell.Tie as tie
+use Rattle.rows.specs.Table.{startCell}
+use Rattle.rows.proofs.Cells.{start-more}
+use Rattle.rows.proofs.rules.start_cell.Statement.{statement}
+use Rattle.rows.proofs.rules.start_cell.Tie as tie
 
 abbrev Inv-loop : tie.InvT-loop
 Inv-loop file r k at₀ j₀ at j = (j ≤ k) × (at ≡ startCell (recordOf file (r .0)) j) × (at ≤ 8 + 255 * j)

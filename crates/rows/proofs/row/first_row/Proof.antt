@@ -1,14 +1,14 @@
--- `recognizer::row::first_row` meets its contract.
+-- `rows::row::first_row` meets its contract.
 -- Assumes nothing.
 use mathlib.Core.Path.{_≡_, refl, ap, _∙_}
 use mathlib.Core.List.{[], _∷_}
 use native.Mathlib.Omega.{arith}
 use borrow.Author.Needs.{needs}
 use Rattle.model.specs.Rows.{Slot}
-use Rattle.recognizer.specs.Row.{unpacked}
-use Rattle.recognizer.proofs.Packing.{unpacked-packed}
-use Rattle.recognizer.proofs.row.first_row.Statement.{statement}
-use Rattle.recognizer.proofs.row.first_row.Tie as tie
+use Rattle.rows.specs.Row.{unpacked}
+use Rattle.rows.proofs.Packing.{unpacked-packed}
+use Rattle.rows.proofs.row.first_row.Statement.{statement}
+use Rattle.rows.proofs.row.first_row.Tie as tie
 
 slot-requires : tie.Need-slot-requires
 slot-requires c κs = search needs

@@ -4,7 +4,7 @@ ghost use mathlib.Core.Path.{_≡_};
 ghost use Prim.Native.Nat.{_+_, _*_, _<_, _≤_};
 ghost use lib.ListN.{getD};
 ghost use Rattle.model.specs.GrammarFile.{rulesOf, recordOf, grammarRefusal, grammarOf};
-ghost use Rattle.recognizer.specs.Table.{startCell, slotCell, cellOf, begins, Compiled};
+ghost use Rattle.rows.specs.Table.{startCell, slotCell, cellOf, begins, Compiled};
 use crate::row::slot;
 use grammar::category_of;
 use grammar::component_length;

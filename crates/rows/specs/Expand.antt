@@ -7,8 +7,8 @@ use lib.Dec.{eqb}
 use lib.ListN.{length, getD, take}
 use lib.Seq.{slice}
 use Rattle.model.specs.Base.{if_then_else_, each}
-use Rattle.recognizer.specs.Row.{unpacked, raised}
-use Rattle.recognizer.specs.Table.{slots}
+use Rattle.rows.specs.Row.{unpacked, raised}
+use Rattle.rows.specs.Table.{slots}
 
 -- the slots of component k of the rule whose cells begin at `at`: daughter j is prediction `made` + j
 abbrev pub blockAt : List ℕ → ℕ → ℕ → ℕ → List ℕ

@@ -10,7 +10,7 @@ use borrow.Author.Tests.{lt-ltb, le-ltb, ne-eqb}
 use lib.ListN.{getD, drop, length-take, List·getD-eq-default}
 use lib.Seq.{getD-take, getD-drop}
 use Rattle.model.specs.GrammarFile.{fields, field, recordPlace, recordOf}
-use Rattle.recognizer.specs.Table.{startCell, slotCell, cellOf}
+use Rattle.rows.specs.Table.{startCell, slotCell, cellOf}
 
 -- every number of the list is a byte
 abbrev pub Bytes : List ℕ → Type 0

@@ -5,7 +5,7 @@ use Prim.Native.Nat.{ℕ, _+_, _*_, _/_, _%_, _<_}
 use native.Mathlib.Omega.{arith}
 use Rattle.model.specs.Rows.{Slot, packed}
 use Rattle.model.proofs.RowsCode.{Fits, packed-owner, packed-cat, packed-comp}
-use Rattle.recognizer.specs.Row.{unpacked, raised}
+use Rattle.rows.specs.Row.{unpacked, raised}
 
 pub packed-unpacked : (x : ℕ) → packed (unpacked x) ≡ x
 packed-unpacked x = omega arith

@@ -14,10 +14,10 @@ use Rattle.model.specs.Grammar.{Variable, Rule}
 use Rattle.model.specs.Rows.{Slot, varSlot, block, expandSlot, expandRow}
 use Rattle.model.proofs.Lists.{map-append}
 use Rattle.model.proofs.RowsCode.{each-take, each-fits}
-use Rattle.recognizer.specs.Row.{unpacked, raised, rowOf}
-use Rattle.recognizer.specs.Table.{begins, slots, CellsFit, RuleCells}
-use Rattle.recognizer.specs.Expand.{blockAt, nextSlots, nextRow}
-use Rattle.recognizer.proofs.Packing.{unpacked-raised, component-four}
+use Rattle.rows.specs.Row.{unpacked, raised, rowOf}
+use Rattle.rows.specs.Table.{begins, slots, CellsFit, RuleCells}
+use Rattle.rows.specs.Expand.{blockAt, nextSlots, nextRow}
+use Rattle.rows.proofs.Packing.{unpacked-raised, component-four}
 
 pub block-length : (t : List ℕ) (at made k : ℕ) → CellsFit t at → k < 4 → length (blockAt t at made k) ≡ begins t at (k + 1) - begins t at k
 block-length t at made k fit h =

@@ -1,4 +1,4 @@
--- `recognizer::row::put_block` meets its contract.
+-- `rows::row::put_block` meets its contract.
 -- Assumes nothing.
 use mathlib.Core.Path.{_≡_, sym, ap, _∙_}
 use mathlib.Core.List.{List, [], _++_, map, append-nil}
@@ -7,12 +7,12 @@ use native.Mathlib.Omega.{arith}
 use lib.ListN.{length, getD, take, set, length-set}
 use lib.Seq.{slice, slice-empty}
 use borrow.Author.Needs.{needs}
-use Rattle.recognizer.specs.Row.{raised}
-use Rattle.recognizer.specs.Table.{begins}
-use Rattle.recognizer.proofs.Expand.{block-length}
-use Rattle.recognizer.proofs.Lists.{written-more}
-use Rattle.recognizer.proofs.row.put_block.Statement.{statement}
-use Rattle.recognizer.proofs.row.put_block.Tie as tie
+use Rattle.rows.specs.Row.{raised}
+use Rattle.rows.specs.Table.{begins}
+use Rattle.rows.proofs.Expand.{block-length}
+use Rattle.rows.proofs.Lists.{written-more}
+use Rattle.rows.proofs.row.put_block.Statement.{statement}
+use Rattle.rows.proofs.row.put_block.Tie as tie
 
 abbrev Inv-loop : tie.InvT-loop
 Inv-loop t at k made out₀ n v₀ end m₀ out v m = (v ≤ end) × (end ≤ at + 20) × (at + 8 ≤ v) × (m + (end - v) ≤ 384) × (begins t at k ≤ v) × (m ≡ n + (v - begins t at k)) × (end ≡ begins t at (k + 1)) × (length out ≡ 384) × (take m out ≡ take n out₀ ++ map (raised made) (slice (begins t at k) v t))

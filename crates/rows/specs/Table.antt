@@ -11,7 +11,7 @@ use Rattle.model.specs.Base.{if_then_else_, sumBelow}
 use Rattle.model.specs.Grammar.{Rule, Grammar, ruleAt}
 use Rattle.model.specs.GrammarFile.{field, wordOf}
 use Rattle.model.specs.Rows.{block, packed}
-use Rattle.recognizer.specs.Row.{unpacked}
+use Rattle.rows.specs.Row.{unpacked}
 
 -- where component k begins, counted from the rule's first cell: behind the 8 cells of its other numbers
 abbrev pub startCell : List ℕ → ℕ → ℕ

@@ -1,13 +1,13 @@
--- `recognizer::rules::slot_cell` meets its contract.
+-- `rows::rules::slot_cell` meets its contract.
 -- Assumes nothing.
 use mathlib.Core.Path.{ap}
 use Prim.Native.Nat.{ℕ, _+_}
 use native.Mathlib.Omega.{arith}
 use borrow.Author.Needs.{needs}
 use Rattle.model.specs.GrammarFile.{field, recordOf}
-use Rattle.recognizer.proofs.Cells.{record-bytes}
-use Rattle.recognizer.proofs.rules.slot_cell.Statement.{statement}
-use Rattle.recognizer.proofs.rules.slot_cell.Tie as tie
+use Rattle.rows.proofs.Cells.{record-bytes}
+use Rattle.rows.proofs.rules.slot_cell.Statement.{statement}
+use Rattle.rows.proofs.rules.slot_cell.Tie as tie
 
 variable-daughter-requires : tie.Need-variable-daughter-requires
 variable-daughter-requires c κs = search needs

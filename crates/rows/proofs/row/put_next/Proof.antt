@@ -1,4 +1,4 @@
--- `recognizer::row::put_next` meets its contract.
+-- `rows::row::put_next` meets its contract.
 -- Assumes nothing.
 use mathlib.Core.Path.{_≡_, sym, ap, subst, _∙_}
 use mathlib.Core.List.{List, _++_}
@@ -7,10 +7,10 @@ use native.Mathlib.Omega.{arith}
 use lib.ListN.{length, take, set, length-set}
 use lib.Seq.{take-suc-set}
 use borrow.Author.Needs.{needs}
-use Rattle.recognizer.specs.Expand.{blockAt, nextSlots, Appended}
-use Rattle.recognizer.proofs.Expand.{next-front, next-other}
-use Rattle.recognizer.proofs.row.put_next.Statement.{statement}
-use Rattle.recognizer.proofs.row.put_next.Tie as tie
+use Rattle.rows.specs.Expand.{blockAt, nextSlots, Appended}
+use Rattle.rows.proofs.Expand.{next-front, next-other}
+use Rattle.rows.proofs.row.put_next.Statement.{statement}
+use Rattle.rows.proofs.row.put_next.Tie as tie
 
 owner-requires : tie.Need-owner-requires
 owner-requires c κs = search needs

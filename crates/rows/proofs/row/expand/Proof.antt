@@ -1,4 +1,4 @@
--- `recognizer::row::expand` meets its contract.
+-- `rows::row::expand` meets its contract.
 -- Assumes nothing.
 use mathlib.Core.Path.{_≡_, refl, sym, ap, subst, _∙_}
 use Prim.Native.Nat.{ℕ, _-_, _≤_}
@@ -7,10 +7,10 @@ use lib.ListN.{length, take}
 use lib.Seq.{slice}
 use borrow.Author.Needs.{needs}
 use Rattle.model.specs.Base.{each}
-use Rattle.recognizer.specs.Expand.{nextSlots, nextRow}
-use Rattle.recognizer.proofs.Expand.{row-none, row-written, row-longer, row-room, row-all}
-use Rattle.recognizer.proofs.row.expand.Statement.{statement}
-use Rattle.recognizer.proofs.row.expand.Tie as tie
+use Rattle.rows.specs.Expand.{nextSlots, nextRow}
+use Rattle.rows.proofs.Expand.{row-none, row-written, row-longer, row-room, row-all}
+use Rattle.rows.proofs.row.expand.Statement.{statement}
+use Rattle.rows.proofs.row.expand.Tie as tie
 
 abbrev Inv-loop : tie.InvT-loop
 Inv-loop t q from to out₀ at made front n₀ i₀ out n i = (from ≤ i) × (i ≤ to) × (length out ≡ 384) × (n ≡ length (each (nextSlots t at made front) (take (i - from) (slice from to q)))) × (take n out ≡ each (nextSlots t at made front) (take (i - from) (slice from to q)))

@@ -24,7 +24,7 @@ use Rattle.model.proofs.Variables.{vars-out}
 use Rattle.model.proofs.RuleFromRecord.{Tested, field-length, field-at, daughters-length, twelve, lengths-total, named-are, rule-right}
 use Rattle.model.proofs.FileTests.{passed}
 use Rattle.model.proofs.FromFile.{record-tested, dimensions-in, dimensions-four}
-use Rattle.recognizer.proofs.Lists.{sum-same, sum-first, sum-total, every-left, every-right}
+use Rattle.rows.proofs.Lists.{sum-same, sum-first, sum-total, every-left, every-right}
 
 -- component k of sequences of these lengths
 pub sequence-at : (ls vs : List ℕ) (k : ℕ) → getD (sequences ls vs) k [] ≡ map decoded (take (getD ls k 0) (drop (sumBelow (λ j. getD ls j 0) k) vs))

@@ -14,12 +14,12 @@ use Rattle.model.specs.GrammarFile.{fields, field, daughtersOf, dimensionsOf, r
 use Rattle.model.specs.Rows.{varSlot, block, packed}
 use Rattle.model.proofs.RuleFromRecord.{three, category-in, daughter-in, field-length, field-at, daughters-length}
 use Rattle.model.proofs.FromFile.{ruleRead, rule-is, rules-in, record-tested, categories-few}
-use Rattle.recognizer.specs.Row.{unpacked}
-use Rattle.recognizer.specs.Table.{startCell, slotCell, cellOf, begins, slots, CellsFit, RuleCells, Compiled}
-use Rattle.recognizer.proofs.Lists.{same-parts, sum-rises}
-use Rattle.recognizer.proofs.Cells.{Bytes, record-bytes, slot-small, cell-start, cell-slot}
-use Rattle.recognizer.proofs.Packing.{unpacked-packed}
-use Rattle.recognizer.proofs.Record.{before-twelve, component-at, variable-daughter}
+use Rattle.rows.specs.Row.{unpacked}
+use Rattle.rows.specs.Table.{startCell, slotCell, cellOf, begins, slots, CellsFit, RuleCells, Compiled}
+use Rattle.rows.proofs.Lists.{same-parts, sum-rises}
+use Rattle.rows.proofs.Cells.{Bytes, record-bytes, slot-small, cell-start, cell-slot}
+use Rattle.rows.proofs.Packing.{unpacked-packed}
+use Rattle.rows.proofs.Record.{before-twelve, component-at, variable-daughter}
 
 module _ (file : List ℕ) (bytes : Bytes file) (accepted : grammarRefusal file ≡ none) (t : List ℕ) (long : length t ≡ 8192)
     (filled : (j : ℕ) → j < 32 * rulesOf file → getD t j 0 ≡ cellOf (recordOf file (j / 32)) (j % 32)) where

@@ -5,9 +5,9 @@ ghost use mathlib.Core.Path.{_≡_};
 ghost use Prim.Native.Nat.{_+_, _<_, _≤_};
 ghost use lib.ListN.{length};
 ghost use Rattle.model.specs.Rows.{packed};
-ghost use Rattle.recognizer.specs.Row.{unpacked, raised, rowOf, Held};
-ghost use Rattle.recognizer.specs.Table.{CellsFit};
-ghost use Rattle.recognizer.specs.Expand.{blockAt, nextSlots, nextRow, Appended};
+ghost use Rattle.rows.specs.Row.{unpacked, raised, rowOf, Held};
+ghost use Rattle.rows.specs.Table.{CellsFit};
+ghost use Rattle.rows.specs.Expand.{blockAt, nextSlots, nextRow, Appended};
 use crate::rules::begins;
 use model::Category;
 

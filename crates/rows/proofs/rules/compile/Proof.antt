@@ -1,4 +1,4 @@
--- `recognizer::rules::compile` meets its contract.
+-- `rows::rules::compile` meets its contract.
 -- Assumes nothing.
 use mathlib.Core.Path.{_≡_, _∙_}
 use Prim.Native.Nat.{ℕ, _-_, _/_, _%_, _≤_, _<_}
@@ -7,11 +7,11 @@ use lib.ListN.{length, getD, length-set}
 use borrow.Author.Needs.{needs}
 use Rattle.model.proofs.FromFile.{rules-in}
 use Rattle.model.specs.GrammarFile.{recordOf}
-use Rattle.recognizer.specs.Table.{cellOf}
-use Rattle.recognizer.proofs.Lists.{store-next}
-use Rattle.recognizer.proofs.Compiled.{compiled}
-use Rattle.recognizer.proofs.rules.compile.Statement.{statement}
-use Rattle.recognizer.proofs.rules.compile.Tie as tie
+use Rattle.rows.specs.Table.{cellOf}
+use Rattle.rows.proofs.Lists.{store-next}
+use Rattle.rows.proofs.Compiled.{compiled}
+use Rattle.rows.proofs.rules.compile.Statement.{statement}
+use Rattle.rows.proofs.rules.compile.Tie as tie
 
 abbrev Inv-loop : tie.InvT-loop
 Inv-loop file t₀ end n₀ t n = (n ≤ end) × (length t ≡ 8192) × ((j : ℕ) → j < n → getD t j 0 ≡ cellOf (recordOf file (j / 32)) (j % 32))

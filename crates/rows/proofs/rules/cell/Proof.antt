@@ -1,13 +1,13 @@
--- `recognizer::rules::cell` meets its contract.
+-- `rows::rules::cell` meets its contract.
 -- Assumes nothing.
 use mathlib.Core.Path.{sym, ap, _∙_}
 use native.Mathlib.Omega.{arith}
 use borrow.Author.Needs.{needs}
 use Rattle.model.specs.GrammarFile.{recordOf}
-use Rattle.recognizer.specs.Table.{cellOf}
-use Rattle.recognizer.proofs.Cells.{cell-start, cell-slot, cell-rest}
-use Rattle.recognizer.proofs.rules.cell.Statement.{statement}
-use Rattle.recognizer.proofs.rules.cell.Tie as tie
+use Rattle.rows.specs.Table.{cellOf}
+use Rattle.rows.proofs.Cells.{cell-start, cell-slot, cell-rest}
+use Rattle.rows.proofs.rules.cell.Statement.{statement}
+use Rattle.rows.proofs.rules.cell.Tie as tie
 
 daughter-count-requires : tie.Need-daughter-count-requires
 daughter-count-requires c κs = search needs
