@@ -17,10 +17,10 @@ use Rattle.model.proofs.RowsBounds.{Reached, reached-begin}
 use Rattle.rows.specs.Row.{rowOf, Held}
 use Rattle.rows.specs.Table.{Compiled}
 use Rattle.recognizer.proofs.Checked as checked
-use Rattle.analyses.specs.Chain.{Chained}
-use Rattle.analyses.specs.Tally.{effortBelow, Searched}
-use Rattle.analyses.specs.Search.{standing, Ready, SearchedAt}
-use Rattle.analyses.proofs.Searches.{searched-as}
+use Rattle.search.specs.Chain.{Chained}
+use Rattle.search.specs.Tally.{effortBelow, Searched}
+use Rattle.search.specs.Search.{standing, Ready, SearchedAt}
+use Rattle.search.proofs.Searches.{searched-as}
 
 module _ (file : List ℕ) (accepted : grammarRefusal file ≡ none) (sentence table chain q : List ℕ) (a n : ℕ)
     (start : a ≡ startOf file) (first : rowOf q 0 1 ≡ record { owner = 0; category = a; component = 0 } ∷ []) (some : 1 ≤ n) (few : n ≤ 96) where

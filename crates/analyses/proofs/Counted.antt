@@ -20,7 +20,7 @@ use Rattle.model.specs.Counting.{limitsRefusal, effortRefusal, listing, count, 
 use Rattle.model.specs.Calls.{countCall}
 use Rattle.model.proofs.Tests.{first-of, rest-of, last-apart}
 use Rattle.analyses.specs.Tests.{beforeSearch}
-use Rattle.analyses.specs.Tally.{Searched}
+use Rattle.search.specs.Tally.{Searched}
 
 module _ (g : Grammar) (sentence : List ℕ) (n limit : ℕ) (before after : List ℕ) (zero-count : getD before 0 0 ≡ 0) (budget : getD before 1 0 ≡ limit) where
   pub within-budget : Searched before (listing g sentence n) (effort g sentence n) (96 - n) true after

@@ -14,7 +14,7 @@ use Rattle.model.specs.Grammar.{Grammar}
 use Rattle.model.specs.Rows.{RowState, RowOutcome, halts, moves, stepRow, finishedRow, extendIfRow, extendByRow, extendRow, walkRow, endRow, foundFromRow}
 use Rattle.model.proofs.Lists.{each-out, map-out}
 use Rattle.model.proofs.Once.{numbers-low}
-use Rattle.analyses.specs.Tally.{kept}
+use Rattle.search.specs.Tally.{kept}
 
 -- at most `most` rule numbers, each below `rules`
 pub record Entry (rules most : ℕ) (p : List ℕ) : Type 0 where

@@ -23,9 +23,9 @@ use Rattle.model.proofs.FromFile.{rules-in}
 use Rattle.model.proofs.Lists.{mem-getD}
 use Rattle.model.proofs.RowsAgree.{rows-agree}
 use Rattle.model.proofs.WellFormed.{rules-length}
-use Rattle.analyses.specs.Tally.{kept, Searched}
+use Rattle.search.specs.Tally.{kept, Searched}
 use Rattle.analyses.specs.Tests.{afterSearch, lowWords}
-use Rattle.analyses.proofs.Kept.{entry-in}
+use Rattle.search.proofs.Kept.{entry-in}
 use Rattle.analyses.proofs.Entries.{Entry, entries, kept-long, kept-end, kept-at}
 
 -- numbers below 256 that stand in the cells from a place on are the low words of those cells

@@ -1,12 +1,3 @@
-pub mod Rules
-pub mod Linked
-pub mod Walks
-pub mod Kept
-pub mod Searches
-pub mod Scans
-pub mod Turns
-pub mod AtState
-pub mod Loop
 pub mod Begin
 pub mod Limits
 pub mod Counted

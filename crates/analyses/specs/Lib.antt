@@ -1,4 +1,1 @@
-pub mod Chain
-pub mod Tally
-pub mod Search
 pub mod Tests

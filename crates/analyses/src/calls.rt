@@ -10,9 +10,7 @@ ghost use Rattle.model.specs.Counting.{limitsRefusal, effortRefusal, listing, c
 ghost use Rattle.model.specs.GrammarFile.{grammarRefusal, grammarOf};
 ghost use Rattle.model.specs.Verdict.{verdict, countVerdict};
 ghost use Rattle.analyses.specs.Tests.{beforeSearch, beforeEntry, afterSearch, lowWords};
-ghost use Rattle.analyses.specs.Tally.{Searched};
-use crate::chain::chain_rules;
-use crate::search::search;
+ghost use Rattle.search.specs.Tally.{Searched};
 use buffers::room_refusal;
 use grammar::start;
 use model::CountVerdict;
@@ -22,6 +20,8 @@ use reader::read_grammar;
 use recognizer::sentence_refusal;
 use rows::row::first_row;
 use rows::rules::compile;
+use search::chain_rules;
+use search::search;
 
 // Refusal 24: the node limit is not 1 to 96, or the effort limit not 1 to 1,000,000,000.
 fn limits_refusal(n: u64, limit: u64) -> Verdict

@@ -10,13 +10,13 @@ ghost use Rattle.model.specs.Program.{programLimit};
 ghost use Rattle.report.specs.Page.{Lists};
 ghost use Rattle.io.specs.Counts.{Counts};
 ghost use Rattle.count_analyses.specs.Loads.{NextSays};
-use analyses::chain_rules;
 use libc::STDOUT_FILENO;
 use model::CountVerdict;
 use model::Refusal;
 use report::Page;
 use report::fill;
 use rows::rules::compile;
+use search::chain_rules;
 
 // How many of a file's bytes stand in a buffer, and whether the length of the whole file is even.
 struct Loaded {

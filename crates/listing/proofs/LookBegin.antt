@@ -12,7 +12,7 @@ use Rattle.model.proofs.RowsBounds.{Reached, reached-begin}
 use Rattle.rows.specs.Row.{rowOf, Held}
 use Rattle.rows.specs.Table.{Compiled}
 use Rattle.recognizer.proofs.Checked.{begins}
-use Rattle.analyses.specs.Chain.{Chained}
+use Rattle.search.specs.Chain.{Chained}
 use Rattle.listing.specs.Look.{Stood}
 
 module _ (file : List ℕ) (accepted : grammarRefusal file ≡ none) (sentence table chain q : List ℕ) (a n : ℕ)

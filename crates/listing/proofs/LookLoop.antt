@@ -18,10 +18,10 @@ use Rattle.model.proofs.FromFile.{ruleRead, rule-read, rules-in}
 use Rattle.model.proofs.RowsBounds.{file-row}
 use Rattle.model.proofs.WellFormed.{rules-length}
 use Rattle.rows.specs.Row.{unpacked, rowOf}
-use Rattle.analyses.specs.Chain.{isBy, isOf, firstRule}
-use Rattle.analyses.specs.Search.{standing, under, upTo, Fronted, done}
+use Rattle.search.specs.Chain.{isBy, isOf, firstRule}
+use Rattle.search.specs.Search.{standing, under, upTo, Fronted, done}
 use Rattle.listing.specs.Look.{endsRow, Found, nothing, found, over, goesOn, firstComplete, passes, boundAt, beyond, Holds, OnDesk, Looked, LookedUnder, LookedRules, LookedTo, Stood}
-use Rattle.analyses.proofs.Rules.{upTo-next, upTo-split, other-rule, first-later, done-here, done-all, skipped, here-found}
+use Rattle.search.proofs.Rules.{upTo-next, upTo-split, other-rule, first-later, done-here, done-all, skipped, here-found}
 use Rattle.model.proofs.Tests.{not-both}
 use Rattle.listing.proofs.Looks.{looked-none, looked-as, looked-joined, looked-stopped}
 use Rattle.listing.proofs.LookStates.{bound-none, either, free}

@@ -16,12 +16,12 @@ use Rattle.model.specs.Base.{if_then_else_, keep}
 use Rattle.model.specs.Grammar.{Grammar}
 use Rattle.model.specs.Rows.{RowState, anyRow}
 use Rattle.model.proofs.Search.{keep-same, keep-map}
-use Rattle.analyses.specs.Search.{tails, under}
+use Rattle.search.specs.Search.{tails, under}
 use Rattle.listing.specs.Look.{endsRow, firstComplete, goesOn, passes, boundAt, beyond, Holds, nothing, found, over, Found, OnDesk, Looked, taken, takenDesk, takenPath, LookedUnder, LookedAfter}
 use Rattle.model.proofs.Tests.{not-both}
 use Rattle.listing.proofs.Looks.{looked-none, looked-as}
 use Rattle.listing.proofs.LookStates.{keep-no, after-more, after-same, after-less, bound-none, bound-ahead, either}
-use Rattle.analyses.proofs.Walks.{under-tails}
+use Rattle.search.proofs.Walks.{under-tails}
 
 module _ (g : Grammar) (left : ℕ) (t : RowState) (r : ℕ) where
   abbrev below : List (List ℕ)

@@ -20,13 +20,13 @@ use Rattle.model.proofs.RowsBounds.{reached-step, file-row}
 use Rattle.model.proofs.Search.{keep-append, keep-each, each-same}
 use Rattle.rows.specs.Row.{rowOf, Held}
 use Rattle.recognizer.specs.Steps.{Stands, Goes}
-use Rattle.analyses.specs.Search.{standing, under, upTo, tails}
+use Rattle.search.specs.Search.{standing, under, upTo, tails}
 use Rattle.listing.specs.Look.{endsRow, passes, boundAt, beyond, OnDesk, Looked, LookedAt, LookedRules, LookedAfter, Stood, arrivedDesk, arrivedGoes}
 use Rattle.listing.proofs.Looks.{looked-none, looked-as, looked-joined, looked-stopped, looked-under}
 use Rattle.listing.proofs.LookStates.{ends-after, arrived, goes-on}
 use Rattle.listing.proofs.LookRules.{under-same}
 use Rattle.listing.proofs.LookLoop.{head}
-use Rattle.analyses.proofs.Walks.{walk-empty, tails-moves, tails-long, tails-halts}
+use Rattle.search.proofs.Walks.{walk-empty, tails-moves, tails-long, tails-halts}
 
 module _ (file table chain sentence : List ℕ) (read : ℕ) (q : List ℕ) (from to pending made left : ℕ)
     (stood : Stood file table chain sentence read q from to pending made left) (k : ℕ) (desk path : List ℕ) (on : OnDesk k desk path) (room : k + left ≤ 96) where

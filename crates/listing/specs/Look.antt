@@ -19,8 +19,8 @@ use Rattle.model.specs.Step.{before}
 use Rattle.model.proofs.RowsBounds.{Reached}
 use Rattle.rows.specs.Row.{Held}
 use Rattle.rows.specs.Table.{Compiled}
-use Rattle.analyses.specs.Chain.{isOf, Chained}
-use Rattle.analyses.specs.Search.{standing, tails, under, upTo, done}
+use Rattle.search.specs.Chain.{isOf, Chained}
+use Rattle.search.specs.Search.{standing, tails, under, upTo, done}
 
 -- the steps of a list apply from a state and leave no words and no predictions
 abbrev pub finishedBy : Option RowState → Bool

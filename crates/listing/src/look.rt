@@ -3,7 +3,7 @@ ghost use mathlib.Core.Path.{_≡_};
 ghost use Prim.Native.Nat.{_+_, _<_, _≤_};
 ghost use lib.ListN.{length, getD};
 ghost use Rattle.model.specs.GrammarFile.{grammarOf};
-ghost use Rattle.analyses.specs.Search.{standing, Fronted};
+ghost use Rattle.search.specs.Search.{standing, Fronted};
 ghost use Rattle.listing.specs.Look.{arrivedDesk, arrivedGoes, taken, takenDesk, takenPath, Stood, OnDesk, LookedAt, LookedRules, LookedUnder, LookedAfter};
 use model::RuleNumber;
 use recognizer::step::Stepped;

@@ -8,10 +8,9 @@ ghost use Rattle.model.specs.Calls.{written};
 ghost use Rattle.model.specs.Counting.{limitsRefusal};
 ghost use Rattle.model.specs.Verdict.{verdict};
 ghost use Rattle.rows.specs.Table.{Compiled};
-ghost use Rattle.analyses.specs.Chain.{Chained};
+ghost use Rattle.search.specs.Chain.{Chained};
 ghost use Rattle.listing.specs.Stream.{Follows, nextOf, afterLook, beforeNext, nextVerdict, nextOutput};
 use crate::look::look;
-use analyses::chain_rules;
 use analyses::entry_tests;
 use buffers::write_front;
 use grammar::start;
@@ -19,6 +18,7 @@ use model::Refusal;
 use model::Verdict;
 use rows::row::first_row;
 use rows::rules::compile;
+use search::chain_rules;
 
 // The entry after a list is the first so many numbers of the path; or there is none; or the limit does not suffice.
 pub enum Followed {

@@ -11,7 +11,7 @@ use Rattle.model.specs.GrammarFile.{grammarRefusal, grammarOf}
 use Rattle.model.specs.Counting.{effort}
 use Rattle.model.specs.Program.{line, programLimit}
 use Rattle.rows.specs.Table.{Compiled}
-use Rattle.analyses.specs.Chain.{Chained}
+use Rattle.search.specs.Chain.{Chained}
 use Rattle.listing.specs.Stream.{entriesAfter}
 use Rattle.report.specs.Text.{Put}
 use Rattle.report.specs.declared.page.Line.{Line}

@@ -7,7 +7,7 @@ ghost use Rattle.model.specs.Counting.{effort};
 ghost use Rattle.model.specs.GrammarFile.{grammarRefusal, grammarOf};
 ghost use Rattle.model.specs.Program.{programLimit};
 ghost use Rattle.rows.specs.Table.{Compiled};
-ghost use Rattle.analyses.specs.Chain.{Chained};
+ghost use Rattle.search.specs.Chain.{Chained};
 ghost use Rattle.report.specs.Page.{Lists, LineSays, PageSays};
 use crate::text::put_line;
 use listing::Followed;

@@ -11,7 +11,7 @@ use Rattle.count_analyses.proofs.print_listing.Statement.{statement}
 use Rattle.count_analyses.proofs.print_listing.Tie as tie
 use Rattle.count_analyses.proofs.print_listing.Reads as reads
 use Rattle.count_analyses.proofs.print_listing.Lts as lts
-use Rattle.analyses.proofs.chain_rules.Reads as chain-rules-reads
+use Rattle.search.proofs.chain_rules.Reads as chain-rules-reads
 use Rattle.count_analyses.proofs.print_page.Reads as print-page-reads
 use Rattle.io.proofs.large_buffer.Reads as large-buffer-reads
 use Rattle.rows.proofs.rules.compile.Reads as compile-reads

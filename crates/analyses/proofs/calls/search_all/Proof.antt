@@ -8,8 +8,8 @@ use Rattle.analyses.proofs.calls.search_all.Statement.{statement}
 use Rattle.analyses.proofs.calls.search_all.Tie as tie
 use Rattle.analyses.proofs.calls.search_all.Reads as reads
 use Rattle.analyses.proofs.calls.search_all.Lts as lts
-use Rattle.analyses.proofs.chain.chain_rules.Reads as chain-rules-reads
-use Rattle.analyses.proofs.search.search.Reads as search-reads
+use Rattle.search.proofs.chain_rules.Reads as chain-rules-reads
+use Rattle.search.proofs.search.Reads as search-reads
 use Rattle.grammar.proofs.start.Reads as start-reads
 use Rattle.rows.proofs.row.first_row.Reads as first-row-reads
 use Rattle.rows.proofs.rules.compile.Reads as compile-reads

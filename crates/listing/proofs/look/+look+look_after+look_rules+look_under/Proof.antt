@@ -6,9 +6,9 @@ use Rattle.model.specs.GrammarFile.{grammarOf}
 use Rattle.model.specs.Rows.{RowState, moves, stepRow}
 use Rattle.rows.specs.Row.{unpacked}
 use Rattle.recognizer.specs.Steps.{Goes}
-use Rattle.analyses.specs.Search.{standing}
+use Rattle.search.specs.Search.{standing}
 use Rattle.listing.specs.Look.{LookedTo}
-use Rattle.analyses.proofs.AtState.{not-none}
+use Rattle.search.proofs.AtState.{not-none}
 use Rattle.listing.proofs.LookRules.{took, left-out, up-on, up-strictly, up-at, under-settled, under-stopped, under-left}
 use Rattle.listing.proofs.LookLoop.{row-some, came-first, fronted, on-now, strictly-now, later, came-next, stops, came-last}
 use Rattle.listing.proofs.LookTurns.{at-end, next-on, next-strictly, with-rules, no-more, stands, on-there, halted, longer, moved, stood-there}

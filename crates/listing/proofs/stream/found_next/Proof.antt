@@ -13,7 +13,7 @@ use Rattle.listing.proofs.stream.found_next.Statement.{statement}
 use Rattle.listing.proofs.stream.found_next.Tie as tie
 use Rattle.listing.proofs.stream.found_next.Reads as reads
 use Rattle.listing.proofs.stream.found_next.Lts as lts
-use Rattle.analyses.proofs.chain_rules.Reads as chain-rules-reads
+use Rattle.search.proofs.chain_rules.Reads as chain-rules-reads
 use Rattle.listing.proofs.stream.follow.Reads as follow-reads
 use Rattle.buffers.proofs.write_front.Reads as write-front-reads
 use Rattle.rows.proofs.rules.compile.Reads as compile-reads

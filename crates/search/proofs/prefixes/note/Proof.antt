@@ -1,11 +1,11 @@
--- `analyses::search::note` meets its contract.
+-- `search::prefixes::note` meets its contract.
 -- Assumes nothing.
-use Rattle.analyses.proofs.Searches.{noted-in, noted-after, noted-before}
+use Rattle.search.proofs.Searches.{noted-in, noted-after, noted-before}
 use borrow.Author.Needs.{needs}
-use Rattle.analyses.proofs.search.note.Statement.{statement}
-use Rattle.analyses.proofs.search.note.Tie as tie
-use Rattle.analyses.proofs.search.note.Reads as reads
-use Rattle.analyses.proofs.search.note.Lts as lts
+use Rattle.search.proofs.prefixes.note.Statement.{statement}
+use Rattle.search.proofs.prefixes.note.Tie as tie
+use Rattle.search.proofs.prefixes.note.Reads as reads
+use Rattle.search.proofs.prefixes.note.Lts as lts
 
 -- src/search.rt:32:17
 element-copy-out-asked : tie.Need-element-copy-out-asked

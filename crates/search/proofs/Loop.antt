@@ -17,13 +17,13 @@ use Rattle.model.proofs.FromFile.{ruleRead, rule-read, rules-in}
 use Rattle.model.proofs.WellFormed.{rules-length}
 use Rattle.model.proofs.Tests.{not-both}
 use Rattle.rows.specs.Row.{unpacked, rowOf}
-use Rattle.analyses.specs.Chain.{isBy, isOf, firstRule}
-use Rattle.analyses.specs.Tally.{Searched}
-use Rattle.analyses.specs.Search.{standing, Ready, under, upTo, SearchedUnder, SearchedRules, Fronted, done, CameTo}
-use Rattle.analyses.proofs.Rules.{upTo-next, upTo-more, other-rule, first-later, done-here, done-all, skipped, here-found}
-use Rattle.analyses.proofs.Searches.{found-none, searched-as, searched-joined}
-use Rattle.analyses.proofs.Walks.{each-few, count-few}
-use Rattle.analyses.proofs.Turns.{row-some}
+use Rattle.search.specs.Chain.{isBy, isOf, firstRule}
+use Rattle.search.specs.Tally.{Searched}
+use Rattle.search.specs.Search.{standing, Ready, under, upTo, SearchedUnder, SearchedRules, Fronted, done, CameTo}
+use Rattle.search.proofs.Rules.{upTo-next, upTo-more, other-rule, first-later, done-here, done-all, skipped, here-found}
+use Rattle.search.proofs.Searches.{found-none, searched-as, searched-joined}
+use Rattle.search.proofs.Walks.{each-few, count-few}
+use Rattle.search.proofs.Turns.{row-some}
 
 module _ (file table chain sentence : List ℕ) (read : ℕ) (q : List ℕ) (from to pending made fuel : ℕ) (sheet : List ℕ)
     (ready : Ready file table chain sentence read q from to pending made fuel sheet) (predicted : 1 ≤ pending) where

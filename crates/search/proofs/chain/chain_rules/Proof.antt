@@ -1,4 +1,4 @@
--- `analyses::chain::chain_rules` meets its contract.
+-- `search::chain::chain_rules` meets its contract.
 -- Assumes nothing.
 use mathlib.Core.Path.{_≡_, refl, sym, ap, subst, _∙_}
 use mathlib.Core.Option.{none}
@@ -8,12 +8,12 @@ use borrow.Author.Needs.{needs}
 use lib.ListN.{length, replicate, getD-replicate}
 use Rattle.model.specs.GrammarFile.{grammarRefusal, grammarOf, rulesOf}
 use Rattle.model.proofs.FromFile.{rules-in}
-use Rattle.analyses.proofs.Linked.{Linked, link-none, file-link, file-linked}
-use Rattle.analyses.proofs.chain.chain_rules.Statement.{statement}
-use Rattle.analyses.proofs.chain.chain_rules.Tie as tie
-use Rattle.analyses.proofs.chain.chain_rules.Reads as reads
-use Rattle.analyses.proofs.chain.chain_rules.Lts as lts
-use Rattle.analyses.proofs.chain.rule_count.Reads as rule-count-reads
+use Rattle.search.proofs.Linked.{Linked, link-none, file-link, file-linked}
+use Rattle.search.proofs.chain.chain_rules.Statement.{statement}
+use Rattle.search.proofs.chain.chain_rules.Tie as tie
+use Rattle.search.proofs.chain.chain_rules.Reads as reads
+use Rattle.search.proofs.chain.chain_rules.Lts as lts
+use Rattle.search.proofs.chain.rule_count.Reads as rule-count-reads
 use Rattle.grammar.proofs.category_of.Reads as category-of-reads
 
 abbrev Inv-loop : tie.InvT-loop

@@ -14,8 +14,8 @@ use Rattle.model.specs.Rows.{RowState, RowOutcome, halts, moves, stepRow, exten
 use Rattle.model.proofs.RowsBounds.{Reached}
 use Rattle.rows.specs.Row.{unpacked, stateOf, Held}
 use Rattle.rows.specs.Table.{Compiled}
-use Rattle.analyses.specs.Chain.{isOf, Chained}
-use Rattle.analyses.specs.Tally.{effortBelow, Searched}
+use Rattle.search.specs.Chain.{isOf, Chained}
+use Rattle.search.specs.Tally.{effortBelow, Searched}
 
 -- where the recognizer stands that holds its row in q[from..to] and has read so many words
 abbrev pub standing : List ℕ → ℕ → List ℕ → ℕ → ℕ → ℕ → ℕ → RowState

@@ -14,8 +14,8 @@ use Rattle.model.specs.Base.{if_then_else_, each, numbersFrom}
 use Rattle.model.specs.Grammar.{Rule, Grammar, ruleAt, isLexical}
 use Rattle.model.specs.Rows.{Slot, RowState, halts, moves, scanRow, predictRow, applyRow, extendByRow, extendRow}
 use Rattle.model.proofs.Lists.{each-append}
-use Rattle.analyses.specs.Chain.{isBy, isOf, firstRule}
-use Rattle.analyses.specs.Search.{upTo, done}
+use Rattle.search.specs.Chain.{isBy, isOf, firstRule}
+use Rattle.search.specs.Search.{upTo, done}
 
 -- numbers from `from` on, one more
 numbers-last : (from n : ℕ) → numbersFrom from (suc n) ≡ numbersFrom from n ++ ((from + n) ∷ [])

@@ -10,7 +10,7 @@ use borrow.Author.Tests.{le-leb, lt-leb, lt-ltb, le-ltb}
 use lib.ListN.{length, getD, set, length-append, length-map}
 use lib.Seq.{getD-append-add}
 use Rattle.model.specs.Base.{if_then_else_}
-use Rattle.analyses.specs.Tally.{kept, among, keptEntry}
+use Rattle.search.specs.Tally.{kept, among, keptEntry}
 
 -- among them, or before or after them
 among-in : (first count m : ℕ) → first ≤ m → m < first + count → among first count m ≡ true

@@ -12,8 +12,8 @@ use lib.ListN.{length, getD, set, drop, length-append, length-map, length-set}
 use lib.Seq.{getD-set-same, getD-set-other, drop-set-lt, drop-set-add}
 use Rattle.model.specs.Base.{if_then_else_}
 use Rattle.model.proofs.Tests.{not-both}
-use Rattle.analyses.specs.Tally.{among, kept, keptEntry, Searched, spentOne, completed, noted}
-use Rattle.analyses.proofs.Kept.{entry-in, entry-before, entry-after, kept-joined, kept-under}
+use Rattle.search.specs.Tally.{among, kept, keptEntry, Searched, spentOne, completed, noted}
+use Rattle.search.proofs.Kept.{entry-in, entry-before, entry-after, kept-joined, kept-under}
 
 nothing : (first m place : ℕ) (cells : List ℕ) → keptEntry [] first m place cells ≡ cells
 nothing first m place cells = go (decLt m first)

@@ -3,7 +3,7 @@ ghost use mathlib.Core.Option.{none};
 ghost use mathlib.Core.Path.{_≡_};
 ghost use Prim.Native.Nat.{_≤_};
 ghost use Rattle.model.specs.GrammarFile.{rulesOf, grammarRefusal, grammarOf};
-ghost use Rattle.analyses.specs.Chain.{Chained};
+ghost use Rattle.search.specs.Chain.{Chained};
 use grammar::category_of;
 use grammar::rules;
 use model::RuleNumber;

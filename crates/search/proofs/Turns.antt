@@ -20,12 +20,12 @@ use Rattle.rows.specs.Table.{CellsFit}
 use Rattle.rows.specs.Expand.{nextRow, Appended}
 use Rattle.recognizer.specs.Steps.{Stands, Goes}
 use Rattle.recognizer.proofs.Steps.{cells-fit, scans, too-long, room, expands}
-use Rattle.analyses.specs.Chain.{isBy}
-use Rattle.analyses.specs.Tally.{Searched, noted}
-use Rattle.analyses.specs.Search.{standing, Ready, SearchedAt, tails, under, SearchedTails, SearchedUnder, Fronted}
-use Rattle.analyses.proofs.Scans.{scan-empty, scan-none, scan-fits, scan-other}
-use Rattle.analyses.proofs.Searches.{found-none, searched-as, searched-under}
-use Rattle.analyses.proofs.Walks.{under-tails, tails-moves, tails-long, tails-halts}
+use Rattle.search.specs.Chain.{isBy}
+use Rattle.search.specs.Tally.{Searched, noted}
+use Rattle.search.specs.Search.{standing, Ready, SearchedAt, tails, under, SearchedTails, SearchedUnder, Fronted}
+use Rattle.search.proofs.Scans.{scan-empty, scan-none, scan-fits, scan-other}
+use Rattle.search.proofs.Searches.{found-none, searched-as, searched-under}
+use Rattle.search.proofs.Walks.{under-tails, tails-moves, tails-long, tails-halts}
 
 module _ (file table chain sentence : List ℕ) (read : ℕ) (q : List ℕ) (from to pending made fuel : ℕ) (sheet : List ℕ)
     (ready : Ready file table chain sentence read q from to pending made fuel sheet) where

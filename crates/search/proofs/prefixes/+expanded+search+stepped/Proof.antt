@@ -1,4 +1,4 @@
--- `analyses::search::+expanded+search+stepped` meets its contract.
+-- `search::prefixes::+expanded+search+stepped` meets its contract.
 -- Assumes nothing.
 use mathlib.Core.Path.{_≡_, refl, sym, ap, subst, _∙_}
 use mathlib.Core.Bool.{true, false}
@@ -10,33 +10,33 @@ use lib.Seq.{getD-set-other}
 use Rattle.model.specs.GrammarFile.{grammarOf}
 use Rattle.model.specs.Step.{wordFits}
 use Rattle.rows.specs.Row.{unpacked}
-use Rattle.analyses.specs.Tally.{spentOne}
-use Rattle.analyses.specs.Search.{standing, SearchedAt, SearchedUnder, Ready, KnownTo}
-use Rattle.analyses.proofs.Turns.{row-some, rule-small, head-here, fit, empty-ready, empty-word, no-words, word-ready, next-word, other-word, queue-long, row-room, made-small, row-ready-by, next-row-by, noted-rule}
-use Rattle.analyses.proofs.AtState.{not-none, none-left, some-left, no-budget, all-read, words-left, rules-ready, below-rules}
-use Rattle.analyses.proofs.Loop.{came-first, fronted, ready-now, came-next, later, over-budget, came-last}
+use Rattle.search.specs.Tally.{spentOne}
+use Rattle.search.specs.Search.{standing, SearchedAt, SearchedUnder, Ready, KnownTo}
+use Rattle.search.proofs.Turns.{row-some, rule-small, head-here, fit, empty-ready, empty-word, no-words, word-ready, next-word, other-word, queue-long, row-room, made-small, row-ready-by, next-row-by, noted-rule}
+use Rattle.search.proofs.AtState.{not-none, none-left, some-left, no-budget, all-read, words-left, rules-ready, below-rules}
+use Rattle.search.proofs.Loop.{came-first, fronted, ready-now, came-next, later, over-budget, came-last}
 use borrow.Author.Needs.{needs}
 use Prim.Native.Nat.{ℕ, _<_}
 use borrow.Fn.Kinds.{In}
 use borrow.Fn.PlainCycle.{Measures, is, falls, and}
-use Rattle.analyses.proofs.search.expanded.Reads as expanded
-use Rattle.analyses.proofs.search.expanded.Kinds as expanded-kinds
-use Rattle.analyses.proofs.search.+expanded+search+stepped.Lts-expanded as expanded-lts
-use Rattle.analyses.proofs.search.search.Reads as search′
-use Rattle.analyses.proofs.search.search.Kinds as search-kinds
-use Rattle.analyses.proofs.search.+expanded+search+stepped.Lts-search as search-lts
-use Rattle.analyses.proofs.search.stepped.Reads as stepped
-use Rattle.analyses.proofs.search.stepped.Kinds as stepped-kinds
-use Rattle.analyses.proofs.search.+expanded+search+stepped.Lts-stepped as stepped-lts
-use Rattle.analyses.proofs.search.complete.Reads as complete-reads
-use Rattle.analyses.proofs.search.note.Reads as note-reads
+use Rattle.search.proofs.prefixes.expanded.Reads as expanded
+use Rattle.search.proofs.prefixes.expanded.Kinds as expanded-kinds
+use Rattle.search.proofs.prefixes.+expanded+search+stepped.Lts-expanded as expanded-lts
+use Rattle.search.proofs.prefixes.search.Reads as search′
+use Rattle.search.proofs.prefixes.search.Kinds as search-kinds
+use Rattle.search.proofs.prefixes.+expanded+search+stepped.Lts-search as search-lts
+use Rattle.search.proofs.prefixes.stepped.Reads as stepped
+use Rattle.search.proofs.prefixes.stepped.Kinds as stepped-kinds
+use Rattle.search.proofs.prefixes.+expanded+search+stepped.Lts-stepped as stepped-lts
+use Rattle.search.proofs.prefixes.complete.Reads as complete-reads
+use Rattle.search.proofs.prefixes.note.Reads as note-reads
 use Rattle.rows.proofs.row.category.Reads as category-reads
 use Rattle.rows.proofs.row.expand.Reads as expand-reads
 use Rattle.rows.proofs.rules.daughters.Reads as daughters-reads
 use Rattle.rows.proofs.rules.word.Reads as word-reads
 use Rattle.recognizer.proofs.step.fits.Reads as fits-reads
-use Rattle.analyses.proofs.search.+expanded+search+stepped.{statement}
-use Rattle.analyses.proofs.search.+expanded+search+stepped.Tie.{close}
+use Rattle.search.proofs.prefixes.+expanded+search+stepped.{statement}
+use Rattle.search.proofs.prefixes.+expanded+search+stepped.Tie.{close}
 
 abbrev μ-expanded : Measures 5 expanded-kinds.ps ℕ
 μ-expanded κs a = 3 * a .1 .1 .1 .1 .1 .1 .1 .1 .1 .1 .0 + 0

@@ -16,7 +16,7 @@ use Rattle.model.specs.GrammarFile.{grammarRefusal, grammarOf, rulesOf, recordO
 use Rattle.model.proofs.FromFile.{ruleRead, rule-read, rules-in, record-tested, categories-few}
 use Rattle.model.proofs.RuleFromRecord.{category-in}
 use Rattle.model.proofs.WellFormed.{rules-length}
-use Rattle.analyses.specs.Chain.{isBy, isOf, firstRule, Chained}
+use Rattle.search.specs.Chain.{isBy, isOf, firstRule, Chained}
 
 -- the table of the rules from r on, of n
 pub record Linked (g : Grammar) (n r : ℕ) (chain : List ℕ) : Type 0 where

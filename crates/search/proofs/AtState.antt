@@ -16,11 +16,11 @@ use Rattle.model.proofs.RowsBounds.{file-row}
 use Rattle.model.proofs.WellFormed.{rules-length}
 use Rattle.model.proofs.Tests.{not-both}
 use Rattle.rows.specs.Row.{unpacked, rowOf}
-use Rattle.analyses.specs.Tally.{effortBelow, Searched, spentOne, completed}
-use Rattle.analyses.specs.Search.{standing, Ready, SearchedAt, under, upTo, SearchedRules}
-use Rattle.analyses.proofs.Searches.{searched-as, searched-joined, searched-spent, searched-complete}
-use Rattle.analyses.proofs.Walks.{walk-empty, walk-length}
-use Rattle.analyses.proofs.Turns.{row-some}
+use Rattle.search.specs.Tally.{effortBelow, Searched, spentOne, completed}
+use Rattle.search.specs.Search.{standing, Ready, SearchedAt, under, upTo, SearchedRules}
+use Rattle.search.proofs.Searches.{searched-as, searched-joined, searched-spent, searched-complete}
+use Rattle.search.proofs.Walks.{walk-empty, walk-length}
+use Rattle.search.proofs.Turns.{row-some}
 
 pub not-none : (n : ℕ) → (n ≡ 0 → ⊥) → 1 ≤ n
 not-none zero h = absurd (h refl)

@@ -12,8 +12,8 @@ use lib.ListN.{length, length-append, length-map}
 use Rattle.model.specs.Base.{if_then_else_, each, numbersFrom}
 use Rattle.model.specs.Grammar.{Rule, Grammar, ruleAt}
 use Rattle.model.specs.Rows.{Slot, RowState, RowOutcome, halts, moves, applyRow, stepRow, finishedRow, extendIfRow, extendByRow, extendRow, walkRow, anyRow, endRow}
-use Rattle.analyses.specs.Tally.{effortBelow, countBelow}
-use Rattle.analyses.specs.Search.{tailsBy, tails, under, upTo}
+use Rattle.search.specs.Tally.{effortBelow, countBelow}
+use Rattle.search.specs.Search.{tailsBy, tails, under, upTo}
 
 module _ (g : Grammar) (leaf : RowState → List (List ℕ)) where
   -- no rule applies to a row without slots

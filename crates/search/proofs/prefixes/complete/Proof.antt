@@ -1,12 +1,12 @@
--- `analyses::search::complete` meets its contract.
+-- `search::prefixes::complete` meets its contract.
 -- Assumes nothing.
 use mathlib.Core.Logic.{⊎-elim}
-use Rattle.analyses.proofs.Searches.{completed-at, completed-other}
+use Rattle.search.proofs.Searches.{completed-at, completed-other}
 use borrow.Author.Needs.{needs}
-use Rattle.analyses.proofs.search.complete.Statement.{statement}
-use Rattle.analyses.proofs.search.complete.Tie as tie
-use Rattle.analyses.proofs.search.complete.Reads as reads
-use Rattle.analyses.proofs.search.complete.Lts as lts
+use Rattle.search.proofs.prefixes.complete.Statement.{statement}
+use Rattle.search.proofs.prefixes.complete.Tie as tie
+use Rattle.search.proofs.prefixes.complete.Reads as reads
+use Rattle.search.proofs.prefixes.complete.Lts as lts
 
 -- src/search.rt:20:17
 element-copy-out-count : tie.Need-element-copy-out-count

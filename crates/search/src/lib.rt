@@ -1,0 +1,6 @@
+// The search of the live prefixes, depth first with a budget, and the chain of the rules of a category (document 01, "Counting and listing").
+mod chain;
+mod prefixes;
+
+pub use chain::chain_rules;
+pub use prefixes::search;
