@@ -1,6 +1,3 @@
-pub mod Places
-pub mod Standing
-pub mod Nodes
 pub mod Arity
 pub mod Names
 pub mod TreeRun
@@ -8,10 +5,3 @@ pub mod RunCode
 pub mod Spelling
 pub mod TreeCalls
 pub mod Conversion
-pub mod RoundTrips
-pub mod UnfoldStep
-pub mod UnfoldRun
-pub mod UnfoldTables
-pub mod UnfoldLoop
-pub mod UnfoldStack
-pub mod UnfoldCall

@@ -15,9 +15,9 @@ use Rattle.model.specs.Tree.{Tree, treeOfList, arity}
 use Rattle.model.specs.Conversions.{subtree}
 use Rattle.model.specs.Rows.{extended}
 use Rattle.model.proofs.RowsNamed.{extended-old, extended-new}
-use Rattle.derivation.specs.Places.{daughterPlace, sister}
+use Rattle.trees.specs.Places.{daughterPlace, sister}
 use Rattle.derivation.specs.TreeRun.{NamesGiven, Stood, Named}
-use Rattle.derivation.proofs.Places.{daughter-tree, daughter-within}
+use Rattle.trees.proofs.Places.{daughter-tree, daughter-within}
 
 module _ (g : Grammar) (list ends places : List ℕ) (made : ℕ) (stood : Stood g list ends places made) where
   -- a scan makes none

@@ -22,9 +22,9 @@ use Rattle.rows.specs.Row.{unpacked, rowOf, stateOf}
 use Rattle.recognizer.specs.Steps.{Stands, Goes}
 use Rattle.recognizer.specs.Traces.{Runs}
 use Rattle.recognizer.proofs.Steps.{row-head}
-use Rattle.derivation.specs.Places.{sister}
+use Rattle.trees.specs.Places.{sister}
 use Rattle.derivation.specs.TreeRun.{NamesGiven, Stood, Ready, Named, RunSays, TreeRun}
-use Rattle.derivation.proofs.Places.{node-label}
+use Rattle.trees.proofs.Places.{node-label}
 use Rattle.derivation.proofs.Arity.{step-made}
 use Rattle.derivation.proofs.Names.{named-scan, sister-inside, stood-more, named-more}
 use Rattle.derivation.proofs.TreeRun.{run-ended, run-words-left, run-empty, run-halted, run-long, run-further}

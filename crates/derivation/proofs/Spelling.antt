@@ -28,7 +28,7 @@ use Rattle.model.proofs.Demands.{belongs, trace-only}
 use Rattle.model.proofs.RowsAgree.{rows-agree}
 use Rattle.rows.specs.Row.{rowOf, stateOf}
 use Rattle.recognizer.proofs.Checked.{begins, trace-by-rows}
-use Rattle.derivation.specs.Places.{Ended}
+use Rattle.trees.specs.Places.{Ended}
 use Rattle.derivation.specs.TreeRun.{Traced, Stood, RunSays, TreeRun, Spelled}
 
 -- steps by the rules of the nodes that lead to the end are the trace that belongs to the trees

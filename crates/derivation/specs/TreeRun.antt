@@ -21,7 +21,7 @@ use Rattle.model.specs.Rows.{RowState, traceFromRow, stepsRefusalRow}
 use Rattle.rows.specs.Row.{stateOf, Held}
 use Rattle.rows.specs.Table.{Compiled}
 use Rattle.recognizer.specs.Traces.{Runs}
-use Rattle.derivation.specs.Places.{Ended, sister}
+use Rattle.trees.specs.Places.{Ended, sister}
 
 -- d predictions from number `made` on are named by the places of the daughters of the node at place i
 pub record NamesGiven (table : List ℕ) (i made d : ℕ) (before after : List ℕ) : Type 0 where

@@ -9,9 +9,8 @@ ghost use Rattle.model.specs.Conversions.{traceOf};
 ghost use Rattle.model.specs.GrammarFile.{grammarRefusal, grammarOf};
 ghost use Rattle.model.specs.Tree.{nodesRefusal, treeRefusal};
 ghost use Rattle.model.specs.Verdict.{verdict};
-ghost use Rattle.derivation.specs.Places.{Ended};
+ghost use Rattle.trees.specs.Places.{Ended};
 ghost use Rattle.derivation.specs.TreeRun.{Spelled, TreeSays, beforeInput};
-use crate::reader::read_tree;
 use crate::run::run_tree;
 use buffers::room_refusal;
 use buffers::write_front;
@@ -22,6 +21,7 @@ use reader::read_grammar;
 use recognizer::sentence_refusal;
 use rows::row::first_row;
 use rows::rules::compile;
+use trees::read_tree;
 
 // Whether the yield of the tree is the sentence, for a list that passes the tests of its nodes; then its trace is stored. A tree's trace reads the words
 // of its yield in their order, so no yield is computed.

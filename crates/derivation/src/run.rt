@@ -4,7 +4,7 @@ ghost use Prim.Native.Nat.{ℕ, _+_, _<_, _≤_};
 ghost use lib.ListN.{length, getD, drop};
 ghost use Rattle.model.specs.GrammarFile.{grammarOf};
 ghost use Rattle.rows.specs.Row.{unpacked, stateOf};
-ghost use Rattle.derivation.specs.Places.{sister};
+ghost use Rattle.trees.specs.Places.{sister};
 ghost use Rattle.derivation.specs.TreeRun.{NamesGiven, Ready, TreeRun};
 use model::RuleNumber;
 use recognizer::step::Stepped;

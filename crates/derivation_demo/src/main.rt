@@ -19,7 +19,7 @@ fn trace_of(file: &[u8], sentence: &[u16], tree: &[u16]) {
 // The tree that belongs to a trace.
 fn tree_of(file: &[u8], sentence: &[u16], trace: &[u16]) {
     let mut out = [0u16; 96];
-    let v = derivation::trace_to_tree(file, sentence, trace, &mut out);
+    let v = unfold::trace_to_tree(file, sentence, trace, &mut out);
     print_written(v, &out);
 }
 

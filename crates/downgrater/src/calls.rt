@@ -9,11 +9,11 @@ use crate::packing::verdict_bits;
 use analyses::count;
 use analyses::entry;
 use derivation::check_tree;
-use derivation::trace_to_tree;
 use derivation::tree_to_trace;
 use reader::read_grammar;
 use recognizer::check_trace;
 use survey::survey;
+use unfold::trace_to_tree;
 use writer::write_grammar;
 
 // The reader: the number of rules.

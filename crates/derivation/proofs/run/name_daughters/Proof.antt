@@ -4,7 +4,7 @@ use mathlib.Core.Path.{_≡_, subst, _∙_}
 use Prim.Native.Nat.{ℕ, _≤_, _-_}
 use native.Mathlib.Omega.{arith}
 use native.Mathlib.Numerals.{add-one}
-use Rattle.derivation.specs.Places.{sister}
+use Rattle.trees.specs.Places.{sister}
 use Rattle.derivation.specs.TreeRun.{NamesGiven}
 use Rattle.derivation.proofs.Names.{given-none, given-more, sister-next}
 use borrow.Author.Needs.{needs}
