@@ -20,6 +20,7 @@ use Rattle.recognizer.proofs.Checked as checked
 use Rattle.search.specs.Chain.{Chained}
 use Rattle.search.specs.Tally.{effortBelow, Searched}
 use Rattle.search.specs.Search.{standing, Ready, SearchedAt}
+use Rattle.search.proofs.Standing.{start-stood}
 use Rattle.search.proofs.Searches.{searched-as}
 
 module _ (file : List ℕ) (accepted : grammarRefusal file ≡ none) (sentence table chain q : List ℕ) (a n : ℕ)
@@ -43,15 +44,8 @@ module _ (file : List ℕ) (accepted : grammarRefusal file ≡ none) (sentence t
         → Ready file table chain sentence 0 q 0 1 1 1 n sheet
     start-ready compiled chained held long bounded =
         record {
-          accepted = accepted;
-          compiled = compiled;
-          chained = chained;
-          held = held;
-          known = omega arith;
-          reached = subst (Reached g) (sym begins) (reached-begin g (accepted-right file accepted) sentence);
-          fits = some;
+          stood = start-stood file accepted sentence table chain q a n start first some few compiled chained held;
           short = few;
-          numbered = omega arith;
           long = long;
           bounded = bounded;
         }

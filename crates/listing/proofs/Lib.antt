@@ -4,7 +4,6 @@ pub mod LookRules
 pub mod LookLoop
 pub mod LookTurns
 pub mod LookDesk
-pub mod LookBegin
 pub mod Following
 pub mod NextCall
 pub mod Streamed

@@ -19,8 +19,9 @@ use Rattle.model.proofs.RowsBounds.{file-row}
 use Rattle.model.proofs.WellFormed.{rules-length}
 use Rattle.rows.specs.Row.{unpacked, rowOf}
 use Rattle.search.specs.Chain.{isBy, isOf, firstRule}
-use Rattle.search.specs.Search.{standing, under, upTo, Fronted, done}
-use Rattle.listing.specs.Look.{endsRow, Found, nothing, found, over, goesOn, firstComplete, passes, boundAt, beyond, Holds, OnDesk, Looked, LookedUnder, LookedRules, LookedTo, Stood}
+use Rattle.search.specs.Search.{standing, Stood, under, upTo, Fronted, done}
+use Rattle.listing.specs.Look.{endsRow, Found, nothing, found, over, goesOn, firstComplete, passes, boundAt, beyond, Holds, OnDesk, Looked, LookedUnder, LookedRules, LookedTo}
+use Rattle.search.proofs.Standing as st
 use Rattle.search.proofs.Rules.{upTo-next, upTo-split, other-rule, first-later, done-here, done-all, skipped, here-found}
 use Rattle.model.proofs.Tests.{not-both}
 use Rattle.listing.proofs.Looks.{looked-none, looked-as, looked-joined, looked-stopped}
@@ -50,17 +51,7 @@ module _ (file table chain sentence : List ℕ) (read : ℕ) (q : List ℕ) (fro
   test = endsRow g S
 
   rules-few : R ≤ 256
-  rules-few = omega (arith, rules-length file, rules-in file (stood .accepted) .1)
-
-  -- a row with predictions has a head
-  pub row-some : from < to
-  row-some = omega (arith, file-row file (stood .accepted) S (stood .reached) .1, row-length, stood .held .ordered, stood .held .within, stood .held .long)
-    where
-      row-length : length (rowOf q from to) ≡ to - from
-      row-length = length-map (slice from to q) unpacked ∙ length-slice from to q (omega (arith, stood .held .within, stood .held .long))
-
-  pub head : rowOf q from to ≡ unpacked (getD q from 0) ∷ rowOf q (suc from) to
-  head = ap (map unpacked) (slice-cons from to q 0 row-some (omega (arith, stood .held .long, stood .held .within)))
+  rules-few = st.rules-few file table chain sentence read q from to pending made left stood
 
   module _ (k : ℕ) (desk₀ path₀ : List ℕ) (on : OnDesk k desk₀ path₀) (strictly : getD desk₀ 2 0 ≡ 1 → k < getD desk₀ 1 0) where
     abbrev F : ℕ → List (List ℕ)
@@ -77,7 +68,7 @@ module _ (file table chain sentence : List ℕ) (read : ℕ) (q : List ℕ) (fro
     others : (i : ℕ) → isOf g a i ≡ false → F i ≡ []
     others i e =
         ap (keep (passes (boundAt desk₀ path₀ k)))
-        (other-rule g S (unpacked (getD q from 0)) (rowOf q (suc from) to) head i e (λ u. walkRow g (anyRow g) (left - 1) u) (left - 1))
+        (other-rule g S (unpacked (getD q from 0)) (rowOf q (suc from) to) (st.head file table chain sentence read q from to pending made left stood predicted) i e (λ u. walkRow g (anyRow g) (left - 1) u) (left - 1))
 
     came : (desk path : List ℕ) (m : ℕ) → m ≤ R → Looked test k desk₀ path₀ (upTo F m) true desk path → Way desk path (firstRule g a m (R - m))
         → At desk path (firstRule g a m (R - m))
@@ -90,20 +81,15 @@ module _ (file table chain sentence : List ℕ) (read : ℕ) (q : List ℕ) (fro
 
     pub came-first : (r : ℕ) → r ≡ getD chain a 0 → At desk₀ path₀ r
     came-first r e =
-        let n : R - 0 ≡ R = omega arith in
-        let f : firstRule g a 0 (R - 0) ≡ r = ap (firstRule g a 0) n ∙ sym (stood .chained .first a small) ∙ sym e in
-        subst (At desk₀ path₀) f (came desk₀ path₀ 0 (omega arith) (looked-none test k desk₀ path₀ on) (way (either k desk₀ path₀ on)))
+        subst (At desk₀ path₀) (st.chain-first file table chain sentence read q from to pending made left stood r e) (came desk₀ path₀ 0 (omega arith) (looked-none test k desk₀ path₀ on) (way (either k desk₀ path₀ on)))
       where
-        small : a < 64
-        small = omega arith
-
         way : (getD desk₀ 2 0 ≡ 0) ⊎ (getD desk₀ 2 0 ≡ 1) → Way desk₀ path₀ (firstRule g a 0 (R - 0))
         way (inl off) = inl (off, λ i h p. ap (λ (o : Option (List ℕ)). passes o (i ∷ p)) (bound-none k desk₀ path₀ off))
         way (inr w) = inr (refl, refl, w)
 
     module _ (desk path : List ℕ) (r : ℕ) (at : At desk path r) (below : r < 256) where
       pub fronted : Fronted file q from pending r
-      fronted = record { predicted = predicted; rule-is = omega (arith, at .rule-here below .0, rules-length file); of-front = at .rule-here below .1 }
+      fronted = st.fronted file table chain sentence read q from to pending made left stood r (at .rule-here below) predicted
 
       pub on-now : OnDesk k desk path
       on-now =
@@ -144,16 +130,11 @@ module _ (file table chain sentence : List ℕ) (read : ℕ) (q : List ℕ) (fro
           (looked-as test k desk path desk′ path′ (beyond desk path k (under g (anyRow g) (left - 1) S r)) (F r) go list-now (w .looked)))
 
       pub later : (r′ : ℕ) → r′ ≡ getD chain (64 + r) 0 → 256 - r′ < 256 - r
-      later r′ e =
-          let known = rule-read file r (omega (arith, at .rule-here below .0, rules-length file)) in
-          omega (arith, stood .chained .next r (ruleRead file r) known, first-later g (ruleRead file r .category) (suc r) (R - suc r) (omega (arith, at .rule-here below .0, rules-few)))
+      later r′ e = st.later file table chain sentence read q from to pending made left stood r (at .rule-here below) r′ e
 
       pub came-next : (desk′ path′ : List ℕ) (r′ : ℕ) → LookedUnder g left S k desk path r true desk′ path′ → r′ ≡ getD chain (64 + r) 0 → At desk′ path′ r′
       came-next desk′ path′ r′ w e =
-          let known = rule-read file r (omega (arith, at .rule-here below .0, rules-length file)) in
-          let c : ruleRead file r .category ≡ a = eqb-true (ruleRead file r .category) a (sym (ap (λ (o : Option Rule). isBy o a) known) ∙ at .rule-here below .1) in
-          let f : firstRule g a (suc r) (R - suc r) ≡ r′ = ap (λ (x : ℕ). firstRule g x (suc r) (R - suc r)) (sym c) ∙ sym (stood .chained .next r (ruleRead file r) known) ∙ sym e in
-          subst (At desk′ path′) f
+          subst (At desk′ path′) (st.chain-next file table chain sentence read q from to pending made left stood r (at .rule-here below) r′ e)
           (came desk′ path′ (suc r) (omega (arith, at .rule-here below .0)) (together true desk′ path′ w)
           (way (firstRule g a (suc r) (R - suc r)) (first-later g a (suc r) (R - suc r) (omega (arith, at .rule-here below .0, rules-few))) (w .way refl) (at .way)))
         where

@@ -20,12 +20,12 @@ use Rattle.model.proofs.RowsBounds.{reached-step, file-row}
 use Rattle.model.proofs.Search.{keep-append, keep-each, each-same}
 use Rattle.rows.specs.Row.{rowOf, Held}
 use Rattle.recognizer.specs.Steps.{Stands, Goes}
-use Rattle.search.specs.Search.{standing, under, upTo, tails}
-use Rattle.listing.specs.Look.{endsRow, passes, boundAt, beyond, OnDesk, Looked, LookedAt, LookedRules, LookedAfter, Stood, arrivedDesk, arrivedGoes}
+use Rattle.search.specs.Search.{standing, Stood, under, upTo, tails}
+use Rattle.listing.specs.Look.{endsRow, passes, boundAt, beyond, OnDesk, Looked, LookedAt, LookedRules, LookedAfter, arrivedDesk, arrivedGoes}
 use Rattle.listing.proofs.Looks.{looked-none, looked-as, looked-joined, looked-stopped, looked-under}
 use Rattle.listing.proofs.LookStates.{ends-after, arrived, goes-on}
 use Rattle.listing.proofs.LookRules.{under-same}
-use Rattle.listing.proofs.LookLoop.{head}
+use Rattle.search.proofs.Standing as st
 use Rattle.search.proofs.Walks.{walk-empty, tails-moves, tails-long, tails-halts}
 
 module _ (file table chain sentence : List ℕ) (read : ℕ) (q : List ℕ) (from to pending made left : ℕ)
@@ -45,11 +45,7 @@ module _ (file table chain sentence : List ℕ) (read : ℕ) (q : List ℕ) (fro
   -- a state without predictions
   module _ (nothing-left : pending ≡ 0) where
     row-none : rowOf q from to ≡ []
-    row-none = go (rowOf q from to) (omega (arith, file-row file (stood .accepted) S (stood .reached) .0))
-      where
-        go : (l : List Slot) → length l ≤ 0 → l ≡ []
-        go [] h = refl
-        go (x ∷ l) h = let z : ⊥ = omega arith in absurd z
+    row-none = st.row-none file table chain sentence read q from to pending made left stood nothing-left
 
     by-words : (ws : List ℕ) → drop read sentence ≡ ws → finishedRow S ≡ (elim ws [ [] ↦ true | w ∷ us ↦ false ])
     by-words ws e = ap₂ (λ (row : List Slot) (us : List ℕ). finishedRow (record { row = row; made = made; pending = pending; words = us })) row-none e ∙ go ws
@@ -64,11 +60,7 @@ module _ (file table chain sentence : List ℕ) (read : ℕ) (q : List ℕ) (fro
         go : Dec (length sentence ≡ read) → test [] ≡ eqb (length sentence) read
         go (yes e) = by-words [] (drop-of-length-le sentence {i = read} (omega arith)) ∙ sym (eq-eqb (length sentence) read e)
         go (no e) =
-            by-words (getD sentence read 0 ∷ drop (suc read) sentence) (drop-cons sentence read 0 (less (decLt read (length sentence)))) ∙ sym (ne-eqb (length sentence) read e)
-          where
-            less : Dec (read < length sentence) → read < length sentence
-            less (yes h) = h
-            less (no h) = absurd (e (omega (arith, stood .known)))
+            by-words (getD sentence read 0 ∷ drop (suc read) sentence) (drop-cons sentence read 0 (st.word-left file table chain sentence read q from to pending made left stood e)) ∙ sym (ne-eqb (length sentence) read e)
 
     pub at-end : (complete : Bool) → complete ≡ eqb (length sentence) read → (go : Bool) (desk′ : List ℕ) → go ≡ arrivedGoes k complete desk → desk′ ≡ arrivedDesk k complete desk
         → LookedAt g left S k desk path go desk′ path
@@ -83,7 +75,7 @@ module _ (file table chain sentence : List ℕ) (read : ℕ) (q : List ℕ) (fro
   module _ (predicted : 1 ≤ pending) where
     not-finished : test [] ≡ false
     not-finished =
-        ap (λ (row : List Slot). finishedRow (record { row = row; made = made; pending = pending; words = drop read sentence })) (head file table chain sentence read q from to pending made left stood predicted)
+        ap (λ (row : List Slot). finishedRow (record { row = row; made = made; pending = pending; words = drop read sentence })) (st.head file table chain sentence read q from to pending made left stood predicted)
 
     pub next-on : (desk′ : List ℕ) → desk′ ≡ arrivedDesk k false desk → OnDesk k desk′ path
     next-on desk′ e = subst (λ (d : List ℕ). OnDesk k d path) (sym e) (goes-on k desk path on .on-desk)
@@ -129,15 +121,6 @@ module _ (file table chain sentence : List ℕ) (read : ℕ) (q : List ℕ) (fro
       abbrev rest : List (List ℕ)
       rest = tails g (anyRow g) (left - 1) S r
 
-      pub stands : Stands g S (left - 1)
-      stands =
-          record {
-            reached = stood .reached;
-            numbered = omega (arith, stood .numbered, stood .fits);
-            short = omega (arith, stood .fits);
-            few = omega (arith, stood .fits);
-          }
-
       pub on-there : OnDesk (k + 1) desk path
       on-there =
           record {
@@ -168,18 +151,3 @@ module _ (file table chain sentence : List ℕ) (read : ℕ) (q : List ℕ) (fro
             (ap (λ (l : List (List ℕ)). map (λ p. r ∷ p) (beyond desk path (suc k) l)) (sym e))
             (looked-under test (endsRow g u) k r (ends-after g S u r (goes .leads-to)) desk path at (beyond desk path (suc k) (liveFromRow g (left - 1) u)) go desk′ path′
             (subst (λ (j : ℕ). LookedAt g (left - 1) u j desk path go desk′ path′) (add-one k) w))
-
-      pub stood-there : (read′ : ℕ) (q′ : List ℕ) (from′ to′ pending′ made′ : ℕ) → Goes (stepRow g S r) (standing sentence read′ q′ from′ to′ pending′ made′) (left - 1) from to
-          → Held q′ from′ to′ → read′ ≤ length sentence → made′ + pending ≤ made + pending′ + 1
-          → Stood file table chain sentence read′ q′ from′ to′ pending′ made′ (left - 1)
-      stood-there read′ q′ from′ to′ pending′ made′ goes held known numbered =
-          record {
-            accepted = stood .accepted;
-            compiled = stood .compiled;
-            chained = stood .chained;
-            held = held;
-            known = known;
-            reached = reached-step g (accepted-right file (stood .accepted)) S (standing sentence read′ q′ from′ to′ pending′ made′) r (stood .reached) (goes .leads-to);
-            fits = goes .short;
-            numbered = omega (arith, numbered, stood .numbered, stood .fits);
-          }

@@ -102,18 +102,6 @@ pub record LookedUnder (g : Grammar) (left : ℕ) (t : RowState) (k : ℕ) (desk
   pub way : go ≡ true
       → ((getD desk′ 2 0 ≡ 0) × (getD desk 2 0 ≡ 1 → getD path k 0 ≤ r)) ⊎ ((desk′ ≡ desk) × (path′ ≡ path) × (getD desk 2 0 ≡ 1))
 
--- where the search stands: the tables are those of an accepted file; steps reach the state; its queue is no longer than the steps left; and the numbers of
--- predictions stay below what a slot holds
-pub record Stood (file table chain sentence : List ℕ) (read : ℕ) (q : List ℕ) (from to pending made left : ℕ) : Type 0 where
-  pub accepted : grammarRefusal file ≡ none
-  pub compiled : Compiled (grammarOf file) table
-  pub chained : Chained (grammarOf file) chain
-  pub held : Held q from to
-  pub known : read ≤ length sentence
-  pub reached : Reached (grammarOf file) (standing sentence read q from to pending made)
-  pub fits : pending ≤ left
-  pub numbered : made + left ≤ 96 + pending
-
 -- what the loop over the rules of category a has done when it comes to rule r
 pub record LookedTo (g : Grammar) (left : ℕ) (t : RowState) (a k : ℕ) (desk₀ path₀ desk path : List ℕ) (r : ℕ) : Type 0 where
   pub so-far : Looked (endsRow g t) k desk₀ path₀ (upTo (λ i. beyond desk₀ path₀ k (under g (anyRow g) (left - 1) t i)) (done (length (g .rules)) r)) true desk path

@@ -20,11 +20,8 @@ use Rattle.search.specs.Tally.{effortBelow, Searched, spentOne, complete
 use Rattle.search.specs.Search.{standing, Ready, SearchedAt, under, upTo, SearchedRules}
 use Rattle.search.proofs.Searches.{searched-as, searched-joined, searched-spent, searched-complete}
 use Rattle.search.proofs.Walks.{walk-empty, walk-length}
-use Rattle.search.proofs.Turns.{row-some}
-
-pub not-none : (n : ℕ) → (n ≡ 0 → ⊥) → 1 ≤ n
-not-none zero h = absurd (h refl)
-not-none (suc n) h = omega arith
+use Rattle.search.proofs.Standing.{not-none}
+use Rattle.search.proofs.Standing as st
 
 module _ (file table chain sentence : List ℕ) (read : ℕ) (q : List ℕ) (from to pending made fuel : ℕ) (sheet : List ℕ)
     (ready : Ready file table chain sentence read q from to pending made fuel sheet) where
@@ -36,19 +33,6 @@ module _ (file table chain sentence : List ℕ) (read : ℕ) (q : List ℕ) (fro
 
   abbrev R : ℕ
   R = length (g .rules)
-
-  rules-few : R ≤ 256
-  rules-few = omega (arith, rules-length file, rules-in file (ready .accepted) .1)
-
-  slots : length (rowOf q from to) ≡ to - from
-  slots = length-map (slice from to q) unpacked ∙ length-slice from to q (omega (arith, ready .held .within, ready .held .long))
-
-  -- the row is empty where nothing is predicted, and nowhere else
-  pub none-left : from ≡ to → pending ≡ 0
-  none-left e = omega (arith, file-row file (ready .accepted) S (ready .reached) .1, slots)
-
-  pub some-left : (from ≡ to → ⊥) → 1 ≤ pending
-  some-left n = not-none pending (λ z. n (omega (arith, file-row file (ready .accepted) S (ready .reached) .0, slots, ready .held .ordered)))
 
   -- every state has a live prefix: the empty one
   effort-some : (n : ℕ) → 1 ≤ effortBelow g n S
@@ -75,15 +59,8 @@ module _ (file table chain sentence : List ℕ) (read : ℕ) (q : List ℕ) (fro
     spent = searched-spent sheet (96 - fuel) (omega (arith, ready .long)) some-budget
 
     module _ (nothing-left : pending ≡ 0) where
-      row-length : length (rowOf q from to) ≡ to - from
-      row-length = length-map (slice from to q) unpacked ∙ length-slice from to q (omega (arith, ready .held .within, ready .held .long))
-
       row-none : rowOf q from to ≡ []
-      row-none = go (rowOf q from to) (omega (arith, file-row file (ready .accepted) S (ready .reached) .0))
-        where
-          go : (l : List Slot) → length l ≤ 0 → l ≡ []
-          go [] h = refl
-          go (x ∷ l) h = let z : ⊥ = omega arith in absurd z
+      row-none = st.row-none file table chain sentence read q from to pending made fuel (ready .stood) nothing-left
 
       effort-one : 1 ≡ effortBelow g fuel S
       effort-one = ap length (sym (walk-empty g (anyRow g) fuel S row-none))
@@ -107,25 +84,17 @@ module _ (file table chain sentence : List ℕ) (read : ℕ) (q : List ℕ) (fro
 
       pub words-left : (length sentence ≡ read → ⊥) → SearchedAt g fuel S sheet true (spentOne sheet)
       words-left n =
-          let h : read < length sentence = go (ready .known) n in
+          let h = st.word-left file table chain sentence read q from to pending made fuel (ready .stood) n in
           searched-as sheet (spentOne sheet) [] (foundFromRow g fuel S) 1 (effortBelow g fuel S) (96 - fuel) true
           (found-is (getD sentence read 0 ∷ drop (suc read) sentence) (drop-cons sentence read 0 h)) effort-one spent
-        where
-          go : read ≤ length sentence → (length sentence ≡ read → ⊥) → read < length sentence
-          go h n = by (decLt read (length sentence))
-            where
-              by : Dec (read < length sentence) → read < length sentence
-              by (yes k) = k
-              by (no k) = absurd (n (omega arith))
 
     -- a state with predictions: what is below all its rules
     module _ (predicted : 1 ≤ pending) where
       fuel-more : fuel ≡ suc (fuel - 1)
-      fuel-more = omega (arith, ready .fits)
+      fuel-more = omega (arith, ready .stood .fits)
 
       head : rowOf q from to ≡ unpacked (getD q from 0) ∷ rowOf q (suc from) to
-      head =
-          ap (map unpacked) (slice-cons from to q 0 (row-some file table chain sentence read q from to pending made fuel sheet ready predicted) (omega (arith, ready .held .long, ready .held .within)))
+      head = st.head file table chain sentence read q from to pending made fuel (ready .stood) predicted
 
       whole-effort : 1 + length (upTo (under g (anyRow g) (fuel - 1) S) R) ≡ effortBelow g fuel S
       whole-effort = sym (ap (λ (n : ℕ). effortBelow g n S) fuel-more ∙ walk-length g (anyRow g) (fuel - 1) S)
@@ -140,15 +109,8 @@ module _ (file table chain sentence : List ℕ) (read : ℕ) (q : List ℕ) (fro
       pub rules-ready : Ready file table chain sentence read q from to pending made fuel (spentOne sheet)
       rules-ready =
           record {
-            accepted = ready .accepted;
-            compiled = ready .compiled;
-            chained = ready .chained;
-            held = ready .held;
-            known = ready .known;
-            reached = ready .reached;
-            fits = ready .fits;
+            stood = ready .stood;
             short = ready .short;
-            numbered = ready .numbered;
             long = spent .long ∙ ready .long;
             bounded = omega (arith, spent .counted refl, spent .spent refl, ready .bounded);
           }

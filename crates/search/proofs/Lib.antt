@@ -4,6 +4,7 @@ pub mod Walks
 pub mod Kept
 pub mod Searches
 pub mod Scans
+pub mod Standing
 pub mod Turns
 pub mod AtState
 pub mod Loop

@@ -23,7 +23,7 @@ use Rattle.search.specs.Search.{standing, Ready, under, upTo, SearchedUn
 use Rattle.search.proofs.Rules.{upTo-next, upTo-more, other-rule, first-later, done-here, done-all, skipped, here-found}
 use Rattle.search.proofs.Searches.{found-none, searched-as, searched-joined}
 use Rattle.search.proofs.Walks.{each-few, count-few}
-use Rattle.search.proofs.Turns.{row-some}
+use Rattle.search.proofs.Standing as st
 
 module _ (file table chain sentence : List ℕ) (read : ℕ) (q : List ℕ) (from to pending made fuel : ℕ) (sheet : List ℕ)
     (ready : Ready file table chain sentence read q from to pending made fuel sheet) (predicted : 1 ≤ pending) where
@@ -37,7 +37,7 @@ module _ (file table chain sentence : List ℕ) (read : ℕ) (q : List ℕ) (fro
   R = length (g .rules)
 
   rules-few : R ≤ 256
-  rules-few = omega (arith, rules-length file, rules-in file (ready .accepted) .1)
+  rules-few = st.rules-few file table chain sentence read q from to pending made fuel (ready .stood)
 
   abbrev a : ℕ
   a = unpacked (getD q from 0) .category
@@ -48,15 +48,11 @@ module _ (file table chain sentence : List ℕ) (read : ℕ) (q : List ℕ) (fro
   abbrev live : ℕ → List (List ℕ)
   live r = under g (anyRow g) (fuel - 1) S r
 
-  head : rowOf q from to ≡ unpacked (getD q from 0) ∷ rowOf q (suc from) to
-  head =
-      ap (map unpacked) (slice-cons from to q 0 (row-some file table chain sentence read q from to pending made fuel sheet ready predicted) (omega (arith, ready .held .long, ready .held .within)))
-
   abbrev At : List ℕ → ℕ → Type 0
   At now r = CameTo g fuel S a sheet now r
 
   others : (leaf : RowState → List (List ℕ)) (i : ℕ) → isOf g a i ≡ false → under g leaf (fuel - 1) S i ≡ []
-  others leaf i e = other-rule g S (unpacked (getD q from 0)) (rowOf q (suc from) to) head i e (λ u. walkRow g leaf (fuel - 1) u) (fuel - 1)
+  others leaf i e = other-rule g S (unpacked (getD q from 0)) (rowOf q (suc from) to) (st.head file table chain sentence read q from to pending made fuel (ready .stood) predicted) i e (λ u. walkRow g leaf (fuel - 1) u) (fuel - 1)
 
   came : (now : List ℕ) (k : ℕ) → k ≤ R → Searched sheet (upTo found k) (length (upTo live k)) (96 - fuel) true now → At now (firstRule g a k (R - k))
   came now k h w =
@@ -67,31 +63,18 @@ module _ (file table chain sentence : List ℕ) (read : ℕ) (q : List ℕ) (fro
       }
 
   pub came-first : (r : ℕ) → r ≡ getD chain a 0 → At sheet r
-  came-first r e =
-      let n : R - 0 ≡ R = omega arith in
-      let f : firstRule g a 0 (R - 0) ≡ r = ap (firstRule g a 0) n ∙ sym (ready .chained .first a small) ∙ sym e in
-      subst (At sheet) f (came sheet 0 (omega arith) (found-none sheet (96 - fuel)))
-    where
-      small : a < 64
-      small = omega arith
+  came-first r e = subst (At sheet) (st.chain-first file table chain sentence read q from to pending made fuel (ready .stood) r e) (came sheet 0 (omega arith) (found-none sheet (96 - fuel)))
 
   module _ (now : List ℕ) (r : ℕ) (at : At now r) (below : r < 256) where
     pub fronted : Fronted file q from pending r
-    fronted = record { predicted = predicted; rule-is = omega (arith, at .rule-here below .0, rules-length file); of-front = at .rule-here below .1 }
+    fronted = st.fronted file table chain sentence read q from to pending made fuel (ready .stood) r (at .rule-here below) predicted
 
     -- count and budget together do not grow
     pub ready-now : Ready file table chain sentence read q from to pending made fuel now
     ready-now =
         record {
-          accepted = ready .accepted;
-          compiled = ready .compiled;
-          chained = ready .chained;
-          held = ready .held;
-          known = ready .known;
-          reached = ready .reached;
-          fits = ready .fits;
+          stood = ready .stood;
           short = ready .short;
-          numbered = ready .numbered;
           long = at .so-far .long ∙ ready .long;
           bounded = omega (arith, at .so-far .counted refl, at .so-far .spent refl, ready .bounded, each-few g (fuel - 1) (count-few g (fuel - 1)) S (numbersFrom 0 (done R r)));
         }
@@ -112,15 +95,10 @@ module _ (file table chain sentence : List ℕ) (read : ℕ) (q : List ℕ) (fro
 
     pub came-next : (after : List ℕ) (r′ : ℕ) → SearchedUnder g fuel S r now true after → r′ ≡ getD chain (64 + r) 0 → At after r′
     came-next after r′ w e =
-        let known = rule-read file r (omega (arith, at .rule-here below .0, rules-length file)) in
-        let c : ruleRead file r .category ≡ a = eqb-true (ruleRead file r .category) a (sym (ap (λ (o : Option Rule). isBy o a) known) ∙ at .rule-here below .1) in
-        let f : firstRule g a (suc r) (R - suc r) ≡ r′ = ap (λ (x : ℕ). firstRule g x (suc r) (R - suc r)) (sym c) ∙ sym (ready .chained .next r (ruleRead file r) known) ∙ sym e in
-        subst (At after) f (came after (suc r) (omega (arith, at .rule-here below .0)) (together true after w))
+        subst (At after) (st.chain-next file table chain sentence read q from to pending made fuel (ready .stood) r (at .rule-here below) r′ e) (came after (suc r) (omega (arith, at .rule-here below .0)) (together true after w))
 
     pub later : (r′ : ℕ) → r′ ≡ getD chain (64 + r) 0 → 256 - r′ < 256 - r
-    later r′ e =
-        let known = rule-read file r (omega (arith, at .rule-here below .0, rules-length file)) in
-        omega (arith, ready .chained .next r (ruleRead file r) known, first-later g (ruleRead file r .category) (suc r) (R - suc r) (omega (arith, at .rule-here below .0, rules-few)))
+    later r′ e = st.later file table chain sentence read q from to pending made fuel (ready .stood) r (at .rule-here below) r′ e
 
     pub over-budget : (after : List ℕ) → SearchedUnder g fuel S r now false after → SearchedRules g fuel S sheet false after
     over-budget after w =

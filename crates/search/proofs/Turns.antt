@@ -23,6 +23,7 @@ use Rattle.recognizer.proofs.Steps.{cells-fit, scans, too-long, room, expands}
 use Rattle.search.specs.Chain.{isBy}
 use Rattle.search.specs.Tally.{Searched, noted}
 use Rattle.search.specs.Search.{standing, Ready, SearchedAt, tails, under, SearchedTails, SearchedUnder, Fronted}
+use Rattle.search.proofs.Standing as st
 use Rattle.search.proofs.Scans.{scan-empty, scan-none, scan-fits, scan-other}
 use Rattle.search.proofs.Searches.{found-none, searched-as, searched-under}
 use Rattle.search.proofs.Walks.{under-tails, tails-moves, tails-long, tails-halts}
@@ -35,44 +36,30 @@ module _ (file table chain sentence : List ℕ) (read : ℕ) (q : List ℕ) (fro
   abbrev S : RowState
   S = standing sentence read q from to pending made
 
-  -- a row with predictions has a head
-  pub row-some : 1 ≤ pending → from < to
-  row-some h = omega (arith, file-row file (ready .accepted) S (ready .reached) .1, row-length, ready .held .ordered, ready .held .within, ready .held .long)
-    where
-      row-length : length (rowOf q from to) ≡ to - from
-      row-length = length-map (slice from to q) unpacked ∙ length-slice from to q (omega (arith, ready .held .within, ready .held .long))
-
   module _ (r : ℕ) (fronted : Fronted file q from pending r) where
     stands : Stands g S (fuel - 1)
-    stands =
-        record {
-          reached = ready .reached;
-          numbered = omega (arith, ready .numbered, ready .fits);
-          short = omega (arith, ready .fits);
-          few = omega (arith, ready .short, ready .fits, fronted .predicted);
-        }
+    stands = st.stands file table chain sentence read q from to pending made fuel (ready .stood) (fronted .predicted) (ready .short)
 
     pub rule-small : r < 256
-    rule-small = omega (arith, fronted .rule-is, rules-in file (ready .accepted) .1)
+    rule-small = omega (arith, fronted .rule-is, rules-in file (ready .stood .accepted) .1)
 
     pub head-here : from < to
-    head-here = row-some (fronted .predicted)
+    head-here = st.row-some file table chain sentence read q from to pending made fuel (ready .stood) (fronted .predicted)
 
     pub fit : CellsFit table (32 * r)
-    fit = cells-fit file table q from to made pending (fuel - 1) r (drop read sentence) (ready .accepted) (ready .compiled) (ready .held) stands (fronted .rule-is)
+    fit = cells-fit file table q from to made pending (fuel - 1) r (drop read sentence) (ready .stood .accepted) (ready .stood .compiled) (ready .stood .held) stands (fronted .rule-is)
 
     -- the rule is of the head's category
     of-category : getD table (32 * r + 7) 0 ≡ getD q from 0 / 4 % 64
     of-category =
-        let known = rule-read file r (fronted .rule-is) in
-        ready .compiled r (ruleRead file r) known .category
-        ∙ eqb-true (ruleRead file r .category) (getD q from 0 / 4 % 64) (sym (ap (λ (o : Option Rule). isBy o (getD q from 0 / 4 % 64)) known) ∙ fronted .of-front)
+        ready .stood .compiled r (ruleRead file r) (rule-read file r (fronted .rule-is)) .category
+        ∙ st.of-head file table chain sentence read q from to pending made fuel (ready .stood) r (fronted .rule-is) (fronted .of-front)
 
     -- a step that goes: the search from where it leads
     pub moved : (t : RowState) → stepRow g S r ≡ moves t → t .pending ≤ fuel - 1 → (b : Bool) (after : List ℕ) → SearchedAt g (fuel - 1) t sheet b after
         → SearchedTails g fuel S r sheet b after
     moved t e h b after w =
-        let p : 96 - (fuel - 1) ≡ 97 - fuel = omega (arith, ready .short, ready .fits, fronted .predicted) in
+        let p : 96 - (fuel - 1) ≡ 97 - fuel = omega (arith, ready .short, ready .stood .fits, fronted .predicted) in
         subst (λ (k : ℕ). Searched sheet (tails g (endRow g) (fuel - 1) S r) (length (tails g (anyRow g) (fuel - 1) S r)) k b after) p
         (searched-as sheet after (walkRow g (endRow g) (fuel - 1) t) (tails g (endRow g) (fuel - 1) S r) (length (walkRow g (anyRow g) (fuel - 1) t)) (length (tails g (anyRow g) (fuel - 1) S r))
         (96 - (fuel - 1)) b (sym (tails-moves g (endRow g) (fuel - 1) S t r e h)) (ap length (sym (tails-moves g (anyRow g) (fuel - 1) S t r e h))) w)
@@ -91,15 +78,8 @@ module _ (file table chain sentence : List ℕ) (read : ℕ) (q : List ℕ) (fro
         → Ready file table chain sentence read′ q′ from′ to′ pending′ made′ (fuel - 1) sheet
     ready-there read′ q′ from′ to′ pending′ made′ e held known short numbered =
         record {
-          accepted = ready .accepted;
-          compiled = ready .compiled;
-          chained = ready .chained;
-          held = held;
-          known = known;
-          reached = reached-step g (accepted-right file (ready .accepted)) S (standing sentence read′ q′ from′ to′ pending′ made′) r (ready .reached) e;
-          fits = short;
+          stood = st.stood-there file table chain sentence read q from to pending made fuel (ready .stood) r read′ q′ from′ to′ pending′ made′ e held known (fronted .predicted) short numbered;
           short = omega (arith, ready .short);
-          numbered = omega (arith, numbered, ready .numbered, ready .fits, fronted .predicted);
           long = ready .long;
           bounded = ready .bounded;
         }
@@ -110,20 +90,20 @@ module _ (file table chain sentence : List ℕ) (read : ℕ) (q : List ℕ) (fro
       w = getD table (32 * r + 1) 0
 
       step-is : stepRow g S r ≡ scanRow w (rowOf q (from + 1) to) made (pending - 1) (drop read sentence)
-      step-is = scans file table q from to made pending (fuel - 1) r (drop read sentence) (ready .accepted) (ready .compiled) (ready .held) stands (fronted .rule-is) head-here of-category no-daughters
+      step-is = scans file table q from to made pending (fuel - 1) r (drop read sentence) (ready .stood .accepted) (ready .stood .compiled) (ready .stood .held) stands (fronted .rule-is) head-here of-category no-daughters
 
       held-next : Held q (from + 1) to
-      held-next = record { long = ready .held .long; ordered = omega (arith, head-here); within = ready .held .within }
+      held-next = record { long = ready .stood .held .long; ordered = omega (arith, head-here); within = ready .stood .held .within }
 
       empty-step : w ≡ 65535 → stepRow g S r ≡ moves (standing sentence read q (from + 1) to (pending - 1) made)
       empty-step e = step-is ∙ scan-empty w (rowOf q (from + 1) to) made (pending - 1) sentence read e
 
       pub empty-ready : w ≡ 65535 → Ready file table chain sentence read q (from + 1) to (pending - 1) made (fuel - 1) sheet
-      empty-ready e = ready-there read q (from + 1) to (pending - 1) made (empty-step e) held-next (ready .known) (omega (arith, ready .fits)) (omega (arith, fronted .predicted))
+      empty-ready e = ready-there read q (from + 1) to (pending - 1) made (empty-step e) held-next (ready .stood .known) (omega (arith, ready .stood .fits)) (omega (arith, fronted .predicted))
 
       pub empty-word : w ≡ 65535 → (b : Bool) (after : List ℕ) → SearchedAt g (fuel - 1) (standing sentence read q (from + 1) to (pending - 1) made) sheet b after
           → SearchedTails g fuel S r sheet b after
-      empty-word e b after h = moved (standing sentence read q (from + 1) to (pending - 1) made) (empty-step e) (omega (arith, ready .fits)) b after h
+      empty-word e b after h = moved (standing sentence read q (from + 1) to (pending - 1) made) (empty-step e) (omega (arith, ready .stood .fits)) b after h
 
       pub no-words : (w ≡ 65535 → ⊥) → length sentence ≤ read → SearchedTails g fuel S r sheet true sheet
       no-words n h = halted 16 (step-is ∙ scan-none w (rowOf q (from + 1) to) made (pending - 1) sentence read n h)
@@ -133,11 +113,11 @@ module _ (file table chain sentence : List ℕ) (read : ℕ) (q : List ℕ) (fro
         word-step e = step-is ∙ scan-fits w (rowOf q (from + 1) to) made (pending - 1) sentence read not-empty more e
 
         pub word-ready : wordFits w (getD sentence read 0) ≡ true → Ready file table chain sentence (read + 1) q (from + 1) to (pending - 1) made (fuel - 1) sheet
-        word-ready e = ready-there (read + 1) q (from + 1) to (pending - 1) made (word-step e) held-next (omega arith) (omega (arith, ready .fits)) (omega (arith, fronted .predicted))
+        word-ready e = ready-there (read + 1) q (from + 1) to (pending - 1) made (word-step e) held-next (omega arith) (omega (arith, ready .stood .fits)) (omega (arith, fronted .predicted))
 
         pub next-word : wordFits w (getD sentence read 0) ≡ true → (b : Bool) (after : List ℕ)
             → SearchedAt g (fuel - 1) (standing sentence (read + 1) q (from + 1) to (pending - 1) made) sheet b after → SearchedTails g fuel S r sheet b after
-        next-word e b after h = moved (standing sentence (read + 1) q (from + 1) to (pending - 1) made) (word-step e) (omega (arith, ready .fits)) b after h
+        next-word e b after h = moved (standing sentence (read + 1) q (from + 1) to (pending - 1) made) (word-step e) (omega (arith, ready .stood .fits)) b after h
 
         pub other-word : wordFits w (getD sentence read 0) ≡ false → SearchedTails g fuel S r sheet true sheet
         other-word e = halted 16 (step-is ∙ scan-other w (rowOf q (from + 1) to) made (pending - 1) sentence read not-empty more e)
@@ -149,8 +129,8 @@ module _ (file table chain sentence : List ℕ) (read : ℕ) (q : List ℕ) (fro
 
       pub queue-long : fuel < pending + d → SearchedTails g fuel S r sheet true sheet
       queue-long h =
-          let x = too-long file table q from to made pending (fuel - 1) r (drop read sentence) (ready .accepted) (ready .compiled) (ready .held) stands (fronted .rule-is) head-here of-category some-daughters
-          (omega (arith, fronted .predicted, ready .fits)) in
+          let x = too-long file table q from to made pending (fuel - 1) r (drop read sentence) (ready .stood .accepted) (ready .stood .compiled) (ready .stood .held) stands (fronted .rule-is) head-here of-category some-daughters
+          (omega (arith, fronted .predicted, ready .stood .fits)) in
           nothing-below (tails-long g (endRow g) (fuel - 1) S (x .0) r (x .1) (x .2)) (tails-long g (anyRow g) (fuel - 1) S (x .0) r (x .1) (x .2))
 
       module _ (short : pending + d ≤ fuel) where
@@ -158,19 +138,19 @@ module _ (file table chain sentence : List ℕ) (read : ℕ) (q : List ℕ) (fro
         left-enough = omega (arith, fronted .predicted)
 
         pub row-room : length (nextRow table (32 * r) made q from to) ≤ 384
-        row-room = room file table q from to made pending (fuel - 1) r (drop read sentence) (ready .accepted) (ready .compiled) (ready .held) stands (fronted .rule-is) head-here of-category some-daughters left-enough
+        row-room = room file table q from to made pending (fuel - 1) r (drop read sentence) (ready .stood .accepted) (ready .stood .compiled) (ready .stood .held) stands (fronted .rule-is) head-here of-category some-daughters left-enough
 
         pub made-small : made < 128
-        made-small = omega (arith, ready .numbered, ready .fits)
+        made-small = omega (arith, ready .stood .numbered, ready .stood .fits)
 
         module _ (before out : List ℕ) (n : ℕ) (written : Appended before out 0 (nextRow table (32 * r) made q from to) n) (out-long : length out ≡ 384) where
           goes : Goes (stepRow g S r) (standing sentence read out 0 n (pending - 1 + d) (made + d)) (fuel - 1) from to × (n ≤ 384) × (d ≤ 3)
-          goes = expands file table q from to made pending (fuel - 1) r (drop read sentence) (ready .accepted) (ready .compiled) (ready .held) stands (fronted .rule-is) head-here of-category d refl some-daughters left-enough before out n written
+          goes = expands file table q from to made pending (fuel - 1) r (drop read sentence) (ready .stood .accepted) (ready .stood .compiled) (ready .stood .held) stands (fronted .rule-is) head-here of-category d refl some-daughters left-enough before out n written
 
           pub row-ready : Ready file table chain sentence read out 0 n (pending - 1 + d) (made + d) (fuel - 1) sheet
           row-ready =
               ready-there read out 0 n (pending - 1 + d) (made + d) (goes .0 .leads-to)
-              (record { long = out-long; ordered = omega arith; within = goes .1 }) (ready .known) left-enough (omega (arith, fronted .predicted))
+              (record { long = out-long; ordered = omega arith; within = goes .1 }) (ready .stood .known) left-enough (omega (arith, fronted .predicted))
 
           pub next-row : (b : Bool) (after : List ℕ) → SearchedAt g (fuel - 1) (standing sentence read out 0 n (pending - 1 + d) (made + d)) sheet b after
               → SearchedTails g fuel S r sheet b after

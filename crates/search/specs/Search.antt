@@ -21,18 +21,22 @@ use Rattle.search.specs.Tally.{effortBelow, Searched}
 abbrev pub standing : List ℕ → ℕ → List ℕ → ℕ → ℕ → ℕ → ℕ → RowState
 standing sentence read q from to pending made = stateOf q from to made pending (drop read sentence)
 
--- the tables are those of an accepted file; steps reach the state; its queue is no longer than the steps left; the numbers of predictions stay below what
--- a slot holds; and count and budget together stay small
-pub record Ready (file table chain sentence : List ℕ) (read : ℕ) (q : List ℕ) (from to pending made fuel : ℕ) (sheet : List ℕ) : Type 0 where
+-- a search stands there: the tables are those of an accepted file; steps reach the state; its queue is no longer than the steps left; and the numbers of
+-- predictions stay below what a slot holds
+pub record Stood (file table chain sentence : List ℕ) (read : ℕ) (q : List ℕ) (from to pending made left : ℕ) : Type 0 where
   pub accepted : grammarRefusal file ≡ none
   pub compiled : Compiled (grammarOf file) table
   pub chained : Chained (grammarOf file) chain
   pub held : Held q from to
   pub known : read ≤ length sentence
   pub reached : Reached (grammarOf file) (standing sentence read q from to pending made)
-  pub fits : pending ≤ fuel
+  pub fits : pending ≤ left
+  pub numbered : made + left ≤ 96 + pending
+
+-- and count and budget together stay small
+pub record Ready (file table chain sentence : List ℕ) (read : ℕ) (q : List ℕ) (from to pending made fuel : ℕ) (sheet : List ℕ) : Type 0 where
+  pub stood : Stood file table chain sentence read q from to pending made fuel
   pub short : fuel ≤ 96
-  pub numbered : made + fuel ≤ 96 + pending
   pub long : length sheet ≡ 100
   pub bounded : getD sheet 0 0 + getD sheet 1 0 ≤ 1000000000
 

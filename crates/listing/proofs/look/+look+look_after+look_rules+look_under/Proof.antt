@@ -8,10 +8,10 @@ use Rattle.rows.specs.Row.{unpacked}
 use Rattle.recognizer.specs.Steps.{Goes}
 use Rattle.search.specs.Search.{standing}
 use Rattle.listing.specs.Look.{LookedTo}
-use Rattle.search.proofs.AtState.{not-none}
+use Rattle.search.proofs.Standing.{not-none, row-some, stands, stood-there}
 use Rattle.listing.proofs.LookRules.{took, left-out, up-on, up-strictly, up-at, under-settled, under-stopped, under-left}
-use Rattle.listing.proofs.LookLoop.{row-some, came-first, fronted, on-now, strictly-now, later, came-next, stops, came-last}
-use Rattle.listing.proofs.LookTurns.{at-end, next-on, next-strictly, with-rules, no-more, stands, on-there, halted, longer, moved, stood-there}
+use Rattle.listing.proofs.LookLoop.{came-first, fronted, on-now, strictly-now, later, came-next, stops, came-last}
+use Rattle.listing.proofs.LookTurns.{at-end, next-on, next-strictly, with-rules, no-more, on-there, halted, longer, moved}
 use borrow.Author.Needs.{needs}
 use Prim.Native.Nat.{ℕ, _<_}
 use borrow.Fn.Kinds.{In}
@@ -196,7 +196,7 @@ look-after-step-requires t c κs =
     let s = c .before .before .before in
     let a = s .args in
     let p = s .pre .1 in
-    (p .0 .accepted, p .0 .compiled, p .0 .held, refl {a = 384}, p .0 .known, stands (a .file .now) (a .t .now) (a .chain .now) (a .s .now) (a .read) (a .q .now) (a .from) (a .to) (a .pending) (a .made) (a .left) (p .0) (a .k) (a .desk .now) (a .path .now) (p .1) (p .2) (p .3) (p .4) (a .r) (p .5))
+    (p .0 .accepted, p .0 .compiled, p .0 .held, refl {a = 384}, p .0 .known, stands (a .file .now) (a .t .now) (a .chain .now) (a .s .now) (a .read) (a .q .now) (a .from) (a .to) (a .pending) (a .made) (a .left) (p .0) (p .3) (omega (arith, p .2)))
 
 -- src/look.rt:236:30
 look-after-enum-told : (t : ℕ) → look-after-lts.Need-enum-told (
@@ -289,7 +289,7 @@ look-after-look-requires t c κs =
     let a = s .args in
     let p = s .pre .1 in
     let goes = scan-goes t (c .before .before) in
-    (omega (arith, s .pre .0, p .0 .fits, p .3), (stood-there (a .file .now) (a .t .now) (a .chain .now) (a .s .now) (a .read) (a .q .now) (a .from) (a .to) (a .pending) (a .made) (a .left) (p .0) (a .k) (a .desk .now) (a .path .now) (p .1) (p .2) (p .3) (p .4) (a .r) (p .5) _ _ _ _ _ _ (goes .0) (record { long = p .0 .held .long; ordered = omega (arith, goes .0 .fronted); within = p .0 .held .within }) (goes .1) (omega (arith, p .3)), on-there (a .file .now) (a .t .now) (a .chain .now) (a .s .now) (a .read) (a .q .now) (a .from) (a .to) (a .pending) (a .made) (a .left) (p .0) (a .k) (a .desk .now) (a .path .now) (p .1) (p .2) (p .3) (p .4) (a .r) (p .5), omega (arith, p .2, p .0 .fits, p .3)))
+    (omega (arith, s .pre .0, p .0 .fits, p .3), (stood-there (a .file .now) (a .t .now) (a .chain .now) (a .s .now) (a .read) (a .q .now) (a .from) (a .to) (a .pending) (a .made) (a .left) (p .0) (a .r) _ _ _ _ _ _ (goes .0 .leads-to) (record { long = p .0 .held .long; ordered = omega (arith, goes .0 .fronted); within = p .0 .held .within }) (goes .1) (p .3) (goes .0 .short) (omega (arith, p .3)), on-there (a .file .now) (a .t .now) (a .chain .now) (a .s .now) (a .read) (a .q .now) (a .from) (a .to) (a .pending) (a .made) (a .left) (p .0) (a .k) (a .desk .now) (a .path .now) (p .1) (p .2) (p .3) (p .4) (a .r) (p .5), omega (arith, p .2, p .0 .fits, p .3)))
 
 -- src/look.rt:254:27
 look-after-enum-known-stepped-2 : (t : ℕ) → look-after-lts.Need-enum-known-stepped-2 (
@@ -386,7 +386,7 @@ look-after-look-requires-2 t c κs =
     let a = s .args in
     let p = s .pre .1 in
     let goes = row-goes t (c .before .before .before) in
-    (omega (arith, s .pre .0, p .0 .fits, p .3), (stood-there (a .file .now) (a .t .now) (a .chain .now) (a .s .now) (a .read) (a .q .now) (a .from) (a .to) (a .pending) (a .made) (a .left) (p .0) (a .k) (a .desk .now) (a .path .now) (p .1) (p .2) (p .3) (p .4) (a .r) (p .5) _ _ _ _ _ _ (goes .0) (record { long = c .before .before .before .before .before .before .step .ensures .kept; ordered = omega arith; within = goes .1 }) (p .0 .known) (omega (arith, p .3)), on-there (a .file .now) (a .t .now) (a .chain .now) (a .s .now) (a .read) (a .q .now) (a .from) (a .to) (a .pending) (a .made) (a .left) (p .0) (a .k) (a .desk .now) (a .path .now) (p .1) (p .2) (p .3) (p .4) (a .r) (p .5), omega (arith, p .2, p .0 .fits, p .3)))
+    (omega (arith, s .pre .0, p .0 .fits, p .3), (stood-there (a .file .now) (a .t .now) (a .chain .now) (a .s .now) (a .read) (a .q .now) (a .from) (a .to) (a .pending) (a .made) (a .left) (p .0) (a .r) _ _ _ _ _ _ (goes .0 .leads-to) (record { long = c .before .before .before .before .before .before .step .ensures .kept; ordered = omega arith; within = goes .1 }) (p .0 .known) (p .3) (goes .0 .short) (omega (arith, p .3)), on-there (a .file .now) (a .t .now) (a .chain .now) (a .s .now) (a .read) (a .q .now) (a .from) (a .to) (a .pending) (a .made) (a .left) (p .0) (a .k) (a .desk .now) (a .path .now) (p .1) (p .2) (p .3) (p .4) (a .r) (p .5), omega (arith, p .2, p .0 .fits, p .3)))
 
 -- src/look.rt:200:1
 look-after-returns : (t : ℕ) → look-after-lts.Need-returns (

@@ -2,7 +2,7 @@ use mathlib.Core.Path.{refl}
 use native.Mathlib.Omega.{arith}
 use Rattle.model.proofs.FromFile.{start-in, categories-in}
 use Rattle.recognizer.proofs.Checked.{begins}
-use Rattle.listing.proofs.LookBegin.{start-stood}
+use Rattle.search.proofs.Standing.{start-stood}
 use Rattle.listing.proofs.Following.{follows-last, follows-next, follows-over}
 use borrow.Author.Needs.{needs}
 use Rattle.listing.proofs.stream.follow.Statement.{statement}

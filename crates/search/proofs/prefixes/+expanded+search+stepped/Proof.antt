@@ -12,8 +12,9 @@ use Rattle.model.specs.Step.{wordFits}
 use Rattle.rows.specs.Row.{unpacked}
 use Rattle.search.specs.Tally.{spentOne}
 use Rattle.search.specs.Search.{standing, SearchedAt, SearchedUnder, Ready, KnownTo}
-use Rattle.search.proofs.Turns.{row-some, rule-small, head-here, fit, empty-ready, empty-word, no-words, word-ready, next-word, other-word, queue-long, row-room, made-small, row-ready-by, next-row-by, noted-rule}
-use Rattle.search.proofs.AtState.{not-none, none-left, some-left, no-budget, all-read, words-left, rules-ready, below-rules}
+use Rattle.search.proofs.Standing.{not-none, none-left, some-left, row-some}
+use Rattle.search.proofs.Turns.{rule-small, head-here, fit, empty-ready, empty-word, no-words, word-ready, next-word, other-word, queue-long, row-room, made-small, row-ready-by, next-row-by, noted-rule}
+use Rattle.search.proofs.AtState.{no-budget, all-read, words-left, rules-ready, below-rules}
 use Rattle.search.proofs.Loop.{came-first, fronted, ready-now, came-next, later, over-budget, came-last}
 use borrow.Author.Needs.{needs}
 use Prim.Native.Nat.{ℕ, _<_}
@@ -91,7 +92,7 @@ expanded-expand-requires t c κs =
     let fr = p .0 .fronted in
     let h : 0 < getD (a .t .now) (32 * a .r) 0 = omega (arith, p .1, p .2) in
     let l : a .pending + getD (a .t .now) (32 * a .r) 0 ≤ a .fuel = omega (arith, p .1, p .3) in
-    (fit f (a .t .now) (a .chain .now) (a .s .now) (a .read) (a .q .now) (a .from) (a .to) (a .pending) (a .made) (a .fuel) (a .sheet .now) rd (a .r) fr, rd .held, head-here f (a .t .now) (a .chain .now) (a .s .now) (a .read) (a .q .now) (a .from) (a .to) (a .pending) (a .made) (a .fuel) (a .sheet .now) rd (a .r) fr, made-small f (a .t .now) (a .chain .now) (a .s .now) (a .read) (a .q .now) (a .from) (a .to) (a .pending) (a .made) (a .fuel) (a .sheet .now) rd (a .r) fr h l, refl, row-room f (a .t .now) (a .chain .now) (a .s .now) (a .read) (a .q .now) (a .from) (a .to) (a .pending) (a .made) (a .fuel) (a .sheet .now) rd (a .r) fr h l)
+    (fit f (a .t .now) (a .chain .now) (a .s .now) (a .read) (a .q .now) (a .from) (a .to) (a .pending) (a .made) (a .fuel) (a .sheet .now) rd (a .r) fr, rd .stood .held, head-here f (a .t .now) (a .chain .now) (a .s .now) (a .read) (a .q .now) (a .from) (a .to) (a .pending) (a .made) (a .fuel) (a .sheet .now) rd (a .r) fr, made-small f (a .t .now) (a .chain .now) (a .s .now) (a .read) (a .q .now) (a .from) (a .to) (a .pending) (a .made) (a .fuel) (a .sheet .now) rd (a .r) fr h l, refl, row-room f (a .t .now) (a .chain .now) (a .s .now) (a .read) (a .q .now) (a .from) (a .to) (a .pending) (a .made) (a .fuel) (a .sheet .now) rd (a .r) fr h l)
 
 -- src/search.rt:205:9
 expanded-sub-search : (t : ℕ) → expanded-lts.Need-sub-search (
@@ -124,7 +125,7 @@ expanded-add-search-2 : (t : ℕ) → expanded-lts.Need-add-search-2 (
 ) (expanded-at t) expanded.Post
 expanded-add-search-2 t c =
     let s = c .before .before .before .before .before in
-    omega (arith, s .pre .1 .0 .ready .short, s .pre .1 .0 .ready .numbered, s .pre .1 .0 .ready .fits, s .pre .1 .3)
+    omega (arith, s .pre .1 .0 .ready .short, s .pre .1 .0 .ready .stood .numbered, s .pre .1 .0 .ready .stood .fits, s .pre .1 .3)
 
 -- src/search.rt:207:9
 expanded-sub-search-2 : (t : ℕ) → expanded-lts.Need-sub-search-2 (
@@ -135,7 +136,7 @@ expanded-sub-search-2 : (t : ℕ) → expanded-lts.Need-sub-search-2 (
 ) (expanded-at t) expanded.Post
 expanded-sub-search-2 t c =
     let s = c .before .before .before .before .before in
-    omega (arith, s .pre .1 .0 .ready .fits, s .pre .1 .0 .fronted .predicted)
+    omega (arith, s .pre .1 .0 .ready .stood .fits, s .pre .1 .0 .fronted .predicted)
 
 -- src/search.rt:196:5
 expanded-search-requires : (t : ℕ) → expanded-lts.Need-search-requires (
@@ -152,7 +153,7 @@ expanded-search-requires t c κs =
     let rd = p .0 .ready in
     let fr = p .0 .fronted in
     let x = c .before .before .expand in
-    (omega (arith, s .pre .0, rd .fits, fr .predicted), record { file = f; ready = row-ready-by f (a .t .now) (a .chain .now) (a .s .now) (a .read) (a .q .now) (a .from) (a .to) (a .pending) (a .made) (a .fuel) (a .sheet .now) rd (a .r) fr (a .d) (p .1) (p .2) (p .3) _ _ (x .result) (x .ensures) (x .ensures .kept) })
+    (omega (arith, s .pre .0, rd .stood .fits, fr .predicted), record { file = f; ready = row-ready-by f (a .t .now) (a .chain .now) (a .s .now) (a .read) (a .q .now) (a .from) (a .to) (a .pending) (a .made) (a .fuel) (a .sheet .now) rd (a .r) fr (a .d) (p .1) (p .2) (p .3) _ _ (x .result) (x .ensures) (x .ensures .kept) })
 
 -- src/search.rt:176:1
 expanded-returns : (t : ℕ) → expanded-lts.Need-returns (
@@ -278,7 +279,7 @@ search-returns-2 t c =
     let s = c .before .before .before .before .before .before .before in
     let a = s .args in
     λ f p.
-    subst (λ (x : List ℕ). SearchedAt (grammarOf f) (a .fuel) (standing (a .s .now) (a .read) (a .q .now) (a .from) (a .to) (a .pending) (a .made)) (a .sheet .now) true x) (sym (c .complete .ensures)) (all-read f (a .t .now) (a .chain .now) (a .s .now) (a .read) (a .q .now) (a .from) (a .to) (a .pending) (a .made) (a .fuel) (a .sheet .now) p (c .before .before .before .before .if1 .left) (none-left f (a .t .now) (a .chain .now) (a .s .now) (a .read) (a .q .now) (a .from) (a .to) (a .pending) (a .made) (a .fuel) (a .sheet .now) p (c .before .before .before .if2 .taken)) (c .before .before .if3 .taken))
+    subst (λ (x : List ℕ). SearchedAt (grammarOf f) (a .fuel) (standing (a .s .now) (a .read) (a .q .now) (a .from) (a .to) (a .pending) (a .made)) (a .sheet .now) true x) (sym (c .complete .ensures)) (all-read f (a .t .now) (a .chain .now) (a .s .now) (a .read) (a .q .now) (a .from) (a .to) (a .pending) (a .made) (a .fuel) (a .sheet .now) p (c .before .before .before .before .if1 .left) (none-left f (a .t .now) (a .chain .now) (a .s .now) (a .read) (a .q .now) (a .from) (a .to) (a .pending) (a .made) (a .fuel) (p .stood) (c .before .before .before .if2 .taken)) (c .before .before .if3 .taken))
 
 -- src/search.rt:67:9
 search-returns-3 : (t : ℕ) → search-lts.Need-returns-3 (
@@ -295,7 +296,7 @@ search-returns-3 t c =
     let s = c .before .before .before .before .before in
     let a = s .args in
     λ f p.
-    words-left f (a .t .now) (a .chain .now) (a .s .now) (a .read) (a .q .now) (a .from) (a .to) (a .pending) (a .made) (a .fuel) (a .sheet .now) p (c .before .before .if1 .left) (none-left f (a .t .now) (a .chain .now) (a .s .now) (a .read) (a .q .now) (a .from) (a .to) (a .pending) (a .made) (a .fuel) (a .sheet .now) p (c .before .if2 .taken)) (c .if3 .left)
+    words-left f (a .t .now) (a .chain .now) (a .s .now) (a .read) (a .q .now) (a .from) (a .to) (a .pending) (a .made) (a .fuel) (a .sheet .now) p (c .before .before .if1 .left) (none-left f (a .t .now) (a .chain .now) (a .s .now) (a .read) (a .q .now) (a .from) (a .to) (a .pending) (a .made) (a .fuel) (p .stood) (c .before .if2 .taken)) (c .if3 .left)
 
 -- src/search.rt:69:22
 search-mul-category : (t : ℕ) → search-lts.Need-mul-category (
@@ -326,7 +327,7 @@ search-element-copy-out-category t c =
     let a = s .args in
     let f = s .pre .1 .file in
     let p = s .pre .1 .ready in
-    omega (arith, row-some f (a .t .now) (a .chain .now) (a .s .now) (a .read) (a .q .now) (a .from) (a .to) (a .pending) (a .made) (a .fuel) (a .sheet .now) p (some-left (s .pre .1 .file) (a .t .now) (a .chain .now) (a .s .now) (a .read) (a .q .now) (a .from) (a .to) (a .pending) (a .made) (a .fuel) (a .sheet .now) (s .pre .1 .ready) (c .if2 .left)), p .held .within)
+    omega (arith, row-some f (a .t .now) (a .chain .now) (a .s .now) (a .read) (a .q .now) (a .from) (a .to) (a .pending) (a .made) (a .fuel) (p .stood) (some-left (s .pre .1 .file) (a .t .now) (a .chain .now) (a .s .now) (a .read) (a .q .now) (a .from) (a .to) (a .pending) (a .made) (a .fuel) (s .pre .1 .ready .stood) (c .if2 .left)), p .stood .held .within)
 
 -- src/search.rt:69:13
 search-category-requires : (t : ℕ) → search-lts.Need-category-requires (
@@ -394,7 +395,7 @@ search-loop-holds : (t : ℕ) → search-lts.Need-loop-holds (
 search-loop-holds t c =
     let s = c .before .before .before .before .before .before .before .before in
     let a = s .args in
-    let h = some-left (s .pre .1 .file) (a .t .now) (a .chain .now) (a .s .now) (a .read) (a .q .now) (a .from) (a .to) (a .pending) (a .made) (a .fuel) (a .sheet .now) (s .pre .1 .ready) (c .before .before .before .before .if2 .left) in
+    let h = some-left (s .pre .1 .file) (a .t .now) (a .chain .now) (a .s .now) (a .read) (a .q .now) (a .from) (a .to) (a .pending) (a .made) (a .fuel) (s .pre .1 .ready .stood) (c .before .before .before .before .if2 .left) in
     (length-set (a .sheet .now) 1 _ ∙ s .pre .1 .ready .long, λ f ready. came-first f (a .t .now) (a .chain .now) (a .s .now) (a .read) (a .q .now) (a .from) (a .to) (a .pending) (a .made) (a .fuel) (spentOne (a .sheet .now)) ready h _ (ap (λ (k : ℕ). getD (a .chain .now) k 0) (c .before .before .category .ensures)))
 
 -- src/search.rt:72:21
@@ -426,7 +427,7 @@ search-stepped-requires t c κs =
     let s = u .before .before .before .before .before .before .before .before .before in
     let a = s .args in
     let b = u .before .before .before .before .before .before .if1 .left in
-    let h = some-left (s .pre .1 .file) (a .t .now) (a .chain .now) (a .s .now) (a .read) (a .q .now) (a .from) (a .to) (a .pending) (a .made) (a .fuel) (a .sheet .now) (s .pre .1 .ready) (u .before .before .before .before .before .if2 .left) in
+    let h = some-left (s .pre .1 .file) (a .t .now) (a .chain .now) (a .s .now) (a .read) (a .q .now) (a .from) (a .to) (a .pending) (a .made) (a .fuel) (s .pre .1 .ready .stood) (u .before .before .before .before .before .if2 .left) in
     let f = s .pre .1 .file in
     let p = s .pre .1 .ready in
     let ready = rules-ready f (a .t .now) (a .chain .now) (a .s .now) (a .read) (a .q .now) (a .from) (a .to) (a .pending) (a .made) (a .fuel) (a .sheet .now) p b h in
@@ -449,7 +450,7 @@ search-note-requires t c κs =
     let s = u .before .before .before .before .before .before .before .before .before in
     let a = s .args in
     let b = u .before .before .before .before .before .before .if1 .left in
-    let h = some-left (s .pre .1 .file) (a .t .now) (a .chain .now) (a .s .now) (a .read) (a .q .now) (a .from) (a .to) (a .pending) (a .made) (a .fuel) (a .sheet .now) (s .pre .1 .ready) (u .before .before .before .before .before .if2 .left) in
+    let h = some-left (s .pre .1 .file) (a .t .now) (a .chain .now) (a .s .now) (a .read) (a .q .now) (a .from) (a .to) (a .pending) (a .made) (a .fuel) (s .pre .1 .ready .stood) (u .before .before .before .before .before .if2 .left) in
     let f = s .pre .1 .file in
     let p = s .pre .1 .ready in
     let ready = rules-ready f (a .t .now) (a .chain .now) (a .s .now) (a .read) (a .q .now) (a .from) (a .to) (a .pending) (a .made) (a .fuel) (a .sheet .now) p b h in
@@ -524,7 +525,7 @@ search-loop-less t c =
     let s = u .before .before .before .before .before .before .before .before .before in
     let a = s .args in
     let b = u .before .before .before .before .before .before .if1 .left in
-    let h = some-left (s .pre .1 .file) (a .t .now) (a .chain .now) (a .s .now) (a .read) (a .q .now) (a .from) (a .to) (a .pending) (a .made) (a .fuel) (a .sheet .now) (s .pre .1 .ready) (u .before .before .before .before .before .if2 .left) in
+    let h = some-left (s .pre .1 .file) (a .t .now) (a .chain .now) (a .s .now) (a .read) (a .q .now) (a .from) (a .to) (a .pending) (a .made) (a .fuel) (s .pre .1 .ready .stood) (u .before .before .before .before .before .if2 .left) in
     let f = s .pre .1 .file in
     let p = s .pre .1 .ready in
     let ready = rules-ready f (a .t .now) (a .chain .now) (a .s .now) (a .read) (a .q .now) (a .from) (a .to) (a .pending) (a .made) (a .fuel) (a .sheet .now) p b h in
@@ -546,7 +547,7 @@ search-loop-again t c =
     let s = u .before .before .before .before .before .before .before .before .before in
     let a = s .args in
     let b = u .before .before .before .before .before .before .if1 .left in
-    let h = some-left (s .pre .1 .file) (a .t .now) (a .chain .now) (a .s .now) (a .read) (a .q .now) (a .from) (a .to) (a .pending) (a .made) (a .fuel) (a .sheet .now) (s .pre .1 .ready) (u .before .before .before .before .before .if2 .left) in
+    let h = some-left (s .pre .1 .file) (a .t .now) (a .chain .now) (a .s .now) (a .read) (a .q .now) (a .from) (a .to) (a .pending) (a .made) (a .fuel) (s .pre .1 .ready .stood) (u .before .before .before .before .before .if2 .left) in
     let test : u .loop .r < 256 = omega (arith, c .before .before .before .before .before .before .before .loop-test .taken) in
     let k = c .before .before .before .before .stepped in
     let w : (f : List ℕ) → Ready f (a .t .now) (a .chain .now) (a .s .now) (a .read) (a .q .now) (a .from) (a .to) (a .pending) (a .made) (a .fuel) (spentOne (a .sheet .now)) → SearchedUnder (grammarOf f) (a .fuel) (standing (a .s .now) (a .read) (a .q .now) (a .from) (a .to) (a .pending) (a .made)) (u .loop .r) (u .loop .sheet) true _ =
@@ -574,7 +575,7 @@ search-returns-4 t c =
     let s = u .before .before .before .before .before .before .before .before .before in
     let a = s .args in
     let b = u .before .before .before .before .before .before .if1 .left in
-    let h = some-left (s .pre .1 .file) (a .t .now) (a .chain .now) (a .s .now) (a .read) (a .q .now) (a .from) (a .to) (a .pending) (a .made) (a .fuel) (a .sheet .now) (s .pre .1 .ready) (u .before .before .before .before .before .if2 .left) in
+    let h = some-left (s .pre .1 .file) (a .t .now) (a .chain .now) (a .s .now) (a .read) (a .q .now) (a .from) (a .to) (a .pending) (a .made) (a .fuel) (s .pre .1 .ready .stood) (u .before .before .before .before .before .if2 .left) in
     λ f p.
     let ready = rules-ready f (a .t .now) (a .chain .now) (a .s .now) (a .read) (a .q .now) (a .from) (a .to) (a .pending) (a .made) (a .fuel) (a .sheet .now) p b h in
     let test : u .loop .r < 256 = omega (arith, c .before .before .before .before .before .before .loop-test .taken) in
@@ -602,7 +603,7 @@ search-returns-5 t c =
     let s = u .before .before .before .before .before .before .before .before .before in
     let a = s .args in
     let b = u .before .before .before .before .before .before .if1 .left in
-    let h = some-left (s .pre .1 .file) (a .t .now) (a .chain .now) (a .s .now) (a .read) (a .q .now) (a .from) (a .to) (a .pending) (a .made) (a .fuel) (a .sheet .now) (s .pre .1 .ready) (u .before .before .before .before .before .if2 .left) in
+    let h = some-left (s .pre .1 .file) (a .t .now) (a .chain .now) (a .s .now) (a .read) (a .q .now) (a .from) (a .to) (a .pending) (a .made) (a .fuel) (s .pre .1 .ready .stood) (u .before .before .before .before .before .if2 .left) in
     λ f p.
     let ready = rules-ready f (a .t .now) (a .chain .now) (a .s .now) (a .read) (a .q .now) (a .from) (a .to) (a .pending) (a .made) (a .fuel) (a .sheet .now) p b h in
     below-rules f (a .t .now) (a .chain .now) (a .s .now) (a .read) (a .q .now) (a .from) (a .to) (a .pending) (a .made) (a .fuel) (a .sheet .now) p b h true _ (came-last f (a .t .now) (a .chain .now) (a .s .now) (a .read) (a .q .now) (a .from) (a .to) (a .pending) (a .made) (a .fuel) (spentOne (a .sheet .now)) ready h (u .loop .sheet) (u .loop .r) (u .loop .inv .1 f ready) (omega (arith, c .loop-test .left)))
@@ -686,7 +687,7 @@ stepped-add-search t c =
     let f = p .file in
     let rd = p .ready in
     let fr = p .fronted in
-    omega (arith, rd .held .ordered, rd .held .within)
+    omega (arith, rd .stood .held .ordered, rd .stood .held .within)
 
 -- src/search.rt:130:17
 stepped-sub-search : (t : ℕ) → stepped-lts.Need-sub-search (
@@ -730,7 +731,7 @@ stepped-sub-search-2 t c =
     let f = p .file in
     let rd = p .ready in
     let fr = p .fronted in
-    omega (arith, fr .predicted, rd .fits)
+    omega (arith, fr .predicted, rd .stood .fits)
 
 -- src/search.rt:121:13
 stepped-search-requires : (t : ℕ) → stepped-lts.Need-search-requires (
@@ -752,7 +753,7 @@ stepped-search-requires t c κs =
     let f = p .file in
     let rd = p .ready in
     let fr = p .fronted in
-    (omega (arith, s .pre .0, fr .predicted, rd .fits), record { file = f; ready = empty-ready f (a .t .now) (a .chain .now) (a .s .now) (a .read) (a .q .now) (a .from) (a .to) (a .pending) (a .made) (a .fuel) (a .sheet .now) rd (a .r) fr (sym (c .before .before .before .before .before .daughters .ensures) ∙ (c .before .before .before .before .if1 .taken)) (sym (c .before .before .before .word .ensures) ∙ (c .before .if2 .taken)) })
+    (omega (arith, s .pre .0, fr .predicted, rd .stood .fits), record { file = f; ready = empty-ready f (a .t .now) (a .chain .now) (a .s .now) (a .read) (a .q .now) (a .from) (a .to) (a .pending) (a .made) (a .fuel) (a .sheet .now) rd (a .r) fr (sym (c .before .before .before .before .before .daughters .ensures) ∙ (c .before .before .before .before .if1 .taken)) (sym (c .before .before .before .word .ensures) ∙ (c .before .if2 .taken)) })
 
 -- src/search.rt:121:13
 stepped-returns : (t : ℕ) → stepped-lts.Need-returns (
@@ -880,7 +881,7 @@ stepped-add-search-3 t c =
     let f = p .file in
     let rd = p .ready in
     let fr = p .fronted in
-    omega (arith, rd .held .ordered, rd .held .within)
+    omega (arith, rd .stood .held .ordered, rd .stood .held .within)
 
 -- src/search.rt:148:17
 stepped-sub-search-3 : (t : ℕ) → stepped-lts.Need-sub-search-3 (
@@ -924,7 +925,7 @@ stepped-sub-search-4 t c =
     let f = p .file in
     let rd = p .ready in
     let fr = p .fronted in
-    omega (arith, fr .predicted, rd .fits)
+    omega (arith, fr .predicted, rd .stood .fits)
 
 -- src/search.rt:139:13
 stepped-search-requires-2 : (t : ℕ) → stepped-lts.Need-search-requires-2 (
@@ -946,7 +947,7 @@ stepped-search-requires-2 t c κs =
     let f = p .file in
     let rd = p .ready in
     let fr = p .fronted in
-    (omega (arith, s .pre .0, fr .predicted, rd .fits), record { file = f; ready = word-ready f (a .t .now) (a .chain .now) (a .s .now) (a .read) (a .q .now) (a .from) (a .to) (a .pending) (a .made) (a .fuel) (a .sheet .now) rd (a .r) fr (sym (c .before .before .before .before .before .before .before .before .before .daughters .ensures) ∙ (c .before .before .before .before .before .before .before .before .if1 .taken)) (λ z. (c .before .before .before .before .before .if2 .left) ((c .before .before .before .before .before .before .before .word .ensures) ∙ z)) (c .before .before .before .before .if3 .left) (ap (λ (w : ℕ). wordFits w (getD (a .s .now) (a .read) 0)) (sym (c .before .before .before .before .before .before .before .word .ensures)) ∙ sym (c .before .before .fits2 .ensures) ∙ (c .before .if4 .taken)) })
+    (omega (arith, s .pre .0, fr .predicted, rd .stood .fits), record { file = f; ready = word-ready f (a .t .now) (a .chain .now) (a .s .now) (a .read) (a .q .now) (a .from) (a .to) (a .pending) (a .made) (a .fuel) (a .sheet .now) rd (a .r) fr (sym (c .before .before .before .before .before .before .before .before .before .daughters .ensures) ∙ (c .before .before .before .before .before .before .before .before .if1 .taken)) (λ z. (c .before .before .before .before .before .if2 .left) ((c .before .before .before .before .before .before .before .word .ensures) ∙ z)) (c .before .before .before .before .if3 .left) (ap (λ (w : ℕ). wordFits w (getD (a .s .now) (a .read) 0)) (sym (c .before .before .before .before .before .before .before .word .ensures)) ∙ sym (c .before .before .fits2 .ensures) ∙ (c .before .if4 .taken)) })
 
 -- src/search.rt:139:13
 stepped-returns-3 : (t : ℕ) → stepped-lts.Need-returns-3 (
@@ -1022,7 +1023,7 @@ stepped-add-if5 t c =
     let f = p .file in
     let rd = p .ready in
     let fr = p .fronted in
-    omega (arith, rd .fits, rd .short, fit f (a .t .now) (a .chain .now) (a .s .now) (a .read) (a .q .now) (a .from) (a .to) (a .pending) (a .made) (a .fuel) (a .sheet .now) rd (a .r) fr .few, (c .before .daughters .ensures))
+    omega (arith, rd .stood .fits, rd .short, fit f (a .t .now) (a .chain .now) (a .s .now) (a .read) (a .q .now) (a .from) (a .to) (a .pending) (a .made) (a .fuel) (a .sheet .now) rd (a .r) fr .few, (c .before .daughters .ensures))
 
 -- src/search.rt:156:9
 stepped-returns-5 : (t : ℕ) → stepped-lts.Need-returns-5 (
