@@ -1,6 +1,6 @@
 -- The search from the start: it is ready, and finds the listing at the effort of document 01.
 -- Assumes nothing.
-use mathlib.Core.Path.{_≡_, sym, ap, subst, _∙_}
+use mathlib.Core.Path.{_≡_, ap, _∙_}
 use mathlib.Core.Bool.{Bool}
 use mathlib.Core.Option.{none}
 use mathlib.Core.List.{List, [], _∷_}
@@ -10,10 +10,8 @@ use lib.ListN.{length, getD}
 use Rattle.model.specs.Grammar.{Grammar}
 use Rattle.model.specs.GrammarFile.{grammarRefusal, grammarOf, startOf}
 use Rattle.model.specs.Counting.{listing, effort}
-use Rattle.model.specs.Rows.{Slot, beginRow, foundFromRow}
-use Rattle.model.proofs.FromFile.{accepted-right}
+use Rattle.model.specs.Rows.{beginRow, foundFromRow}
 use Rattle.model.proofs.RowsAgree.{rows-agree}
-use Rattle.model.proofs.RowsBounds.{Reached, reached-begin}
 use Rattle.rows.specs.Row.{rowOf, Held}
 use Rattle.rows.specs.Table.{Compiled}
 use Rattle.recognizer.proofs.Checked as checked

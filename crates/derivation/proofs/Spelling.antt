@@ -17,7 +17,7 @@ use Rattle.model.specs.Trace.{noNode, run, traceRefusal}
 use Rattle.model.specs.Tree.{Tree, Forest, node, nil, cons, preorder, preorders, hasRoot, hasRoots, spells, forest, treeOfList, nodesRefusal}
 use Rattle.model.specs.Conversions.{label, subtree, Traces, traceFrom, traceOf}
 use Rattle.model.specs.Demands.{Ends}
-use Rattle.model.specs.Rows.{Slot, RowState, beginRow, traceOfRow, stepsRefusalRow}
+use Rattle.model.specs.Rows.{RowState, beginRow, traceOfRow, stepsRefusalRow}
 use Rattle.model.proofs.Tests.{and-l, and-r, and-both, none-some}
 use Rattle.model.proofs.FromFile.{accepted-right}
 use Rattle.model.proofs.Marks.{bare, bareState, bareOutcome, step-bare}

@@ -4,7 +4,7 @@ use mathlib.Core.Path.{_≡_, refl, sym, ap, ap₂, subst, _∙_}
 use mathlib.Core.Bool.{Bool, true, false}
 use mathlib.Core.Option.{Option, none, some}
 use mathlib.Core.List.{List, [], _∷_}
-use Prim.Native.Nat.{ℕ, zero, suc, _-_, _<_, _≤_}
+use Prim.Native.Nat.{ℕ, zero, suc, _<_, _≤_}
 use native.Mathlib.Omega.{arith}
 use lib.ListN.{length, getD, take}
 use Rattle.model.specs.Base.{if_then_else_, keep}
@@ -12,7 +12,7 @@ use Rattle.model.specs.Grammar.{Grammar}
 use Rattle.model.specs.GrammarFile.{grammarRefusal, grammarOf}
 use Rattle.model.specs.Step.{State, fails, leads, before}
 use Rattle.model.specs.Trace.{noNode, run}
-use Rattle.model.specs.Counting.{start, finished, live, complete, listing}
+use Rattle.model.specs.Counting.{start, finished, live, complete}
 use Rattle.model.specs.Rows.{RowState, halts, moves, runRow, beginRow, liveFromRow}
 use Rattle.model.specs.WellFormed.{Right}
 use Rattle.model.proofs.FromFile.{accepted-right}

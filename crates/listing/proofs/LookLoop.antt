@@ -4,21 +4,16 @@ use mathlib.Core.Path.{_≡_, refl, sym, ap, ap₂, subst, _∙_}
 use mathlib.Core.Logic.{_⊎_, inl, inr}
 use mathlib.Core.Bool.{Bool, true, false}
 use mathlib.Core.Option.{Option}
-use mathlib.Core.List.{List, [], _∷_, _++_, map}
+use mathlib.Core.List.{List, [], _∷_, _++_}
 use Prim.Native.Nat.{ℕ, suc, _+_, _-_, _<_, _≤_}
 use native.Mathlib.Omega.{arith}
-use borrow.Author.Tests.{eqb-true}
-use lib.ListN.{length, getD, length-map}
-use lib.Seq.{slice, slice-cons, length-slice}
+use lib.ListN.{length, getD}
 use Rattle.model.specs.Base.{keep}
-use Rattle.model.specs.Grammar.{Rule, Grammar}
+use Rattle.model.specs.Grammar.{Grammar}
 use Rattle.model.specs.GrammarFile.{grammarOf}
 use Rattle.model.specs.Rows.{RowState, walkRow, anyRow}
-use Rattle.model.proofs.FromFile.{ruleRead, rule-read, rules-in}
-use Rattle.model.proofs.RowsBounds.{file-row}
-use Rattle.model.proofs.WellFormed.{rules-length}
 use Rattle.rows.specs.Row.{unpacked, rowOf}
-use Rattle.search.specs.Chain.{isBy, isOf, firstRule}
+use Rattle.search.specs.Chain.{isOf, firstRule}
 use Rattle.search.specs.Search.{standing, Stood, under, upTo, Fronted, done}
 use Rattle.listing.specs.Look.{endsRow, Found, nothing, found, over, goesOn, firstComplete, passes, boundAt, beyond, Holds, OnDesk, Looked, LookedUnder, LookedRules, LookedTo}
 use Rattle.search.proofs.Standing as st

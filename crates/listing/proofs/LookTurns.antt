@@ -5,21 +5,19 @@ use mathlib.Core.Bool.{Bool, true, false}
 use mathlib.Core.List.{List, [], _∷_, _++_, map}
 use Prim.Native.Nat.{ℕ, suc, _+_, _-_, _<_, _≤_}
 use native.Mathlib.Omega.{arith}
-use native.Mathlib.Decide.{decLt, ℕ-discrete}
+use native.Mathlib.Decide.{ℕ-discrete}
 use native.Mathlib.Numerals.{add-one}
 use borrow.Author.Tests.{eq-eqb, ne-eqb}
 use lib.Dec.{eqb}
 use lib.ListN.{length, getD, drop, drop-of-length-le}
 use lib.Seq.{drop-cons}
-use Rattle.model.specs.Base.{each, numbersFrom}
+use Rattle.model.specs.Base.{numbersFrom}
 use Rattle.model.specs.Grammar.{Grammar}
 use Rattle.model.specs.GrammarFile.{grammarOf}
 use Rattle.model.specs.Rows.{Slot, RowState, halts, moves, stepRow, finishedRow, anyRow, liveFromRow}
-use Rattle.model.proofs.FromFile.{accepted-right}
-use Rattle.model.proofs.RowsBounds.{reached-step, file-row}
 use Rattle.model.proofs.Search.{keep-append, keep-each, each-same}
-use Rattle.rows.specs.Row.{rowOf, Held}
-use Rattle.recognizer.specs.Steps.{Stands, Goes}
+use Rattle.rows.specs.Row.{rowOf}
+use Rattle.recognizer.specs.Steps.{Goes}
 use Rattle.search.specs.Search.{standing, Stood, under, upTo, tails}
 use Rattle.listing.specs.Look.{endsRow, passes, boundAt, beyond, OnDesk, Looked, LookedAt, LookedRules, LookedAfter, arrivedDesk, arrivedGoes}
 use Rattle.listing.proofs.Looks.{looked-none, looked-as, looked-joined, looked-stopped, looked-under}

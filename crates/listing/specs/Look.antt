@@ -7,20 +7,16 @@ use mathlib.Core.Logic.{_⊎_}
 use mathlib.Core.Bool.{Bool, true, false, not}
 use mathlib.Core.Option.{Option, none, some}
 use mathlib.Core.List.{List, [], _∷_, map}
-use Prim.Native.Nat.{ℕ, zero, suc, _+_, _-_, _<_, _≤_}
+use Prim.Native.Nat.{ℕ, zero, suc, _-_, _<_, _≤_}
 use lib.Dec.{leb, ltb, eqb}
 use lib.ListN.{length, getD, set}
 use lib.Seq.{slice}
 use Rattle.model.specs.Base.{if_then_else_, keep}
 use Rattle.model.specs.Grammar.{Grammar}
-use Rattle.model.specs.GrammarFile.{grammarRefusal, grammarOf}
 use Rattle.model.specs.Rows.{RowState, runRow, finishedRow, anyRow, liveFromRow}
 use Rattle.model.specs.Step.{before}
-use Rattle.model.proofs.RowsBounds.{Reached}
-use Rattle.rows.specs.Row.{Held}
-use Rattle.rows.specs.Table.{Compiled}
-use Rattle.search.specs.Chain.{isOf, Chained}
-use Rattle.search.specs.Search.{standing, tails, under, upTo, done}
+use Rattle.search.specs.Chain.{isOf}
+use Rattle.search.specs.Search.{tails, under, upTo, done}
 
 -- the steps of a list apply from a state and leave no words and no predictions
 abbrev pub finishedBy : Option RowState → Bool

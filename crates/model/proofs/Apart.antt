@@ -4,13 +4,13 @@ use mathlib.Core.Path.{_≡_, refl, sym, ap, ap₂, subst, _∙_}
 use mathlib.Core.Logic.{_⊎_, inl, inr}
 use mathlib.Core.Bool.{Bool, true, false}
 use mathlib.Core.List.{List, [], _∷_, _++_, map, tail, append-assoc, append-nil, List·Memᴰ, List·Memᴰ·head, List·Memᴰ·tail, List·Memᴰ·cases-cons}
-use Prim.Native.Nat.{ℕ, suc, _+_, _<_, _≤_}
+use Prim.Native.Nat.{ℕ, suc, _<_, _≤_}
 use native.Mathlib.Omega.{arith}
 use lib.Dec.{T}
 use lib.ListN.{length, length-map}
 use Rattle.model.specs.Base.{if_then_else_, numbersFrom}
 use Rattle.model.specs.Grammar.{Variable, Rule, Grammar, variable, isLexical, dimension}
-use Rattle.model.specs.Step.{Index, before, Prediction, numbered, indexed, variableIndices, indexOf, sort, trim, shorten, sameFirst, daughtersFrom, expand}
+use Rattle.model.specs.Step.{Index, Prediction, numbered, indexed, variableIndices, indexOf, sort, trim, shorten, sameFirst, daughtersFrom, expand}
 use Rattle.model.specs.WellFormed.{Perm, same, more, swap, chain, daughterVariables, named, RightRule}
 use Rattle.model.proofs.Lists.{length-numbers, map-append, each-append}
 use Rattle.model.proofs.Digits.{left, left-append, left-last, left-tail}

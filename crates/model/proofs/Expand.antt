@@ -4,11 +4,11 @@ use mathlib.Core.Path.{_≡_, refl, sym, ap, subst, _∙_}
 use mathlib.Core.Logic.{_⊎_, inl, inr}
 use mathlib.Core.Bool.{Bool, true, false, _&&_}
 use mathlib.Core.List.{List, [], _∷_, _++_, map, append-nil, List·Memᴰ, List·Memᴰ·cases-cons}
-use Prim.Native.Nat.{ℕ, suc, _+_, _≤_}
+use Prim.Native.Nat.{ℕ, suc, _≤_}
 use native.Mathlib.Omega.{arith}
 use lib.Dec.{T, eqb, eqb→eq, eqb-refl}
 use Rattle.model.specs.Base.{if_then_else_, each}
-use Rattle.model.specs.Grammar.{Variable, Grammar, variable}
+use Rattle.model.specs.Grammar.{Variable, Grammar}
 use Rattle.model.specs.Step.{Index, Prediction, numbered, indexed, variableIndices, indexOf}
 use Rattle.model.specs.Tree.{Tree, yield, stringOf}
 use Rattle.model.proofs.Lists.{map-in, map-append}

@@ -8,7 +8,7 @@ use native.Mathlib.Omega.{arith}
 use native.Mathlib.Decide.{decLt}
 use lib.ListN.{length, getD, getElem?, length-take, length-drop, List·getD-eq-default}
 use Rattle.model.specs.declared.Refusal.{Refusal}
-use Rattle.model.specs.Base.{_orElse_, every, numbersFrom}
+use Rattle.model.specs.Base.{_orElse_, numbersFrom}
 use Rattle.model.specs.Verdict.{refuseIf}
 use Rattle.model.specs.Grammar.{Rule, ruleAt, dimension}
 use Rattle.model.specs.GrammarFile.{within, categoriesOf, startOf, wordsOf, rulesOf, dimensionsOf, recordOf, wrongCategory, wrongWord, wrongVariables, unusedSet, repeated, grammarRefusal, ruleOf, grammarOf}

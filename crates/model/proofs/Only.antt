@@ -17,7 +17,7 @@ use Rattle.model.specs.Conversions.{label, childAt, subtree, Step, Trace
 use Rattle.model.proofs.Marks.{Bare, bare, bareState, bareOutcome, sort-bare, append-bare, daughters-bare, step-bare}
 use Rattle.model.proofs.Unmark.{same-prediction, trim-one, sort-one}
 use Rattle.model.proofs.Forward.{Good, no-trees}
-use Rattle.model.proofs.Traces.{Root, root, after, step-nonlexical, step-lexical, scan-to, leads-one, advance}
+use Rattle.model.proofs.Traces.{Root, root, step-nonlexical, step-lexical, scan-to, leads-one, advance}
 use Rattle.model.proofs.Lifting.{marks}
 use Rattle.model.proofs.Tests.{and-r}
 

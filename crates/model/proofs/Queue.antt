@@ -7,7 +7,7 @@ use mathlib.Core.List.{List, [], _∷_, map, tail, List·Memᴰ, List·Memᴰ·h
 use Prim.Native.Nat.{ℕ, _≤_}
 use native.Mathlib.Omega.{arith}
 use borrow.Author.Tests.{le-ltb, eq-eqb}
-use lib.Dec.{T, eqb, eqb→eq}
+use lib.Dec.{T, eqb→eq}
 use lib.ListN.{length}
 use Rattle.model.specs.Base.{if_then_else_, every}
 use Rattle.model.specs.Grammar.{Grammar}

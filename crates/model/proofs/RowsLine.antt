@@ -11,7 +11,7 @@ use lib.ListN.{length, getD}
 use borrow.Author.Tests.{eq-eqb, ne-eqb}
 use Rattle.model.specs.Base.{if_then_else_, each, numbersFrom}
 use Rattle.model.specs.Grammar.{Variable, Rule, Grammar, variable, lexical, isLexical, dimension}
-use Rattle.model.specs.Step.{Index, before, Prediction, leastOf, numbered, indexed, variableIndices, indexOf, sort, trim, shorten, sameFirst, daughtersFrom, expand}
+use Rattle.model.specs.Step.{Index, Prediction, leastOf, numbered, indexed, variableIndices, indexOf, sort, trim, shorten, sameFirst, daughtersFrom, expand}
 use Rattle.model.specs.Rows.{Slot, varSlot, block, expandRow}
 use Rattle.model.specs.WellFormed.{Perm, same, chain, daughterVariables, named, RightRule}
 use Rattle.model.specs.RowsAgree.{number, IndexedSlot, slotIn, indexedFrom, indexedOf, indexedSlots}

@@ -5,9 +5,9 @@ use mathlib.Core.Logic.{_⊎_, inl, inr}
 use mathlib.Core.List.{List, [], _∷_, _++_, map, tail, append-assoc, List·Memᴰ, List·Memᴰ·head, List·Memᴰ·tail, List·Memᴰ·append-cases}
 use Prim.Native.Nat.{ℕ}
 use lib.Dec.{T}
-use Rattle.model.specs.Base.{each, every}
+use Rattle.model.specs.Base.{each}
 use Rattle.model.specs.Step.{Index}
-use Rattle.model.specs.WellFormed.{Perm, same, chain}
+use Rattle.model.specs.WellFormed.{Perm, chain}
 use Rattle.model.proofs.Lists.{each-out, map-out, map-in}
 use Rattle.model.proofs.Digits.{left, left-append, left-tail}
 use Rattle.model.proofs.Perm.{perm-mem, perm-map, perm-each, lift}

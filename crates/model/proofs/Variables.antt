@@ -4,12 +4,12 @@ use mathlib.Core.Path.{_≡_, refl, sym, ap, subst, _∙_}
 use mathlib.Core.Logic.{_⊎_, inl, inr}
 use mathlib.Core.Bool.{Bool, true, false}
 use mathlib.Core.List.{List, [], _∷_, _++_, map, List·Memᴰ, List·Memᴰ·head, List·Memᴰ·tail, List·Memᴰ·cases-cons, List·Memᴰ·append-cases}
-use Prim.Native.Nat.{ℕ, zero, suc, _+_, _*_, _/_, _%_, _<_, _≤_}
+use Prim.Native.Nat.{ℕ, suc, _+_, _*_, _/_, _%_, _<_, _≤_}
 use native.Mathlib.Omega.{arith}
 use lib.Dec.{eqb, eqb→eq}
 use lib.ListN.{length, getD, take, drop, length-map}
 use lib.Seq.{take-add}
-use Rattle.model.specs.Base.{if_then_else_, numbersFrom, occurrences, total, each}
+use Rattle.model.specs.Base.{if_then_else_, numbersFrom, occurrences, total}
 use Rattle.model.specs.Grammar.{Grammar, Variable, variable, dimension}
 use Rattle.model.specs.GrammarFile.{sequences}
 use Rattle.model.specs.WellFormed.{Perm, same, more, swap, chain, daughterVariables, named}

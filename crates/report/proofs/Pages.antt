@@ -1,22 +1,20 @@
 -- The listing as lines: a line and those after it, page by page.
 -- Assumes nothing.
 use mathlib.Core.Path.{_≡_, refl, sym, ap, subst, _∙_}
-use mathlib.Core.Logic.{_⊎_, inl, inr}
-use mathlib.Core.Bool.{Bool, true, false, _&&_}
+use mathlib.Core.Bool.{Bool, true, false}
 use mathlib.Core.List.{List, [], _∷_, _++_, append-assoc, append-nil, List·Memᴰ, List·Memᴰ·head, List·Memᴰ·tail}
 use Prim.Native.Nat.{ℕ, _+_, _-_, _*_, _<_, _≤_}
 use native.Mathlib.Omega.{arith}
-use lib.Dec.{T, eqb, ltb, eqb→eq, ltb→lt}
+use lib.Dec.{T}
 use lib.ListN.{length, take, length-append}
-use Rattle.model.specs.Base.{if_then_else_, keep, each}
+use Rattle.model.specs.Base.{keep, each}
 use Rattle.model.specs.Grammar.{Grammar}
 use Rattle.model.specs.Step.{before}
 use Rattle.model.specs.Counting.{listing, effort}
 use Rattle.model.specs.LivePrefixes.{InOrder}
 use Rattle.model.specs.Program.{decimal, line, blank, newline, programLimit}
 use Rattle.model.proofs.Listing.{listing-lists}
-use Rattle.model.proofs.Order.{or-cases, before-irrefl, before-head, before-tail}
-use Rattle.model.proofs.Tests.{and-l, and-r}
+use Rattle.model.proofs.Order.{before-irrefl}
 use Rattle.listing.specs.declared.stream.Followed.{Followed}
 use Rattle.listing.specs.Stream.{entriesAfter, Follows}
 use Rattle.listing.proofs.Following.{kept-by}

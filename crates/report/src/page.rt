@@ -1,13 +1,7 @@
 // The listing as lines of text, a page at a time.
-ghost use mathlib.Core.Option.{none};
-ghost use mathlib.Core.Path.{_≡_};
 ghost use Prim.Native.Nat.{_+_, _<_, _≤_};
 ghost use lib.ListN.{length, take};
-ghost use Rattle.model.specs.Counting.{effort};
-ghost use Rattle.model.specs.GrammarFile.{grammarRefusal, grammarOf};
-ghost use Rattle.model.specs.Program.{programLimit};
-ghost use Rattle.rows.specs.Table.{Compiled};
-ghost use Rattle.search.specs.Chain.{Chained};
+ghost use Rattle.model.specs.GrammarFile.{grammarOf};
 ghost use Rattle.report.specs.Page.{Lists, LineSays, PageSays};
 use crate::text::put_line;
 use listing::Followed;

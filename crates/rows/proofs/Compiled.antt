@@ -1,7 +1,7 @@
 -- A table whose cells are those of each record holds every rule of the grammar that the file holds.
 -- Assumes nothing.
 use mathlib.Core.Path.{_≡_, sym, ap, ap₂, subst, _∙_}
-use mathlib.Core.Option.{none, some}
+use mathlib.Core.Option.{none}
 use mathlib.Core.List.{List, map, map-map}
 use Prim.Native.Nat.{ℕ, _+_, _-_, _*_, _/_, _%_, _<_, _≤_}
 use native.Mathlib.Omega.{arith}
@@ -13,7 +13,7 @@ use Rattle.model.specs.Grammar.{Rule}
 use Rattle.model.specs.GrammarFile.{fields, field, daughtersOf, dimensionsOf, rulesOf, recordOf, grammarRefusal, decoded, ruleOf, grammarOf}
 use Rattle.model.specs.Rows.{varSlot, block, packed}
 use Rattle.model.proofs.RuleFromRecord.{three, category-in, daughter-in, field-length, field-at, daughters-length}
-use Rattle.model.proofs.FromFile.{ruleRead, rule-is, rules-in, record-tested, categories-few}
+use Rattle.model.proofs.FromFile.{rule-is, rules-in, record-tested, categories-few}
 use Rattle.rows.specs.Row.{unpacked}
 use Rattle.rows.specs.Table.{startCell, slotCell, cellOf, begins, slots, CellsFit, RuleCells, Compiled}
 use Rattle.rows.proofs.Lists.{same-parts, sum-rises}

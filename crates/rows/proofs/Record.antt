@@ -4,7 +4,7 @@
 use mathlib.Core.Path.{_≡_, refl, sym, ap, ap₂, subst, _∙_}
 use mathlib.Core.Bool.{Bool, true, false}
 use mathlib.Core.Option.{none}
-use mathlib.Core.List.{List, [], _∷_, _++_, map, List·Memᴰ, List·Memᴰ·head, List·Memᴰ·tail}
+use mathlib.Core.List.{List, [], _∷_, _++_, map, List·Memᴰ}
 use Prim.Native.Nat.{ℕ, zero, suc, _+_, _-_, _/_, _<_, _≤_}
 use native.Mathlib.Omega.{arith}
 use native.Mathlib.Decide.{decLt}
@@ -13,11 +13,11 @@ use lib.Dec.{T, eqb, eqb→eq}
 use lib.ListN.{length, getD, take, drop, List·getD-eq-default}
 use lib.Seq.{drop-drop}
 use Rattle.model.specs.declared.Refusal.{Refusal}
-use Rattle.model.specs.Base.{if_then_else_, _orElse_, firstFrom, sumBelow, total}
+use Rattle.model.specs.Base.{if_then_else_, _orElse_, sumBelow}
 use Rattle.model.specs.Verdict.{refuseIf}
 use Rattle.model.specs.Grammar.{Variable, Rule, Grammar, isLexical}
-use Rattle.model.specs.GrammarFile.{fields, field, allZero, daughtersOf, lengthsOf, variables, dimensionIn, dimensionsOf, wordsOf, rulesOf, recordOf, wrongCategory, wrongWord, wrongVariables, unusedSet, unusedBytes, eachOnce, repeated, ruleRefusal, wrongRest, grammarRefusal, decoded, sequences, ruleOf, grammarOf}
-use Rattle.model.proofs.Tests.{no-refusal, first-of, rest-of, first-none, not-off, and-l, every-getD}
+use Rattle.model.specs.GrammarFile.{fields, field, allZero, daughtersOf, lengthsOf, variables, dimensionIn, dimensionsOf, wordsOf, rulesOf, recordOf, wrongCategory, wrongWord, wrongVariables, unusedSet, unusedBytes, repeated, ruleRefusal, grammarRefusal, decoded, sequences, ruleOf, grammarOf}
+use Rattle.model.proofs.Tests.{no-refusal, first-of, rest-of, not-off, every-getD}
 use Rattle.model.proofs.Lists.{map-in, mem-getD}
 use Rattle.model.proofs.Perm.{perm-mem}
 use Rattle.model.proofs.Variables.{vars-out}

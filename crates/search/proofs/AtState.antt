@@ -2,18 +2,14 @@
 -- Assumes nothing.
 use mathlib.Core.Path.{_≡_, refl, sym, ap, ap₂, _∙_}
 use mathlib.Core.Bool.{Bool, true, false}
-use mathlib.Core.List.{List, [], _∷_, _++_, map}
-use Prim.Native.Nat.{ℕ, zero, suc, _+_, _-_, _<_, _≤_}
+use mathlib.Core.List.{List, [], _∷_, _++_}
+use Prim.Native.Nat.{ℕ, zero, suc, _+_, _-_, _≤_}
 use native.Mathlib.Omega.{arith}
-use native.Mathlib.Decide.{decLt}
-use lib.ListN.{length, getD, drop, length-map, drop-of-length-le}
-use lib.Seq.{slice, slice-cons, drop-cons, length-slice}
+use lib.ListN.{length, getD, drop, drop-of-length-le}
+use lib.Seq.{drop-cons}
 use Rattle.model.specs.Grammar.{Grammar}
 use Rattle.model.specs.GrammarFile.{grammarOf}
 use Rattle.model.specs.Rows.{Slot, RowState, anyRow, endRow, foundFromRow}
-use Rattle.model.proofs.FromFile.{rules-in}
-use Rattle.model.proofs.RowsBounds.{file-row}
-use Rattle.model.proofs.WellFormed.{rules-length}
 use Rattle.model.proofs.Tests.{not-both}
 use Rattle.rows.specs.Row.{unpacked, rowOf}
 use Rattle.search.specs.Tally.{effortBelow, Searched, spentOne, completed}

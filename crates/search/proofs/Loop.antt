@@ -2,25 +2,20 @@
 -- Assumes nothing.
 use mathlib.Core.Path.{_≡_, refl, sym, ap, subst, _∙_}
 use mathlib.Core.Bool.{Bool, true, false}
-use mathlib.Core.Option.{Option}
-use mathlib.Core.List.{List, [], _∷_, _++_, map}
+use mathlib.Core.List.{List, [], _++_}
 use Prim.Native.Nat.{ℕ, suc, _+_, _-_, _<_, _≤_}
 use native.Mathlib.Omega.{arith}
-use borrow.Author.Tests.{eqb-true}
 use lib.ListN.{length, getD, length-append}
-use lib.Seq.{slice-cons}
 use Rattle.model.specs.Base.{numbersFrom}
-use Rattle.model.specs.Grammar.{Rule, Grammar}
+use Rattle.model.specs.Grammar.{Grammar}
 use Rattle.model.specs.GrammarFile.{grammarOf}
 use Rattle.model.specs.Rows.{RowState, walkRow, anyRow, endRow}
-use Rattle.model.proofs.FromFile.{ruleRead, rule-read, rules-in}
-use Rattle.model.proofs.WellFormed.{rules-length}
 use Rattle.model.proofs.Tests.{not-both}
 use Rattle.rows.specs.Row.{unpacked, rowOf}
-use Rattle.search.specs.Chain.{isBy, isOf, firstRule}
+use Rattle.search.specs.Chain.{isOf, firstRule}
 use Rattle.search.specs.Tally.{Searched}
 use Rattle.search.specs.Search.{standing, Ready, under, upTo, SearchedUnder, SearchedRules, Fronted, done, CameTo}
-use Rattle.search.proofs.Rules.{upTo-next, upTo-more, other-rule, first-later, done-here, done-all, skipped, here-found}
+use Rattle.search.proofs.Rules.{upTo-next, upTo-more, other-rule, done-here, done-all, skipped, here-found}
 use Rattle.search.proofs.Searches.{found-none, searched-as, searched-joined}
 use Rattle.search.proofs.Walks.{each-few, count-few}
 use Rattle.search.proofs.Standing as st

@@ -2,25 +2,20 @@
 -- Assumes nothing.
 use mathlib.Core.Path.{_≡_, refl, sym, ap, subst, _∙_}
 use mathlib.Core.Bool.{Bool, true, false}
-use mathlib.Core.Option.{Option}
 use mathlib.Core.List.{List, [], _∷_, map}
 use Prim.Native.Nat.{ℕ, suc, _+_, _-_, _*_, _/_, _%_, _<_, _≤_}
 use native.Mathlib.Omega.{arith}
-use borrow.Author.Tests.{eqb-true}
 use lib.ListN.{length, getD, drop, length-map}
-use lib.Seq.{slice, length-slice}
-use Rattle.model.specs.Grammar.{Rule, Grammar}
+use Rattle.model.specs.Grammar.{Grammar}
 use Rattle.model.specs.GrammarFile.{grammarOf}
 use Rattle.model.specs.Rows.{RowState, moves, halts, stepRow, scanRow, walkRow, anyRow, endRow}
 use Rattle.model.specs.Step.{wordFits}
-use Rattle.model.proofs.FromFile.{ruleRead, rule-read, rules-in, accepted-right}
-use Rattle.model.proofs.RowsBounds.{reached-step, file-row}
-use Rattle.rows.specs.Row.{unpacked, rowOf, Held}
+use Rattle.model.proofs.FromFile.{ruleRead, rule-read, rules-in}
+use Rattle.rows.specs.Row.{rowOf, Held}
 use Rattle.rows.specs.Table.{CellsFit}
 use Rattle.rows.specs.Expand.{nextRow, Appended}
 use Rattle.recognizer.specs.Steps.{Stands, Goes}
 use Rattle.recognizer.proofs.Steps.{cells-fit, scans, too-long, room, expands}
-use Rattle.search.specs.Chain.{isBy}
 use Rattle.search.specs.Tally.{Searched, noted}
 use Rattle.search.specs.Search.{standing, Ready, SearchedAt, tails, under, SearchedTails, SearchedUnder, Fronted}
 use Rattle.search.proofs.Standing as st

@@ -3,7 +3,7 @@ ghost use mathlib.Core.Path.{_≡_};
 ghost use Prim.Native.Nat.{_+_, _-_, _*_, _<_, _≤_};
 ghost use lib.ListN.{length, getD};
 ghost use Rattle.search.specs.Search.{Known, KnownRule, KnownAt, KnownTails};
-ghost use Rattle.search.specs.Tally.{spentOne, completed, noted};
+ghost use Rattle.search.specs.Tally.{completed, noted};
 use model::Word;
 use recognizer::step::fits;
 use rows::row::category;

@@ -2,8 +2,8 @@
 ghost use mathlib.Core.Path.{_≡_};
 ghost use mathlib.Core.Option.{none};
 ghost use mathlib.Core.Bool.{false};
-ghost use Prim.Native.Nat.{suc, _<_, _≤_};
-ghost use lib.ListN.{getD, length, replicate};
+ghost use Prim.Native.Nat.{_<_};
+ghost use lib.ListN.{length, replicate};
 ghost use Rattle.model.specs.GrammarFile.{grammarOf, grammarRefusal, rulesOf, categoriesOf, daughtersOf, recordOf};
 ghost use Rattle.model.specs.Calls.{SurveyOutcome};
 ghost use Rattle.model.specs.Survey.{ready, visit, surveyRound, rounds, survey};

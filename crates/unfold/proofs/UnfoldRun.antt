@@ -9,8 +9,8 @@ use lib.Dec.{T}
 use lib.ListN.{length, getD}
 use Rattle.model.specs.Base.{numbersFrom}
 use Rattle.model.specs.Grammar.{Rule, Grammar, ruleAt}
-use Rattle.model.specs.GrammarFile.{grammarRefusal, grammarOf, recordOf, rulesOf}
-use Rattle.model.specs.Step.{Prediction, State, leads, step, begin}
+use Rattle.model.specs.GrammarFile.{grammarRefusal, grammarOf, recordOf}
+use Rattle.model.specs.Step.{Prediction, State, leads, begin}
 use Rattle.model.specs.Trace.{traceRefusal}
 use Rattle.model.specs.Tree.{Tree, Forest, node, nil, cons, preorder, hasRoot, hasRoots}
 use Rattle.model.specs.Conversions.{childAt, subtree, Step, Traces, BelongsTo, treeOf}

@@ -1,6 +1,6 @@
 -- `survey::survey` meets its contract.
 -- Assumes nothing.
-use mathlib.Core.Path.{_≡_, ap₂}
+use mathlib.Core.Path.{ap₂}
 use borrow.Rule.Slice.PartMut.{post-is}
 use mathlib.Core.List.{List, _++_}
 use Prim.Native.Nat.{ℕ, _≤_}

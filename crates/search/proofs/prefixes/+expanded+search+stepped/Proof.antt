@@ -9,7 +9,6 @@ use lib.ListN.{length, getD, length-set}
 use lib.Seq.{getD-set-other}
 use Rattle.model.specs.GrammarFile.{grammarOf}
 use Rattle.model.specs.Step.{wordFits}
-use Rattle.rows.specs.Row.{unpacked}
 use Rattle.search.specs.Tally.{spentOne}
 use Rattle.search.specs.Search.{standing, SearchedAt, SearchedUnder, Ready, KnownTo}
 use Rattle.search.proofs.Standing.{not-none, none-left, some-left, row-some}
