@@ -17,6 +17,9 @@ put-next a o i v e h =
     ∙ set-append-seam a (getD o i 0) (drop (suc i) o) v
     ∙ sym (append-assoc a (v ∷ []) (drop (suc i) o))
 
+pub less : (a b : ℕ) → a + b - a ≡ b
+less a b = omega arith
+
 pub copied-next : (cells out : List ℕ) (from i : ℕ) → from + i < length cells → i < length out
     → set (lowWords (slice from (from + i) cells) ++ drop i out) i (getD cells (from + i) 0 % 65536) ≡ lowWords (slice from (from + suc i) cells) ++ drop (suc i) out
 copied-next cells out from i h k =
@@ -26,6 +29,3 @@ copied-next cells out from i h k =
     ∙ ap (λ (l : List ℕ). l ++ drop (suc i) out)
     (sym (map-append (λ x. x % 65536) (slice from (from + i) cells) (getD cells (from + i) 0 ∷ []))
     ∙ ap lowWords (sym (slice-more from (from + i) cells (omega arith) h) ∙ ap (λ (t : ℕ). slice from t cells) (sym z)))
-  where
-    less : (f i : ℕ) → f + i - f ≡ i
-    less f i = omega arith

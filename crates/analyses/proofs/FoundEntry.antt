@@ -24,6 +24,7 @@ use Rattle.model.proofs.Lists.{mem-getD}
 use Rattle.model.proofs.RowsAgree.{rows-agree}
 use Rattle.model.proofs.WellFormed.{rules-length}
 use Rattle.search.specs.Tally.{kept, Searched}
+use Rattle.analyses.proofs.Copy.{less}
 use Rattle.analyses.specs.Tests.{afterSearch, lowWords}
 use Rattle.search.proofs.Kept.{entry-in}
 use Rattle.analyses.proofs.Entries.{Entry, entries, kept-long, kept-end, kept-at}
@@ -36,9 +37,6 @@ words-of after p place rules long within few stands small = ext-getD 0 (lowWords
   where
     part : List ℕ
     part = slice (3 + place) (3 + place + length p) after
-
-    less : (f i : ℕ) → f + i - f ≡ i
-    less f i = omega arith
 
     part-long : length (lowWords part) ≡ length p
     part-long = length-map part (λ x. x % 65536) ∙ length-slice (3 + place) (3 + place + length p) after (omega arith) ∙ less (3 + place) (length p)
@@ -123,9 +121,6 @@ module _ (file : List ℕ) (accepted : grammarRefusal file ≡ none) (sentence :
 
         pub steps-are : getD after 99 0 - (96 - n) ≡ length p
         steps-are = ap (λ (e : ℕ). e - (96 - n)) end-is ∙ less (96 - n) (length p)
-          where
-            less : (a b : ℕ) → a + b - a ≡ b
-            less a b = omega arith
 
         pub after-long : length after ≡ 100
         after-long = omega (arith, length-drop 3 after, ap length cells, kept-long (drop 3 before) (96 - n) p, cells-long)
