@@ -23,18 +23,23 @@ fn tree_of(file: &[u8], sentence: &[u16], trace: &[u16]) {
     print_written(v, &out);
 }
 
-// The cases, for the copy grammar's file.
-fn run(copy: &[u8]) {
-    // K4
+// K4, with the copy grammar's file.
+fn conversions(copy: &[u8]) {
     check(copy, &[0, 1, 0, 1], &[0, 1, 5, 4, 6, 6, 5]);
     trace_of(copy, &[0, 1, 0, 1], &[0, 1, 5, 4, 6, 6, 5]);
     tree_of(copy, &[0, 1, 0, 1], &[0, 1, 5, 4, 6, 5, 6]);
     tree_of(copy, &[0, 1, 0, 1], &[0, 1, 5, 4, 6, 6, 5]);
-    // K9
+}
+
+// K9.
+fn refused_lists(copy: &[u8]) {
     check(copy, &[0, 0], &[0, 3, 5]);
     check(copy, &[0, 0], &[0, 3, 5, 6]);
     check(copy, &[0, 0], &[0, 3, 5, 5, 5]);
-    // 13, and 22: the yield is another sentence, a shorter and a longer one
+}
+
+// 13, and 22: the yield is another sentence, a shorter and a longer one.
+fn refused_trees(copy: &[u8]) {
     check(copy, &[0, 0], &[0, 7]);
     check(copy, &[0, 1], &[0, 3, 5, 5]);
     check(copy, &[0], &[0, 3, 5, 5]);
@@ -45,5 +50,8 @@ fn run(copy: &[u8]) {
 fn main() {
     let mut file = [0u8; 1024];
     let n = load(b"grammar", &mut file);
-    run(&file[0..n]);
+    let copy = &file[0..n];
+    conversions(copy);
+    refused_lists(copy);
+    refused_trees(copy);
 }

@@ -12,20 +12,30 @@ fn show(path: &[u8]) {
     print_verdict(reader::read_grammar(&file[0..n]));
 }
 
-fn main() {
-    show(b"copy");
-    show(b"pair");
+// Blocks and heading: refusals 1 to 5.
+fn wrong_blocks() {
     show(b"wrong_length");
     show(b"wrong_check");
     show(b"wrong_kind");
     show(b"wrong_start");
     show(b"wrong_blocks");
     show(b"wrong_count");
+}
+
+// Rules: refusals 6 to 10.
+fn wrong_rules() {
     show(b"wrong_daughter");
     show(b"wrong_word");
     show(b"variable_twice");
     show(b"unused_byte");
     show(b"rest_of_block");
     show(b"repeated_rule");
+}
+
+fn main() {
+    show(b"copy");
+    show(b"pair");
+    wrong_blocks();
+    wrong_rules();
     show(b"no_such_file");
 }
