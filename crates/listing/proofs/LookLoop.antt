@@ -46,7 +46,7 @@ module _ (file table chain sentence : List ℕ) (read : ℕ) (q : List ℕ) (fro
   test = endsRow g S
 
   rules-few : R ≤ 256
-  rules-few = st.rules-few file table chain sentence read q from to pending made left stood
+  rules-few = st.rules-few stood
 
   module _ (k : ℕ) (desk₀ path₀ : List ℕ) (on : OnDesk k desk₀ path₀) (strictly : getD desk₀ 2 0 ≡ 1 → k < getD desk₀ 1 0) where
     abbrev F : ℕ → List (List ℕ)
@@ -63,7 +63,7 @@ module _ (file table chain sentence : List ℕ) (read : ℕ) (q : List ℕ) (fro
     others : (i : ℕ) → isOf g a i ≡ false → F i ≡ []
     others i e =
         ap (keep (passes (boundAt desk₀ path₀ k)))
-        (other-rule g S (unpacked (getD q from 0)) (rowOf q (suc from) to) (st.head file table chain sentence read q from to pending made left stood predicted) i e (λ u. walkRow g (anyRow g) (left - 1) u) (left - 1))
+        (other-rule g S (unpacked (getD q from 0)) (rowOf q (suc from) to) (st.head stood predicted) i e (λ u. walkRow g (anyRow g) (left - 1) u) (left - 1))
 
     came : (desk path : List ℕ) (m : ℕ) → m ≤ R → Looked test k desk₀ path₀ (upTo F m) true desk path → Way desk path (firstRule g a m (R - m))
         → At desk path (firstRule g a m (R - m))
@@ -76,7 +76,7 @@ module _ (file table chain sentence : List ℕ) (read : ℕ) (q : List ℕ) (fro
 
     pub came-first : (r : ℕ) → r ≡ getD chain a 0 → At desk₀ path₀ r
     came-first r e =
-        subst (At desk₀ path₀) (st.chain-first file table chain sentence read q from to pending made left stood r e) (came desk₀ path₀ 0 (omega arith) (looked-none test k desk₀ path₀ on) (way (either k desk₀ path₀ on)))
+        subst (At desk₀ path₀) (st.chain-first stood r e) (came desk₀ path₀ 0 (omega arith) (looked-none test k desk₀ path₀ on) (way (either k desk₀ path₀ on)))
       where
         way : (getD desk₀ 2 0 ≡ 0) ⊎ (getD desk₀ 2 0 ≡ 1) → Way desk₀ path₀ (firstRule g a 0 (R - 0))
         way (inl off) = inl (off, λ i h p. ap (λ (o : Option (List ℕ)). passes o (i ∷ p)) (bound-none k desk₀ path₀ off))
@@ -84,7 +84,7 @@ module _ (file table chain sentence : List ℕ) (read : ℕ) (q : List ℕ) (fro
 
     module _ (desk path : List ℕ) (r : ℕ) (at : At desk path r) (below : r < 256) where
       pub fronted : Fronted file q from pending r
-      fronted = st.fronted file table chain sentence read q from to pending made left stood r (at .rule-here below) predicted
+      fronted = st.fronted stood r (at .rule-here below) predicted
 
       pub on-now : OnDesk k desk path
       on-now =
@@ -125,11 +125,11 @@ module _ (file table chain sentence : List ℕ) (read : ℕ) (q : List ℕ) (fro
           (looked-as test k desk path desk′ path′ (beyond desk path k (under g (anyRow g) (left - 1) S r)) (F r) go list-now (w .looked)))
 
       pub later : (r′ : ℕ) → r′ ≡ getD chain (64 + r) 0 → 256 - r′ < 256 - r
-      later r′ e = st.later file table chain sentence read q from to pending made left stood r (at .rule-here below) r′ e
+      later r′ e = st.later stood r (at .rule-here below) r′ e
 
       pub came-next : (desk′ path′ : List ℕ) (r′ : ℕ) → LookedUnder g left S k desk path r true desk′ path′ → r′ ≡ getD chain (64 + r) 0 → At desk′ path′ r′
       came-next desk′ path′ r′ w e =
-          subst (At desk′ path′) (st.chain-next file table chain sentence read q from to pending made left stood r (at .rule-here below) r′ e)
+          subst (At desk′ path′) (st.chain-next stood r (at .rule-here below) r′ e)
           (came desk′ path′ (suc r) (omega (arith, at .rule-here below .0)) (together true desk′ path′ w)
           (way (firstRule g a (suc r) (R - suc r)) (first-later g a (suc r) (R - suc r) (omega (arith, at .rule-here below .0, rules-few))) (w .way refl) (at .way)))
         where

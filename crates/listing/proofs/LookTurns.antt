@@ -43,7 +43,7 @@ module _ (file table chain sentence : List ℕ) (read : ℕ) (q : List ℕ) (fro
   -- a state without predictions
   module _ (nothing-left : pending ≡ 0) where
     row-none : rowOf q from to ≡ []
-    row-none = st.row-none file table chain sentence read q from to pending made left stood nothing-left
+    row-none = st.row-none stood nothing-left
 
     by-words : (ws : List ℕ) → drop read sentence ≡ ws → finishedRow S ≡ (elim ws [ [] ↦ true | w ∷ us ↦ false ])
     by-words ws e = ap₂ (λ (row : List Slot) (us : List ℕ). finishedRow (record { row = row; made = made; pending = pending; words = us })) row-none e ∙ go ws
@@ -58,7 +58,7 @@ module _ (file table chain sentence : List ℕ) (read : ℕ) (q : List ℕ) (fro
         go : Dec (length sentence ≡ read) → test [] ≡ eqb (length sentence) read
         go (yes e) = by-words [] (drop-of-length-le sentence {i = read} (omega arith)) ∙ sym (eq-eqb (length sentence) read e)
         go (no e) =
-            by-words (getD sentence read 0 ∷ drop (suc read) sentence) (drop-cons sentence read 0 (st.word-left file table chain sentence read q from to pending made left stood e)) ∙ sym (ne-eqb (length sentence) read e)
+            by-words (getD sentence read 0 ∷ drop (suc read) sentence) (drop-cons sentence read 0 (st.word-left stood e)) ∙ sym (ne-eqb (length sentence) read e)
 
     pub at-end : (complete : Bool) → complete ≡ eqb (length sentence) read → (go : Bool) (desk′ : List ℕ) → go ≡ arrivedGoes k complete desk → desk′ ≡ arrivedDesk k complete desk
         → LookedAt g left S k desk path go desk′ path
@@ -73,7 +73,7 @@ module _ (file table chain sentence : List ℕ) (read : ℕ) (q : List ℕ) (fro
   module _ (predicted : 1 ≤ pending) where
     not-finished : test [] ≡ false
     not-finished =
-        ap (λ (row : List Slot). finishedRow (record { row = row; made = made; pending = pending; words = drop read sentence })) (st.head file table chain sentence read q from to pending made left stood predicted)
+        ap (λ (row : List Slot). finishedRow (record { row = row; made = made; pending = pending; words = drop read sentence })) (st.head stood predicted)
 
     pub next-on : (desk′ : List ℕ) → desk′ ≡ arrivedDesk k false desk → OnDesk k desk′ path
     next-on desk′ e = subst (λ (d : List ℕ). OnDesk k d path) (sym e) (goes-on k desk path on .on-desk)

@@ -56,7 +56,7 @@ module _ (file table chain sentence : List ℕ) (read : ℕ) (q : List ℕ) (fro
 
     module _ (nothing-left : pending ≡ 0) where
       row-none : rowOf q from to ≡ []
-      row-none = st.row-none file table chain sentence read q from to pending made fuel (ready .stood) nothing-left
+      row-none = st.row-none (ready .stood) nothing-left
 
       effort-one : 1 ≡ effortBelow g fuel S
       effort-one = ap length (sym (walk-empty g (anyRow g) fuel S row-none))
@@ -80,7 +80,7 @@ module _ (file table chain sentence : List ℕ) (read : ℕ) (q : List ℕ) (fro
 
       pub words-left : (length sentence ≡ read → ⊥) → SearchedAt g fuel S sheet true (spentOne sheet)
       words-left n =
-          let h = st.word-left file table chain sentence read q from to pending made fuel (ready .stood) n in
+          let h = st.word-left (ready .stood) n in
           searched-as sheet (spentOne sheet) [] (foundFromRow g fuel S) 1 (effortBelow g fuel S) (96 - fuel) true
           (found-is (getD sentence read 0 ∷ drop (suc read) sentence) (drop-cons sentence read 0 h)) effort-one spent
 
@@ -90,7 +90,7 @@ module _ (file table chain sentence : List ℕ) (read : ℕ) (q : List ℕ) (fro
       fuel-more = omega (arith, ready .stood .fits)
 
       head : rowOf q from to ≡ unpacked (getD q from 0) ∷ rowOf q (suc from) to
-      head = st.head file table chain sentence read q from to pending made fuel (ready .stood) predicted
+      head = st.head (ready .stood) predicted
 
       whole-effort : 1 + length (upTo (under g (anyRow g) (fuel - 1) S) R) ≡ effortBelow g fuel S
       whole-effort = sym (ap (λ (n : ℕ). effortBelow g n S) fuel-more ∙ walk-length g (anyRow g) (fuel - 1) S)

@@ -32,7 +32,7 @@ module _ (file table chain sentence : List ℕ) (read : ℕ) (q : List ℕ) (fro
   R = length (g .rules)
 
   rules-few : R ≤ 256
-  rules-few = st.rules-few file table chain sentence read q from to pending made fuel (ready .stood)
+  rules-few = st.rules-few (ready .stood)
 
   abbrev a : ℕ
   a = unpacked (getD q from 0) .category
@@ -47,7 +47,7 @@ module _ (file table chain sentence : List ℕ) (read : ℕ) (q : List ℕ) (fro
   At now r = CameTo g fuel S a sheet now r
 
   others : (leaf : RowState → List (List ℕ)) (i : ℕ) → isOf g a i ≡ false → under g leaf (fuel - 1) S i ≡ []
-  others leaf i e = other-rule g S (unpacked (getD q from 0)) (rowOf q (suc from) to) (st.head file table chain sentence read q from to pending made fuel (ready .stood) predicted) i e (λ u. walkRow g leaf (fuel - 1) u) (fuel - 1)
+  others leaf i e = other-rule g S (unpacked (getD q from 0)) (rowOf q (suc from) to) (st.head (ready .stood) predicted) i e (λ u. walkRow g leaf (fuel - 1) u) (fuel - 1)
 
   came : (now : List ℕ) (k : ℕ) → k ≤ R → Searched sheet (upTo found k) (length (upTo live k)) (96 - fuel) true now → At now (firstRule g a k (R - k))
   came now k h w =
@@ -58,11 +58,11 @@ module _ (file table chain sentence : List ℕ) (read : ℕ) (q : List ℕ) (fro
       }
 
   pub came-first : (r : ℕ) → r ≡ getD chain a 0 → At sheet r
-  came-first r e = subst (At sheet) (st.chain-first file table chain sentence read q from to pending made fuel (ready .stood) r e) (came sheet 0 (omega arith) (found-none sheet (96 - fuel)))
+  came-first r e = subst (At sheet) (st.chain-first (ready .stood) r e) (came sheet 0 (omega arith) (found-none sheet (96 - fuel)))
 
   module _ (now : List ℕ) (r : ℕ) (at : At now r) (below : r < 256) where
     pub fronted : Fronted file q from pending r
-    fronted = st.fronted file table chain sentence read q from to pending made fuel (ready .stood) r (at .rule-here below) predicted
+    fronted = st.fronted (ready .stood) r (at .rule-here below) predicted
 
     -- count and budget together do not grow
     pub ready-now : Ready file table chain sentence read q from to pending made fuel now
@@ -90,10 +90,10 @@ module _ (file table chain sentence : List ℕ) (read : ℕ) (q : List ℕ) (fro
 
     pub came-next : (after : List ℕ) (r′ : ℕ) → SearchedUnder g fuel S r now true after → r′ ≡ getD chain (64 + r) 0 → At after r′
     came-next after r′ w e =
-        subst (At after) (st.chain-next file table chain sentence read q from to pending made fuel (ready .stood) r (at .rule-here below) r′ e) (came after (suc r) (omega (arith, at .rule-here below .0)) (together true after w))
+        subst (At after) (st.chain-next (ready .stood) r (at .rule-here below) r′ e) (came after (suc r) (omega (arith, at .rule-here below .0)) (together true after w))
 
     pub later : (r′ : ℕ) → r′ ≡ getD chain (64 + r) 0 → 256 - r′ < 256 - r
-    later r′ e = st.later file table chain sentence read q from to pending made fuel (ready .stood) r (at .rule-here below) r′ e
+    later r′ e = st.later (ready .stood) r (at .rule-here below) r′ e
 
     pub over-budget : (after : List ℕ) → SearchedUnder g fuel S r now false after → SearchedRules g fuel S sheet false after
     over-budget after w =

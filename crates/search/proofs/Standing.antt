@@ -28,7 +28,7 @@ pub not-none : (n : ℕ) → (n ≡ 0 → ⊥) → 1 ≤ n
 not-none zero h = absurd (h refl)
 not-none (suc n) h = omega arith
 
-module _ (file table chain sentence : List ℕ) (read : ℕ) (q : List ℕ) (from to pending made left : ℕ)
+module _ {file table chain sentence : List ℕ} {read : ℕ} {q : List ℕ} {from to pending made left : ℕ}
     (stood : Stood file table chain sentence read q from to pending made left) where
   abbrev g : Grammar
   g = grammarOf file

@@ -33,13 +33,13 @@ module _ (file table chain sentence : List ℕ) (read : ℕ) (q : List ℕ) (fro
 
   module _ (r : ℕ) (fronted : Fronted file q from pending r) where
     stands : Stands g S (fuel - 1)
-    stands = st.stands file table chain sentence read q from to pending made fuel (ready .stood) (fronted .predicted) (ready .short)
+    stands = st.stands (ready .stood) (fronted .predicted) (ready .short)
 
     pub rule-small : r < 256
     rule-small = omega (arith, fronted .rule-is, rules-in file (ready .stood .accepted) .1)
 
     pub head-here : from < to
-    head-here = st.row-some file table chain sentence read q from to pending made fuel (ready .stood) (fronted .predicted)
+    head-here = st.row-some (ready .stood) (fronted .predicted)
 
     pub fit : CellsFit table (32 * r)
     fit = cells-fit file table q from to made pending (fuel - 1) r (drop read sentence) (ready .stood .accepted) (ready .stood .compiled) (ready .stood .held) stands (fronted .rule-is)
@@ -48,7 +48,7 @@ module _ (file table chain sentence : List ℕ) (read : ℕ) (q : List ℕ) (fro
     of-category : getD table (32 * r + 7) 0 ≡ getD q from 0 / 4 % 64
     of-category =
         ready .stood .compiled r (ruleRead file r) (rule-read file r (fronted .rule-is)) .category
-        ∙ st.of-head file table chain sentence read q from to pending made fuel (ready .stood) r (fronted .rule-is) (fronted .of-front)
+        ∙ st.of-head (ready .stood) r (fronted .rule-is) (fronted .of-front)
 
     -- a step that goes: the search from where it leads
     pub moved : (t : RowState) → stepRow g S r ≡ moves t → t .pending ≤ fuel - 1 → (b : Bool) (after : List ℕ) → SearchedAt g (fuel - 1) t sheet b after
@@ -73,7 +73,7 @@ module _ (file table chain sentence : List ℕ) (read : ℕ) (q : List ℕ) (fro
         → Ready file table chain sentence read′ q′ from′ to′ pending′ made′ (fuel - 1) sheet
     ready-there read′ q′ from′ to′ pending′ made′ e held known short numbered =
         record {
-          stood = st.stood-there file table chain sentence read q from to pending made fuel (ready .stood) r read′ q′ from′ to′ pending′ made′ e held known (fronted .predicted) short numbered;
+          stood = st.stood-there (ready .stood) r read′ q′ from′ to′ pending′ made′ e held known (fronted .predicted) short numbered;
           short = omega (arith, ready .short);
           long = ready .long;
           bounded = ready .bounded;

@@ -196,7 +196,7 @@ look-after-step-requires t c κs =
     let s = c .before .before .before in
     let a = s .args in
     let p = s .pre .1 in
-    (p .0 .accepted, p .0 .compiled, p .0 .held, refl {a = 384}, p .0 .known, stands (a .file .now) (a .t .now) (a .chain .now) (a .s .now) (a .read) (a .q .now) (a .from) (a .to) (a .pending) (a .made) (a .left) (p .0) (p .3) (omega (arith, p .2)))
+    (p .0 .accepted, p .0 .compiled, p .0 .held, refl {a = 384}, p .0 .known, stands (p .0) (p .3) (omega (arith, p .2)))
 
 -- src/look.rt:236:30
 look-after-enum-told : (t : ℕ) → look-after-lts.Need-enum-told (
@@ -289,7 +289,7 @@ look-after-look-requires t c κs =
     let a = s .args in
     let p = s .pre .1 in
     let goes = scan-goes t (c .before .before) in
-    (omega (arith, s .pre .0, p .0 .fits, p .3), (stood-there (a .file .now) (a .t .now) (a .chain .now) (a .s .now) (a .read) (a .q .now) (a .from) (a .to) (a .pending) (a .made) (a .left) (p .0) (a .r) _ _ _ _ _ _ (goes .0 .leads-to) (record { long = p .0 .held .long; ordered = omega (arith, goes .0 .fronted); within = p .0 .held .within }) (goes .1) (p .3) (goes .0 .short) (omega (arith, p .3)), on-there (a .file .now) (a .t .now) (a .chain .now) (a .s .now) (a .read) (a .q .now) (a .from) (a .to) (a .pending) (a .made) (a .left) (p .0) (a .k) (a .desk .now) (a .path .now) (p .1) (p .2) (p .3) (p .4) (a .r) (p .5), omega (arith, p .2, p .0 .fits, p .3)))
+    (omega (arith, s .pre .0, p .0 .fits, p .3), (stood-there (p .0) (a .r) _ _ _ _ _ _ (goes .0 .leads-to) (record { long = p .0 .held .long; ordered = omega (arith, goes .0 .fronted); within = p .0 .held .within }) (goes .1) (p .3) (goes .0 .short) (omega (arith, p .3)), on-there (a .file .now) (a .t .now) (a .chain .now) (a .s .now) (a .read) (a .q .now) (a .from) (a .to) (a .pending) (a .made) (a .left) (p .0) (a .k) (a .desk .now) (a .path .now) (p .1) (p .2) (p .3) (p .4) (a .r) (p .5), omega (arith, p .2, p .0 .fits, p .3)))
 
 -- src/look.rt:254:27
 look-after-enum-known-stepped-2 : (t : ℕ) → look-after-lts.Need-enum-known-stepped-2 (
@@ -386,7 +386,7 @@ look-after-look-requires-2 t c κs =
     let a = s .args in
     let p = s .pre .1 in
     let goes = row-goes t (c .before .before .before) in
-    (omega (arith, s .pre .0, p .0 .fits, p .3), (stood-there (a .file .now) (a .t .now) (a .chain .now) (a .s .now) (a .read) (a .q .now) (a .from) (a .to) (a .pending) (a .made) (a .left) (p .0) (a .r) _ _ _ _ _ _ (goes .0 .leads-to) (record { long = c .before .before .before .before .before .before .step .ensures .kept; ordered = omega arith; within = goes .1 }) (p .0 .known) (p .3) (goes .0 .short) (omega (arith, p .3)), on-there (a .file .now) (a .t .now) (a .chain .now) (a .s .now) (a .read) (a .q .now) (a .from) (a .to) (a .pending) (a .made) (a .left) (p .0) (a .k) (a .desk .now) (a .path .now) (p .1) (p .2) (p .3) (p .4) (a .r) (p .5), omega (arith, p .2, p .0 .fits, p .3)))
+    (omega (arith, s .pre .0, p .0 .fits, p .3), (stood-there (p .0) (a .r) _ _ _ _ _ _ (goes .0 .leads-to) (record { long = c .before .before .before .before .before .before .step .ensures .kept; ordered = omega arith; within = goes .1 }) (p .0 .known) (p .3) (goes .0 .short) (omega (arith, p .3)), on-there (a .file .now) (a .t .now) (a .chain .now) (a .s .now) (a .read) (a .q .now) (a .from) (a .to) (a .pending) (a .made) (a .left) (p .0) (a .k) (a .desk .now) (a .path .now) (p .1) (p .2) (p .3) (p .4) (a .r) (p .5), omega (arith, p .2, p .0 .fits, p .3)))
 
 -- src/look.rt:200:1
 look-after-returns : (t : ℕ) → look-after-lts.Need-returns (
@@ -469,7 +469,7 @@ look-rules-element-copy-out-category t c =
     let s = c .before .before in
     let a = s .args in
     let p = s .pre .1 in
-    omega (arith, row-some (a .file .now) (a .t .now) (a .chain .now) (a .s .now) (a .read) (a .q .now) (a .from) (a .to) (a .pending) (a .made) (a .left) (p .0) (p .3), p .0 .held .within)
+    omega (arith, row-some (p .0) (p .3), p .0 .held .within)
 
 -- src/look.rt:123:13
 look-rules-category-requires : (t : ℕ) → look-rules-lts.Need-category-requires (

@@ -278,7 +278,7 @@ search-returns-2 t c =
     let s = c .before .before .before .before .before .before .before in
     let a = s .args in
     λ f p.
-    subst (λ (x : List ℕ). SearchedAt (grammarOf f) (a .fuel) (standing (a .s .now) (a .read) (a .q .now) (a .from) (a .to) (a .pending) (a .made)) (a .sheet .now) true x) (sym (c .complete .ensures)) (all-read f (a .t .now) (a .chain .now) (a .s .now) (a .read) (a .q .now) (a .from) (a .to) (a .pending) (a .made) (a .fuel) (a .sheet .now) p (c .before .before .before .before .if1 .left) (none-left f (a .t .now) (a .chain .now) (a .s .now) (a .read) (a .q .now) (a .from) (a .to) (a .pending) (a .made) (a .fuel) (p .stood) (c .before .before .before .if2 .taken)) (c .before .before .if3 .taken))
+    subst (λ (x : List ℕ). SearchedAt (grammarOf f) (a .fuel) (standing (a .s .now) (a .read) (a .q .now) (a .from) (a .to) (a .pending) (a .made)) (a .sheet .now) true x) (sym (c .complete .ensures)) (all-read f (a .t .now) (a .chain .now) (a .s .now) (a .read) (a .q .now) (a .from) (a .to) (a .pending) (a .made) (a .fuel) (a .sheet .now) p (c .before .before .before .before .if1 .left) (none-left (p .stood) (c .before .before .before .if2 .taken)) (c .before .before .if3 .taken))
 
 -- src/search.rt:67:9
 search-returns-3 : (t : ℕ) → search-lts.Need-returns-3 (
@@ -295,7 +295,7 @@ search-returns-3 t c =
     let s = c .before .before .before .before .before in
     let a = s .args in
     λ f p.
-    words-left f (a .t .now) (a .chain .now) (a .s .now) (a .read) (a .q .now) (a .from) (a .to) (a .pending) (a .made) (a .fuel) (a .sheet .now) p (c .before .before .if1 .left) (none-left f (a .t .now) (a .chain .now) (a .s .now) (a .read) (a .q .now) (a .from) (a .to) (a .pending) (a .made) (a .fuel) (p .stood) (c .before .if2 .taken)) (c .if3 .left)
+    words-left f (a .t .now) (a .chain .now) (a .s .now) (a .read) (a .q .now) (a .from) (a .to) (a .pending) (a .made) (a .fuel) (a .sheet .now) p (c .before .before .if1 .left) (none-left (p .stood) (c .before .if2 .taken)) (c .if3 .left)
 
 -- src/search.rt:69:22
 search-mul-category : (t : ℕ) → search-lts.Need-mul-category (
@@ -326,7 +326,7 @@ search-element-copy-out-category t c =
     let a = s .args in
     let f = s .pre .1 .file in
     let p = s .pre .1 .ready in
-    omega (arith, row-some f (a .t .now) (a .chain .now) (a .s .now) (a .read) (a .q .now) (a .from) (a .to) (a .pending) (a .made) (a .fuel) (p .stood) (some-left (s .pre .1 .file) (a .t .now) (a .chain .now) (a .s .now) (a .read) (a .q .now) (a .from) (a .to) (a .pending) (a .made) (a .fuel) (s .pre .1 .ready .stood) (c .if2 .left)), p .stood .held .within)
+    omega (arith, row-some (p .stood) (some-left (s .pre .1 .ready .stood) (c .if2 .left)), p .stood .held .within)
 
 -- src/search.rt:69:13
 search-category-requires : (t : ℕ) → search-lts.Need-category-requires (
@@ -394,7 +394,7 @@ search-loop-holds : (t : ℕ) → search-lts.Need-loop-holds (
 search-loop-holds t c =
     let s = c .before .before .before .before .before .before .before .before in
     let a = s .args in
-    let h = some-left (s .pre .1 .file) (a .t .now) (a .chain .now) (a .s .now) (a .read) (a .q .now) (a .from) (a .to) (a .pending) (a .made) (a .fuel) (s .pre .1 .ready .stood) (c .before .before .before .before .if2 .left) in
+    let h = some-left (s .pre .1 .ready .stood) (c .before .before .before .before .if2 .left) in
     (length-set (a .sheet .now) 1 _ ∙ s .pre .1 .ready .long, λ f ready. came-first f (a .t .now) (a .chain .now) (a .s .now) (a .read) (a .q .now) (a .from) (a .to) (a .pending) (a .made) (a .fuel) (spentOne (a .sheet .now)) ready h _ (ap (λ (k : ℕ). getD (a .chain .now) k 0) (c .before .before .category .ensures)))
 
 -- src/search.rt:72:21
@@ -426,7 +426,7 @@ search-stepped-requires t c κs =
     let s = u .before .before .before .before .before .before .before .before .before in
     let a = s .args in
     let b = u .before .before .before .before .before .before .if1 .left in
-    let h = some-left (s .pre .1 .file) (a .t .now) (a .chain .now) (a .s .now) (a .read) (a .q .now) (a .from) (a .to) (a .pending) (a .made) (a .fuel) (s .pre .1 .ready .stood) (u .before .before .before .before .before .if2 .left) in
+    let h = some-left (s .pre .1 .ready .stood) (u .before .before .before .before .before .if2 .left) in
     let f = s .pre .1 .file in
     let p = s .pre .1 .ready in
     let ready = rules-ready f (a .t .now) (a .chain .now) (a .s .now) (a .read) (a .q .now) (a .from) (a .to) (a .pending) (a .made) (a .fuel) (a .sheet .now) p b h in
@@ -449,7 +449,7 @@ search-note-requires t c κs =
     let s = u .before .before .before .before .before .before .before .before .before in
     let a = s .args in
     let b = u .before .before .before .before .before .before .if1 .left in
-    let h = some-left (s .pre .1 .file) (a .t .now) (a .chain .now) (a .s .now) (a .read) (a .q .now) (a .from) (a .to) (a .pending) (a .made) (a .fuel) (s .pre .1 .ready .stood) (u .before .before .before .before .before .if2 .left) in
+    let h = some-left (s .pre .1 .ready .stood) (u .before .before .before .before .before .if2 .left) in
     let f = s .pre .1 .file in
     let p = s .pre .1 .ready in
     let ready = rules-ready f (a .t .now) (a .chain .now) (a .s .now) (a .read) (a .q .now) (a .from) (a .to) (a .pending) (a .made) (a .fuel) (a .sheet .now) p b h in
@@ -524,7 +524,7 @@ search-loop-less t c =
     let s = u .before .before .before .before .before .before .before .before .before in
     let a = s .args in
     let b = u .before .before .before .before .before .before .if1 .left in
-    let h = some-left (s .pre .1 .file) (a .t .now) (a .chain .now) (a .s .now) (a .read) (a .q .now) (a .from) (a .to) (a .pending) (a .made) (a .fuel) (s .pre .1 .ready .stood) (u .before .before .before .before .before .if2 .left) in
+    let h = some-left (s .pre .1 .ready .stood) (u .before .before .before .before .before .if2 .left) in
     let f = s .pre .1 .file in
     let p = s .pre .1 .ready in
     let ready = rules-ready f (a .t .now) (a .chain .now) (a .s .now) (a .read) (a .q .now) (a .from) (a .to) (a .pending) (a .made) (a .fuel) (a .sheet .now) p b h in
@@ -546,7 +546,7 @@ search-loop-again t c =
     let s = u .before .before .before .before .before .before .before .before .before in
     let a = s .args in
     let b = u .before .before .before .before .before .before .if1 .left in
-    let h = some-left (s .pre .1 .file) (a .t .now) (a .chain .now) (a .s .now) (a .read) (a .q .now) (a .from) (a .to) (a .pending) (a .made) (a .fuel) (s .pre .1 .ready .stood) (u .before .before .before .before .before .if2 .left) in
+    let h = some-left (s .pre .1 .ready .stood) (u .before .before .before .before .before .if2 .left) in
     let test : u .loop .r < 256 = omega (arith, c .before .before .before .before .before .before .before .loop-test .taken) in
     let k = c .before .before .before .before .stepped in
     let w : (f : List ℕ) → Ready f (a .t .now) (a .chain .now) (a .s .now) (a .read) (a .q .now) (a .from) (a .to) (a .pending) (a .made) (a .fuel) (spentOne (a .sheet .now)) → SearchedUnder (grammarOf f) (a .fuel) (standing (a .s .now) (a .read) (a .q .now) (a .from) (a .to) (a .pending) (a .made)) (u .loop .r) (u .loop .sheet) true _ =
@@ -574,7 +574,7 @@ search-returns-4 t c =
     let s = u .before .before .before .before .before .before .before .before .before in
     let a = s .args in
     let b = u .before .before .before .before .before .before .if1 .left in
-    let h = some-left (s .pre .1 .file) (a .t .now) (a .chain .now) (a .s .now) (a .read) (a .q .now) (a .from) (a .to) (a .pending) (a .made) (a .fuel) (s .pre .1 .ready .stood) (u .before .before .before .before .before .if2 .left) in
+    let h = some-left (s .pre .1 .ready .stood) (u .before .before .before .before .before .if2 .left) in
     λ f p.
     let ready = rules-ready f (a .t .now) (a .chain .now) (a .s .now) (a .read) (a .q .now) (a .from) (a .to) (a .pending) (a .made) (a .fuel) (a .sheet .now) p b h in
     let test : u .loop .r < 256 = omega (arith, c .before .before .before .before .before .before .loop-test .taken) in
@@ -602,7 +602,7 @@ search-returns-5 t c =
     let s = u .before .before .before .before .before .before .before .before .before in
     let a = s .args in
     let b = u .before .before .before .before .before .before .if1 .left in
-    let h = some-left (s .pre .1 .file) (a .t .now) (a .chain .now) (a .s .now) (a .read) (a .q .now) (a .from) (a .to) (a .pending) (a .made) (a .fuel) (s .pre .1 .ready .stood) (u .before .before .before .before .before .if2 .left) in
+    let h = some-left (s .pre .1 .ready .stood) (u .before .before .before .before .before .if2 .left) in
     λ f p.
     let ready = rules-ready f (a .t .now) (a .chain .now) (a .s .now) (a .read) (a .q .now) (a .from) (a .to) (a .pending) (a .made) (a .fuel) (a .sheet .now) p b h in
     below-rules f (a .t .now) (a .chain .now) (a .s .now) (a .read) (a .q .now) (a .from) (a .to) (a .pending) (a .made) (a .fuel) (a .sheet .now) p b h true _ (came-last f (a .t .now) (a .chain .now) (a .s .now) (a .read) (a .q .now) (a .from) (a .to) (a .pending) (a .made) (a .fuel) (spentOne (a .sheet .now)) ready h (u .loop .sheet) (u .loop .r) (u .loop .inv .1 f ready) (omega (arith, c .loop-test .left)))
