@@ -19,7 +19,7 @@ use Rattle.search.proofs.Walks.{walk-empty, walk-length}
 use Rattle.search.proofs.Standing.{not-none}
 use Rattle.search.proofs.Standing as st
 
-module _ (file table chain sentence : List ℕ) (read : ℕ) (q : List ℕ) (from to pending made fuel : ℕ) (sheet : List ℕ)
+module _ {file table chain sentence : List ℕ} {read : ℕ} {q : List ℕ} {from to pending made fuel : ℕ} {sheet : List ℕ}
     (ready : Ready file table chain sentence read q from to pending made fuel sheet) where
   abbrev g : Grammar
   g = grammarOf file

@@ -20,7 +20,7 @@ use Rattle.search.proofs.Searches.{found-none, searched-as, searched-jo
 use Rattle.search.proofs.Walks.{each-few, count-few}
 use Rattle.search.proofs.Standing as st
 
-module _ (file table chain sentence : List ℕ) (read : ℕ) (q : List ℕ) (from to pending made fuel : ℕ) (sheet : List ℕ)
+module _ {file table chain sentence : List ℕ} {read : ℕ} {q : List ℕ} {from to pending made fuel : ℕ} {sheet : List ℕ}
     (ready : Ready file table chain sentence read q from to pending made fuel sheet) (predicted : 1 ≤ pending) where
   abbrev g : Grammar
   g = grammarOf file
@@ -60,7 +60,7 @@ module _ (file table chain sentence : List ℕ) (read : ℕ) (q : List ℕ) (fro
   pub came-first : (r : ℕ) → r ≡ getD chain a 0 → At sheet r
   came-first r e = subst (At sheet) (st.chain-first (ready .stood) r e) (came sheet 0 (omega arith) (found-none sheet (96 - fuel)))
 
-  module _ (now : List ℕ) (r : ℕ) (at : At now r) (below : r < 256) where
+  module _ {now : List ℕ} {r : ℕ} (at : At now r) (below : r < 256) where
     pub fronted : Fronted file q from pending r
     fronted = st.fronted (ready .stood) r (at .rule-here below) predicted
 
@@ -107,8 +107,8 @@ module _ (file table chain sentence : List ℕ) (read : ℕ) (q : List ℕ) (fro
           entry = λ f. not-both (sym f);
         }
 
-  pub came-last : (now : List ℕ) (r : ℕ) → At now r → 256 ≤ r → SearchedRules g fuel S sheet true now
-  came-last now r at h =
+  pub came-last : {now : List ℕ} {r : ℕ} → At now r → 256 ≤ r → SearchedRules g fuel S sheet true now
+  came-last {now} {r} at h =
       let d = done-all g a rules-few r (omega (arith, rules-few)) in
       searched-as sheet now (upTo found (done R r)) (upTo found R) (length (upTo live (done R r))) (length (upTo live R)) (96 - fuel) true
       (ap (upTo found) d) (ap (λ (k : ℕ). length (upTo live k)) d) (at .so-far)

@@ -23,7 +23,7 @@ use Rattle.search.proofs.Scans.{scan-empty, scan-none, scan-fits, scan-
 use Rattle.search.proofs.Searches.{found-none, searched-as, searched-under}
 use Rattle.search.proofs.Walks.{under-tails, tails-moves, tails-long, tails-halts}
 
-module _ (file table chain sentence : List ℕ) (read : ℕ) (q : List ℕ) (from to pending made fuel : ℕ) (sheet : List ℕ)
+module _ {file table chain sentence : List ℕ} {read : ℕ} {q : List ℕ} {from to pending made fuel : ℕ} {sheet : List ℕ}
     (ready : Ready file table chain sentence read q from to pending made fuel sheet) where
   abbrev g : Grammar
   g = grammarOf file
@@ -31,7 +31,7 @@ module _ (file table chain sentence : List ℕ) (read : ℕ) (q : List ℕ) (fro
   abbrev S : RowState
   S = standing sentence read q from to pending made
 
-  module _ (r : ℕ) (fronted : Fronted file q from pending r) where
+  module _ {r : ℕ} (fronted : Fronted file q from pending r) where
     stands : Stands g S (fuel - 1)
     stands = st.stands (ready .stood) (fronted .predicted) (ready .short)
 

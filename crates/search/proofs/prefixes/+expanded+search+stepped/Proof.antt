@@ -91,7 +91,7 @@ expanded-expand-requires t c κs =
     let fr = p .0 .fronted in
     let h : 0 < getD (a .t .now) (32 * a .r) 0 = omega (arith, p .1, p .2) in
     let l : a .pending + getD (a .t .now) (32 * a .r) 0 ≤ a .fuel = omega (arith, p .1, p .3) in
-    (fit f (a .t .now) (a .chain .now) (a .s .now) (a .read) (a .q .now) (a .from) (a .to) (a .pending) (a .made) (a .fuel) (a .sheet .now) rd (a .r) fr, rd .stood .held, head-here f (a .t .now) (a .chain .now) (a .s .now) (a .read) (a .q .now) (a .from) (a .to) (a .pending) (a .made) (a .fuel) (a .sheet .now) rd (a .r) fr, made-small f (a .t .now) (a .chain .now) (a .s .now) (a .read) (a .q .now) (a .from) (a .to) (a .pending) (a .made) (a .fuel) (a .sheet .now) rd (a .r) fr h l, refl, row-room f (a .t .now) (a .chain .now) (a .s .now) (a .read) (a .q .now) (a .from) (a .to) (a .pending) (a .made) (a .fuel) (a .sheet .now) rd (a .r) fr h l)
+    (fit rd fr, rd .stood .held, head-here rd fr, made-small rd fr h l, refl, row-room rd fr h l)
 
 -- src/search.rt:205:9
 expanded-sub-search : (t : ℕ) → expanded-lts.Need-sub-search (
@@ -152,7 +152,7 @@ expanded-search-requires t c κs =
     let rd = p .0 .ready in
     let fr = p .0 .fronted in
     let x = c .before .before .expand in
-    (omega (arith, s .pre .0, rd .stood .fits, fr .predicted), record { file = f; ready = row-ready-by f (a .t .now) (a .chain .now) (a .s .now) (a .read) (a .q .now) (a .from) (a .to) (a .pending) (a .made) (a .fuel) (a .sheet .now) rd (a .r) fr (a .d) (p .1) (p .2) (p .3) _ _ (x .result) (x .ensures) (x .ensures .kept) })
+    (omega (arith, s .pre .0, rd .stood .fits, fr .predicted), record { file = f; ready = row-ready-by rd fr (a .d) (p .1) (p .2) (p .3) _ _ (x .result) (x .ensures) (x .ensures .kept) })
 
 -- src/search.rt:176:1
 expanded-returns : (t : ℕ) → expanded-lts.Need-returns (
@@ -168,7 +168,7 @@ expanded-returns t c =
     λ f rd fr.
     let x = c .before .before .before .expand in
     let k = c .search in
-    next-row-by f (a .t .now) (a .chain .now) (a .s .now) (a .read) (a .q .now) (a .from) (a .to) (a .pending) (a .made) (a .fuel) (a .sheet .now) rd (a .r) fr (a .d) (p .1) (p .2) (p .3) _ _ (x .result) (x .ensures) (x .ensures .kept) (k .result) _ (k .ensures f (row-ready-by f (a .t .now) (a .chain .now) (a .s .now) (a .read) (a .q .now) (a .from) (a .to) (a .pending) (a .made) (a .fuel) (a .sheet .now) rd (a .r) fr (a .d) (p .1) (p .2) (p .3) _ _ (x .result) (x .ensures) (x .ensures .kept)))
+    next-row-by rd fr (a .d) (p .1) (p .2) (p .3) _ _ (x .result) (x .ensures) (x .ensures .kept) (k .result) _ (k .ensures f (row-ready-by rd fr (a .d) (p .1) (p .2) (p .3) _ _ (x .result) (x .ensures) (x .ensures .kept)))
 
 abbrev search-Inv-loop : search-lts.InvT-loop
 search-Inv-loop sheet₀ t chain q from to s read pending made fuel place budget a r₀ sheet r =
@@ -218,7 +218,7 @@ search-returns t c =
     let s = c .before .before .before in
     let a = s .args in
     λ f p.
-    no-budget f (a .t .now) (a .chain .now) (a .s .now) (a .read) (a .q .now) (a .from) (a .to) (a .pending) (a .made) (a .fuel) (a .sheet .now) p (c .if1 .taken)
+    no-budget p (c .if1 .taken)
 
 -- src/search.rt:62:16
 search-sub-sheet : (t : ℕ) → search-lts.Need-sub-sheet (
@@ -278,7 +278,7 @@ search-returns-2 t c =
     let s = c .before .before .before .before .before .before .before in
     let a = s .args in
     λ f p.
-    subst (λ (x : List ℕ). SearchedAt (grammarOf f) (a .fuel) (standing (a .s .now) (a .read) (a .q .now) (a .from) (a .to) (a .pending) (a .made)) (a .sheet .now) true x) (sym (c .complete .ensures)) (all-read f (a .t .now) (a .chain .now) (a .s .now) (a .read) (a .q .now) (a .from) (a .to) (a .pending) (a .made) (a .fuel) (a .sheet .now) p (c .before .before .before .before .if1 .left) (none-left (p .stood) (c .before .before .before .if2 .taken)) (c .before .before .if3 .taken))
+    subst (λ (x : List ℕ). SearchedAt (grammarOf f) (a .fuel) (standing (a .s .now) (a .read) (a .q .now) (a .from) (a .to) (a .pending) (a .made)) (a .sheet .now) true x) (sym (c .complete .ensures)) (all-read p (c .before .before .before .before .if1 .left) (none-left (p .stood) (c .before .before .before .if2 .taken)) (c .before .before .if3 .taken))
 
 -- src/search.rt:67:9
 search-returns-3 : (t : ℕ) → search-lts.Need-returns-3 (
@@ -295,7 +295,7 @@ search-returns-3 t c =
     let s = c .before .before .before .before .before in
     let a = s .args in
     λ f p.
-    words-left f (a .t .now) (a .chain .now) (a .s .now) (a .read) (a .q .now) (a .from) (a .to) (a .pending) (a .made) (a .fuel) (a .sheet .now) p (c .before .before .if1 .left) (none-left (p .stood) (c .before .if2 .taken)) (c .if3 .left)
+    words-left p (c .before .before .if1 .left) (none-left (p .stood) (c .before .if2 .taken)) (c .if3 .left)
 
 -- src/search.rt:69:22
 search-mul-category : (t : ℕ) → search-lts.Need-mul-category (
@@ -395,7 +395,7 @@ search-loop-holds t c =
     let s = c .before .before .before .before .before .before .before .before in
     let a = s .args in
     let h = some-left (s .pre .1 .ready .stood) (c .before .before .before .before .if2 .left) in
-    (length-set (a .sheet .now) 1 _ ∙ s .pre .1 .ready .long, λ f ready. came-first f (a .t .now) (a .chain .now) (a .s .now) (a .read) (a .q .now) (a .from) (a .to) (a .pending) (a .made) (a .fuel) (spentOne (a .sheet .now)) ready h _ (ap (λ (k : ℕ). getD (a .chain .now) k 0) (c .before .before .category .ensures)))
+    (length-set (a .sheet .now) 1 _ ∙ s .pre .1 .ready .long, λ f ready. came-first ready h _ (ap (λ (k : ℕ). getD (a .chain .now) k 0) (c .before .before .category .ensures)))
 
 -- src/search.rt:72:21
 search-element-copy-out-first : (t : ℕ) → search-lts.Need-element-copy-out-first (
@@ -429,9 +429,9 @@ search-stepped-requires t c κs =
     let h = some-left (s .pre .1 .ready .stood) (u .before .before .before .before .before .if2 .left) in
     let f = s .pre .1 .file in
     let p = s .pre .1 .ready in
-    let ready = rules-ready f (a .t .now) (a .chain .now) (a .s .now) (a .read) (a .q .now) (a .from) (a .to) (a .pending) (a .made) (a .fuel) (a .sheet .now) p b h in
+    let ready = rules-ready p b h in
     let test : u .loop .r < 256 = omega (arith, c .before .before .loop-test .taken) in
-    (omega (arith, s .pre .0), record { file = f; ready = ready-now f (a .t .now) (a .chain .now) (a .s .now) (a .read) (a .q .now) (a .from) (a .to) (a .pending) (a .made) (a .fuel) (spentOne (a .sheet .now)) ready h (u .loop .sheet) (u .loop .r) (u .loop .inv .1 f ready) test; fronted = fronted f (a .t .now) (a .chain .now) (a .s .now) (a .read) (a .q .now) (a .from) (a .to) (a .pending) (a .made) (a .fuel) (spentOne (a .sheet .now)) ready h (u .loop .sheet) (u .loop .r) (u .loop .inv .1 f ready) test })
+    (omega (arith, s .pre .0), record { file = f; ready = ready-now ready h (u .loop .inv .1 f ready) test; fronted = fronted ready h (u .loop .inv .1 f ready) test })
 
 -- src/search.rt:87:9
 search-note-requires : (t : ℕ) → search-lts.Need-note-requires (
@@ -452,9 +452,9 @@ search-note-requires t c κs =
     let h = some-left (s .pre .1 .ready .stood) (u .before .before .before .before .before .if2 .left) in
     let f = s .pre .1 .file in
     let p = s .pre .1 .ready in
-    let ready = rules-ready f (a .t .now) (a .chain .now) (a .s .now) (a .read) (a .q .now) (a .from) (a .to) (a .pending) (a .made) (a .fuel) (a .sheet .now) p b h in
+    let ready = rules-ready p b h in
     let test : u .loop .r < 256 = omega (arith, c .before .before .before .before .loop-test .taken) in
-    (c .before .stepped .ensures f (ready-now f (a .t .now) (a .chain .now) (a .s .now) (a .read) (a .q .now) (a .from) (a .to) (a .pending) (a .made) (a .fuel) (spentOne (a .sheet .now)) ready h (u .loop .sheet) (u .loop .r) (u .loop .inv .1 f ready) test) (fronted f (a .t .now) (a .chain .now) (a .s .now) (a .read) (a .q .now) (a .from) (a .to) (a .pending) (a .made) (a .fuel) (spentOne (a .sheet .now)) ready h (u .loop .sheet) (u .loop .r) (u .loop .inv .1 f ready) test) .long ∙ u .loop .inv .0, omega (arith, p .short))
+    (c .before .stepped .ensures f (ready-now ready h (u .loop .inv .1 f ready) test) (fronted ready h (u .loop .inv .1 f ready) test) .long ∙ u .loop .inv .0, omega (arith, p .short))
 
 -- src/search.rt:89:21
 search-cast-i : (t : ℕ) → search-lts.Need-cast-i (
@@ -527,8 +527,8 @@ search-loop-less t c =
     let h = some-left (s .pre .1 .ready .stood) (u .before .before .before .before .before .if2 .left) in
     let f = s .pre .1 .file in
     let p = s .pre .1 .ready in
-    let ready = rules-ready f (a .t .now) (a .chain .now) (a .s .now) (a .read) (a .q .now) (a .from) (a .to) (a .pending) (a .made) (a .fuel) (a .sheet .now) p b h in
-    later f (a .t .now) (a .chain .now) (a .s .now) (a .read) (a .q .now) (a .from) (a .to) (a .pending) (a .made) (a .fuel) (spentOne (a .sheet .now)) ready h (u .loop .sheet) (u .loop .r) (u .loop .inv .1 f ready) (omega (arith, c .before .before .before .before .before .before .before .loop-test .taken)) _ refl
+    let ready = rules-ready p b h in
+    later ready h (u .loop .inv .1 f ready) (omega (arith, c .before .before .before .before .before .before .before .loop-test .taken)) _ refl
 
 -- src/search.rt:71:5
 search-loop-again : (t : ℕ) → search-lts.Need-loop-again (
@@ -551,12 +551,12 @@ search-loop-again t c =
     let k = c .before .before .before .before .stepped in
     let w : (f : List ℕ) → Ready f (a .t .now) (a .chain .now) (a .s .now) (a .read) (a .q .now) (a .from) (a .to) (a .pending) (a .made) (a .fuel) (spentOne (a .sheet .now)) → SearchedUnder (grammarOf f) (a .fuel) (standing (a .s .now) (a .read) (a .q .now) (a .from) (a .to) (a .pending) (a .made)) (u .loop .r) (u .loop .sheet) true _ =
     λ f ready.
-    let now = ready-now f (a .t .now) (a .chain .now) (a .s .now) (a .read) (a .q .now) (a .from) (a .to) (a .pending) (a .made) (a .fuel) (spentOne (a .sheet .now)) ready h (u .loop .sheet) (u .loop .r) (u .loop .inv .1 f ready) test in
-    let fr = fronted f (a .t .now) (a .chain .now) (a .s .now) (a .read) (a .q .now) (a .from) (a .to) (a .pending) (a .made) (a .fuel) (spentOne (a .sheet .now)) ready h (u .loop .sheet) (u .loop .r) (u .loop .inv .1 f ready) test in
+    let now = ready-now ready h (u .loop .inv .1 f ready) test in
+    let fr = fronted ready h (u .loop .inv .1 f ready) test in
     subst (λ (x : List ℕ). SearchedUnder (grammarOf f) (a .fuel) (standing (a .s .now) (a .read) (a .q .now) (a .from) (a .to) (a .pending) (a .made)) (u .loop .r) (u .loop .sheet) true x) (sym (c .before .before .note .ensures))
-    (noted-rule f (a .t .now) (a .chain .now) (a .s .now) (a .read) (a .q .now) (a .from) (a .to) (a .pending) (a .made) (a .fuel) (u .loop .sheet) now (u .loop .r) fr true _ (rw (c .before .if4 .taken) at (k .ensures f now fr))) in
+    (noted-rule now fr true _ (rw (c .before .if4 .taken) at (k .ensures f now fr))) in
     let f₀ = s .pre .1 .file in
-    (w f₀ (rules-ready f₀ (a .t .now) (a .chain .now) (a .s .now) (a .read) (a .q .now) (a .from) (a .to) (a .pending) (a .made) (a .fuel) (a .sheet .now) (s .pre .1 .ready) b h) .long ∙ u .loop .inv .0, λ f ready. came-next f (a .t .now) (a .chain .now) (a .s .now) (a .read) (a .q .now) (a .from) (a .to) (a .pending) (a .made) (a .fuel) (spentOne (a .sheet .now)) ready h (u .loop .sheet) (u .loop .r) (u .loop .inv .1 f ready) test _ _ (w f ready) refl)
+    (w f₀ (rules-ready (s .pre .1 .ready) b h) .long ∙ u .loop .inv .0, λ f ready. came-next ready h (u .loop .inv .1 f ready) test _ _ (w f ready) refl)
 
 -- src/search.rt:92:13
 search-returns-4 : (t : ℕ) → search-lts.Need-returns-4 (
@@ -576,15 +576,15 @@ search-returns-4 t c =
     let b = u .before .before .before .before .before .before .if1 .left in
     let h = some-left (s .pre .1 .ready .stood) (u .before .before .before .before .before .if2 .left) in
     λ f p.
-    let ready = rules-ready f (a .t .now) (a .chain .now) (a .s .now) (a .read) (a .q .now) (a .from) (a .to) (a .pending) (a .made) (a .fuel) (a .sheet .now) p b h in
+    let ready = rules-ready p b h in
     let test : u .loop .r < 256 = omega (arith, c .before .before .before .before .before .before .loop-test .taken) in
     let k = c .before .before .before .stepped in
-    let now = ready-now f (a .t .now) (a .chain .now) (a .s .now) (a .read) (a .q .now) (a .from) (a .to) (a .pending) (a .made) (a .fuel) (spentOne (a .sheet .now)) ready h (u .loop .sheet) (u .loop .r) (u .loop .inv .1 f ready) test in
-    let fr = fronted f (a .t .now) (a .chain .now) (a .s .now) (a .read) (a .q .now) (a .from) (a .to) (a .pending) (a .made) (a .fuel) (spentOne (a .sheet .now)) ready h (u .loop .sheet) (u .loop .r) (u .loop .inv .1 f ready) test in
+    let now = ready-now ready h (u .loop .inv .1 f ready) test in
+    let fr = fronted ready h (u .loop .inv .1 f ready) test in
     let w =
     subst (λ (x : List ℕ). SearchedUnder (grammarOf f) (a .fuel) (standing (a .s .now) (a .read) (a .q .now) (a .from) (a .to) (a .pending) (a .made)) (u .loop .r) (u .loop .sheet) false x) (sym (c .before .note .ensures))
-    (noted-rule f (a .t .now) (a .chain .now) (a .s .now) (a .read) (a .q .now) (a .from) (a .to) (a .pending) (a .made) (a .fuel) (u .loop .sheet) now (u .loop .r) fr false _ (rw (c .if4 .left) at (k .ensures f now fr))) in
-    below-rules f (a .t .now) (a .chain .now) (a .s .now) (a .read) (a .q .now) (a .from) (a .to) (a .pending) (a .made) (a .fuel) (a .sheet .now) p b h false _ (over-budget f (a .t .now) (a .chain .now) (a .s .now) (a .read) (a .q .now) (a .from) (a .to) (a .pending) (a .made) (a .fuel) (spentOne (a .sheet .now)) ready h (u .loop .sheet) (u .loop .r) (u .loop .inv .1 f ready) test _ w)
+    (noted-rule now fr false _ (rw (c .if4 .left) at (k .ensures f now fr))) in
+    below-rules p b h false _ (over-budget ready h (u .loop .inv .1 f ready) test _ w)
 
 -- src/search.rt:41:1
 search-returns-5 : (t : ℕ) → search-lts.Need-returns-5 (
@@ -604,8 +604,8 @@ search-returns-5 t c =
     let b = u .before .before .before .before .before .before .if1 .left in
     let h = some-left (s .pre .1 .ready .stood) (u .before .before .before .before .before .if2 .left) in
     λ f p.
-    let ready = rules-ready f (a .t .now) (a .chain .now) (a .s .now) (a .read) (a .q .now) (a .from) (a .to) (a .pending) (a .made) (a .fuel) (a .sheet .now) p b h in
-    below-rules f (a .t .now) (a .chain .now) (a .s .now) (a .read) (a .q .now) (a .from) (a .to) (a .pending) (a .made) (a .fuel) (a .sheet .now) p b h true _ (came-last f (a .t .now) (a .chain .now) (a .s .now) (a .read) (a .q .now) (a .from) (a .to) (a .pending) (a .made) (a .fuel) (spentOne (a .sheet .now)) ready h (u .loop .sheet) (u .loop .r) (u .loop .inv .1 f ready) (omega (arith, c .loop-test .left)))
+    let ready = rules-ready p b h in
+    below-rules p b h true _ (came-last ready h (u .loop .inv .1 f ready) (omega (arith, c .loop-test .left)))
 
 -- src/search.rt:116:14
 stepped-mul-at : (t : ℕ) → stepped-lts.Need-mul-at (
@@ -642,7 +642,7 @@ stepped-daughters-requires t c κs =
     let f = p .file in
     let rd = p .ready in
     let fr = p .fronted in
-    omega (arith, rule-small f (a .t .now) (a .chain .now) (a .s .now) (a .read) (a .q .now) (a .from) (a .to) (a .pending) (a .made) (a .fuel) (a .sheet .now) rd (a .r) fr)
+    omega (arith, rule-small rd fr)
 
 -- src/search.rt:119:13
 stepped-word-requires : (t : ℕ) → stepped-lts.Need-word-requires (
@@ -664,7 +664,7 @@ stepped-word-requires t c κs =
     let f = p .file in
     let rd = p .ready in
     let fr = p .fronted in
-    omega (arith, rule-small f (a .t .now) (a .chain .now) (a .s .now) (a .read) (a .q .now) (a .from) (a .to) (a .pending) (a .made) (a .fuel) (a .sheet .now) rd (a .r) fr)
+    omega (arith, rule-small rd fr)
 
 -- src/search.rt:126:17
 stepped-add-search : (t : ℕ) → stepped-lts.Need-add-search (
@@ -752,7 +752,7 @@ stepped-search-requires t c κs =
     let f = p .file in
     let rd = p .ready in
     let fr = p .fronted in
-    (omega (arith, s .pre .0, fr .predicted, rd .stood .fits), record { file = f; ready = empty-ready f (a .t .now) (a .chain .now) (a .s .now) (a .read) (a .q .now) (a .from) (a .to) (a .pending) (a .made) (a .fuel) (a .sheet .now) rd (a .r) fr (sym (c .before .before .before .before .before .daughters .ensures) ∙ (c .before .before .before .before .if1 .taken)) (sym (c .before .before .before .word .ensures) ∙ (c .before .if2 .taken)) })
+    (omega (arith, s .pre .0, fr .predicted, rd .stood .fits), record { file = f; ready = empty-ready rd fr (sym (c .before .before .before .before .before .daughters .ensures) ∙ (c .before .before .before .before .if1 .taken)) (sym (c .before .before .before .word .ensures) ∙ (c .before .if2 .taken)) })
 
 -- src/search.rt:121:13
 stepped-returns : (t : ℕ) → stepped-lts.Need-returns (
@@ -772,7 +772,7 @@ stepped-returns t c =
     let a = s .args in
     λ f rd fr.
     let k = c .search in
-    empty-word f (a .t .now) (a .chain .now) (a .s .now) (a .read) (a .q .now) (a .from) (a .to) (a .pending) (a .made) (a .fuel) (a .sheet .now) rd (a .r) fr (sym (c .before .before .before .before .before .before .daughters .ensures) ∙ (c .before .before .before .before .before .if1 .taken)) (sym (c .before .before .before .before .word .ensures) ∙ (c .before .before .if2 .taken)) (k .result) _ (k .ensures f (empty-ready f (a .t .now) (a .chain .now) (a .s .now) (a .read) (a .q .now) (a .from) (a .to) (a .pending) (a .made) (a .fuel) (a .sheet .now) rd (a .r) fr (sym (c .before .before .before .before .before .before .daughters .ensures) ∙ (c .before .before .before .before .before .if1 .taken)) (sym (c .before .before .before .before .word .ensures) ∙ (c .before .before .if2 .taken))))
+    empty-word rd fr (sym (c .before .before .before .before .before .before .daughters .ensures) ∙ (c .before .before .before .before .before .if1 .taken)) (sym (c .before .before .before .before .word .ensures) ∙ (c .before .before .if2 .taken)) (k .result) _ (k .ensures f (empty-ready rd fr (sym (c .before .before .before .before .before .before .daughters .ensures) ∙ (c .before .before .before .before .before .if1 .taken)) (sym (c .before .before .before .before .word .ensures) ∙ (c .before .before .if2 .taken))))
 
 -- src/search.rt:136:13
 stepped-returns-2 : (t : ℕ) → stepped-lts.Need-returns-2 (
@@ -791,7 +791,7 @@ stepped-returns-2 t c =
     let s = c .before .before .before .before .before .before .before in
     let a = s .args in
     λ f rd fr.
-    no-words f (a .t .now) (a .chain .now) (a .s .now) (a .read) (a .q .now) (a .from) (a .to) (a .pending) (a .made) (a .fuel) (a .sheet .now) rd (a .r) fr (sym (c .before .before .before .before .before .daughters .ensures) ∙ (c .before .before .before .before .if1 .taken)) (λ z. (c .before .if2 .left) ((c .before .before .before .word .ensures) ∙ z)) (c .if3 .taken)
+    no-words rd fr (sym (c .before .before .before .before .before .daughters .ensures) ∙ (c .before .before .before .before .if1 .taken)) (λ z. (c .before .if2 .left) ((c .before .before .before .word .ensures) ∙ z)) (c .if3 .taken)
 
 -- src/search.rt:138:20
 stepped-mul-fits : (t : ℕ) → stepped-lts.Need-mul-fits (
@@ -946,7 +946,7 @@ stepped-search-requires-2 t c κs =
     let f = p .file in
     let rd = p .ready in
     let fr = p .fronted in
-    (omega (arith, s .pre .0, fr .predicted, rd .stood .fits), record { file = f; ready = word-ready f (a .t .now) (a .chain .now) (a .s .now) (a .read) (a .q .now) (a .from) (a .to) (a .pending) (a .made) (a .fuel) (a .sheet .now) rd (a .r) fr (sym (c .before .before .before .before .before .before .before .before .before .daughters .ensures) ∙ (c .before .before .before .before .before .before .before .before .if1 .taken)) (λ z. (c .before .before .before .before .before .if2 .left) ((c .before .before .before .before .before .before .before .word .ensures) ∙ z)) (c .before .before .before .before .if3 .left) (ap (λ (w : ℕ). wordFits w (getD (a .s .now) (a .read) 0)) (sym (c .before .before .before .before .before .before .before .word .ensures)) ∙ sym (c .before .before .fits2 .ensures) ∙ (c .before .if4 .taken)) })
+    (omega (arith, s .pre .0, fr .predicted, rd .stood .fits), record { file = f; ready = word-ready rd fr (sym (c .before .before .before .before .before .before .before .before .before .daughters .ensures) ∙ (c .before .before .before .before .before .before .before .before .if1 .taken)) (λ z. (c .before .before .before .before .before .if2 .left) ((c .before .before .before .before .before .before .before .word .ensures) ∙ z)) (c .before .before .before .before .if3 .left) (ap (λ (w : ℕ). wordFits w (getD (a .s .now) (a .read) 0)) (sym (c .before .before .before .before .before .before .before .word .ensures)) ∙ sym (c .before .before .fits2 .ensures) ∙ (c .before .if4 .taken)) })
 
 -- src/search.rt:139:13
 stepped-returns-3 : (t : ℕ) → stepped-lts.Need-returns-3 (
@@ -966,7 +966,7 @@ stepped-returns-3 t c =
     let a = s .args in
     λ f rd fr.
     let k = c .search2 in
-    next-word f (a .t .now) (a .chain .now) (a .s .now) (a .read) (a .q .now) (a .from) (a .to) (a .pending) (a .made) (a .fuel) (a .sheet .now) rd (a .r) fr (sym (c .before .before .before .before .before .before .before .before .before .before .daughters .ensures) ∙ (c .before .before .before .before .before .before .before .before .before .if1 .taken)) (λ z. (c .before .before .before .before .before .before .if2 .left) ((c .before .before .before .before .before .before .before .before .word .ensures) ∙ z)) (c .before .before .before .before .before .if3 .left) (ap (λ (w : ℕ). wordFits w (getD (a .s .now) (a .read) 0)) (sym (c .before .before .before .before .before .before .before .before .word .ensures)) ∙ sym (c .before .before .before .fits2 .ensures) ∙ (c .before .before .if4 .taken)) (k .result) _ (k .ensures f (word-ready f (a .t .now) (a .chain .now) (a .s .now) (a .read) (a .q .now) (a .from) (a .to) (a .pending) (a .made) (a .fuel) (a .sheet .now) rd (a .r) fr (sym (c .before .before .before .before .before .before .before .before .before .before .daughters .ensures) ∙ (c .before .before .before .before .before .before .before .before .before .if1 .taken)) (λ z. (c .before .before .before .before .before .before .if2 .left) ((c .before .before .before .before .before .before .before .before .word .ensures) ∙ z)) (c .before .before .before .before .before .if3 .left) (ap (λ (w : ℕ). wordFits w (getD (a .s .now) (a .read) 0)) (sym (c .before .before .before .before .before .before .before .before .word .ensures)) ∙ sym (c .before .before .before .fits2 .ensures) ∙ (c .before .before .if4 .taken))))
+    next-word rd fr (sym (c .before .before .before .before .before .before .before .before .before .before .daughters .ensures) ∙ (c .before .before .before .before .before .before .before .before .before .if1 .taken)) (λ z. (c .before .before .before .before .before .before .if2 .left) ((c .before .before .before .before .before .before .before .before .word .ensures) ∙ z)) (c .before .before .before .before .before .if3 .left) (ap (λ (w : ℕ). wordFits w (getD (a .s .now) (a .read) 0)) (sym (c .before .before .before .before .before .before .before .before .word .ensures)) ∙ sym (c .before .before .before .fits2 .ensures) ∙ (c .before .before .if4 .taken)) (k .result) _ (k .ensures f (word-ready rd fr (sym (c .before .before .before .before .before .before .before .before .before .before .daughters .ensures) ∙ (c .before .before .before .before .before .before .before .before .before .if1 .taken)) (λ z. (c .before .before .before .before .before .before .if2 .left) ((c .before .before .before .before .before .before .before .before .word .ensures) ∙ z)) (c .before .before .before .before .before .if3 .left) (ap (λ (w : ℕ). wordFits w (getD (a .s .now) (a .read) 0)) (sym (c .before .before .before .before .before .before .before .before .word .ensures)) ∙ sym (c .before .before .before .fits2 .ensures) ∙ (c .before .before .if4 .taken))))
 
 -- src/search.rt:153:9
 stepped-returns-4 : (t : ℕ) → stepped-lts.Need-returns-4 (
@@ -985,7 +985,7 @@ stepped-returns-4 t c =
     let s = c .before .before .before .before .before .before .before .before .before .before in
     let a = s .args in
     λ f rd fr.
-    other-word f (a .t .now) (a .chain .now) (a .s .now) (a .read) (a .q .now) (a .from) (a .to) (a .pending) (a .made) (a .fuel) (a .sheet .now) rd (a .r) fr (sym (c .before .before .before .before .before .before .before .before .daughters .ensures) ∙ (c .before .before .before .before .before .before .before .if1 .taken)) (λ z. (c .before .before .before .before .if2 .left) ((c .before .before .before .before .before .before .word .ensures) ∙ z)) (c .before .before .before .if3 .left) (ap (λ (w : ℕ). wordFits w (getD (a .s .now) (a .read) 0)) (sym (c .before .before .before .before .before .before .word .ensures)) ∙ sym (c .before .fits2 .ensures) ∙ c .if4 .left)
+    other-word rd fr (sym (c .before .before .before .before .before .before .before .before .daughters .ensures) ∙ (c .before .before .before .before .before .before .before .if1 .taken)) (λ z. (c .before .before .before .before .if2 .left) ((c .before .before .before .before .before .before .word .ensures) ∙ z)) (c .before .before .before .if3 .left) (ap (λ (w : ℕ). wordFits w (getD (a .s .now) (a .read) 0)) (sym (c .before .before .before .before .before .before .word .ensures)) ∙ sym (c .before .fits2 .ensures) ∙ c .if4 .left)
 
 -- src/search.rt:155:25
 stepped-cast-if5 : (t : ℕ) → stepped-lts.Need-cast-if5 (
@@ -1022,7 +1022,7 @@ stepped-add-if5 t c =
     let f = p .file in
     let rd = p .ready in
     let fr = p .fronted in
-    omega (arith, rd .stood .fits, rd .short, fit f (a .t .now) (a .chain .now) (a .s .now) (a .read) (a .q .now) (a .from) (a .to) (a .pending) (a .made) (a .fuel) (a .sheet .now) rd (a .r) fr .few, (c .before .daughters .ensures))
+    omega (arith, rd .stood .fits, rd .short, fit rd fr .few, (c .before .daughters .ensures))
 
 -- src/search.rt:156:9
 stepped-returns-5 : (t : ℕ) → stepped-lts.Need-returns-5 (
@@ -1041,7 +1041,7 @@ stepped-returns-5 t c =
     let s = c .before .before .before .before in
     let a = s .args in
     λ f rd fr.
-    queue-long f (a .t .now) (a .chain .now) (a .s .now) (a .read) (a .q .now) (a .from) (a .to) (a .pending) (a .made) (a .fuel) (a .sheet .now) rd (a .r) fr (not-none (getD (a .t .now) (32 * a .r) 0) (λ z. (c .before .if1 .left) ((c .before .before .daughters .ensures) ∙ z))) (omega (arith, c .if5 .taken, (c .before .before .daughters .ensures)))
+    queue-long rd fr (not-none (getD (a .t .now) (32 * a .r) 0) (λ z. (c .before .if1 .left) ((c .before .before .daughters .ensures) ∙ z))) (omega (arith, c .if5 .taken, (c .before .before .daughters .ensures)))
 
 -- src/search.rt:158:5
 stepped-expanded-requires : (t : ℕ) → stepped-lts.Need-expanded-requires (
