@@ -28,7 +28,7 @@ still k desk path (nothing b) e h = h .1
 still k desk path (found p) e h = not-both e
 still k desk path over e h = not-both e
 
-module _ (file table chain sentence : List ℕ) (read : ℕ) (q : List ℕ) (from to pending made left : ℕ)
+module _ {file table chain sentence : List ℕ} {read : ℕ} {q : List ℕ} {from to pending made left : ℕ}
     (stood : Stood file table chain sentence read q from to pending made left) (predicted : 1 ≤ pending) where
   abbrev g : Grammar
   g = grammarOf file
@@ -48,7 +48,7 @@ module _ (file table chain sentence : List ℕ) (read : ℕ) (q : List ℕ) (fro
   rules-few : R ≤ 256
   rules-few = st.rules-few stood
 
-  module _ (k : ℕ) (desk₀ path₀ : List ℕ) (on : OnDesk k desk₀ path₀) (strictly : getD desk₀ 2 0 ≡ 1 → k < getD desk₀ 1 0) where
+  module _ {k : ℕ} {desk₀ path₀ : List ℕ} (on : OnDesk k desk₀ path₀) (strictly : getD desk₀ 2 0 ≡ 1 → k < getD desk₀ 1 0) where
     abbrev F : ℕ → List (List ℕ)
     F i = beyond desk₀ path₀ k (under g (anyRow g) (left - 1) S i)
 
@@ -82,7 +82,7 @@ module _ (file table chain sentence : List ℕ) (read : ℕ) (q : List ℕ) (fro
         way (inl off) = inl (off, λ i h p. ap (λ (o : Option (List ℕ)). passes o (i ∷ p)) (bound-none k desk₀ path₀ off))
         way (inr w) = inr (refl, refl, w)
 
-    module _ (desk path : List ℕ) (r : ℕ) (at : At desk path r) (below : r < 256) where
+    module _ {desk path : List ℕ} {r : ℕ} (at : At desk path r) (below : r < 256) where
       pub fronted : Fronted file q from pending r
       fronted = st.fronted stood r (at .rule-here below) predicted
 
@@ -150,6 +150,6 @@ module _ (file table chain sentence : List ℕ) (read : ℕ) (q : List ℕ) (fro
           looked-as test k desk₀ path₀ desk′ path′ (upTo F (suc r) ++ s .0) (upTo F R) false (sym (s .1))
           (looked-stopped test k desk₀ path₀ desk′ path′ (upTo F (suc r)) (s .0) (together false desk′ path′ w))
 
-    pub came-last : (desk path : List ℕ) (r : ℕ) → At desk path r → 256 ≤ r → LookedRules g left S k desk₀ path₀ true desk path
-    came-last desk path r at h =
+    pub came-last : {desk path : List ℕ} {r : ℕ} → At desk path r → 256 ≤ r → LookedRules g left S k desk₀ path₀ true desk path
+    came-last {desk} {path} {r} at h =
         looked-as test k desk₀ path₀ desk path (upTo F (done R r)) (upTo F R) true (ap (upTo F) (done-all g a rules-few r (omega (arith, rules-few)))) (at .so-far)

@@ -26,8 +26,8 @@ use Rattle.listing.proofs.LookRules.{under-same}
 use Rattle.search.proofs.Standing as st
 use Rattle.search.proofs.Walks.{walk-empty, tails-moves, tails-long, tails-halts}
 
-module _ (file table chain sentence : List ℕ) (read : ℕ) (q : List ℕ) (from to pending made left : ℕ)
-    (stood : Stood file table chain sentence read q from to pending made left) (k : ℕ) (desk path : List ℕ) (on : OnDesk k desk path) (room : k + left ≤ 96) where
+module _ {file table chain sentence : List ℕ} {read : ℕ} {q : List ℕ} {from to pending made left : ℕ}
+    (stood : Stood file table chain sentence read q from to pending made left) {k : ℕ} {desk path : List ℕ} (on : OnDesk k desk path) (room : k + left ≤ 96) where
   abbrev g : Grammar
   g = grammarOf file
 
@@ -115,7 +115,7 @@ module _ (file table chain sentence : List ℕ) (read : ℕ) (q : List ℕ) (fro
         (subst (λ (b : Bool). Looked test k desk path (beyond desk path k one) b (arrivedDesk k false desk) path) (sym goes) here)))
 
     -- the step of rule r, which stands at place k
-    module _ (strictly : getD desk 2 0 ≡ 1 → k < getD desk 1 0) (r : ℕ) (at : getD path k 0 ≡ r) where
+    module _ (strictly : getD desk 2 0 ≡ 1 → k < getD desk 1 0) {r : ℕ} (at : getD path k 0 ≡ r) where
       abbrev rest : List (List ℕ)
       rest = tails g (anyRow g) (left - 1) S r
 
@@ -141,7 +141,7 @@ module _ (file table chain sentence : List ℕ) (read : ℕ) (q : List ℕ) (fro
       longer u e h = nothing-after (tails-long g (anyRow g) (left - 1) S u r e h)
 
       -- where the step leads
-      module _ (u : RowState) (goes : Goes (stepRow g S r) u (left - 1) from to) where
+      module _ {u : RowState} (goes : Goes (stepRow g S r) u (left - 1) from to) where
         pub moved : (go : Bool) (desk′ path′ : List ℕ) → LookedAt g (left - 1) u (k + 1) desk path go desk′ path′ → LookedAfter g left S k desk path r go desk′ path′
         moved go desk′ path′ w =
             let e : rest ≡ liveFromRow g (left - 1) u = tails-moves g (anyRow g) (left - 1) S u r (goes .leads-to) (goes .short) in

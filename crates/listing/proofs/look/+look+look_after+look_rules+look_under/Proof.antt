@@ -118,7 +118,7 @@ look-returns t c =
     let s = c .before .before .before .before .before in
     let a = s .args in
     let p = s .pre .1 in
-    at-end (a .file .now) (a .t .now) (a .chain .now) (a .s .now) (a .read) (a .q .now) (a .from) (a .to) (a .pending) (a .made) (a .left) (p .0) (a .k) (a .desk .now) (a .path .now) (p .1) (p .2) (c .before .before .if1 .taken) _ refl (c .arrive .result) _ (c .arrive .ensures .0) (c .arrive .ensures .1)
+    at-end (p .0) (p .1) (p .2) (c .before .before .if1 .taken) _ refl (c .arrive .result) _ (c .arrive .ensures .0) (c .arrive .ensures .1)
 
 -- src/look.rt:82:8
 look-arrive-requires-2 : (t : ℕ) → look-lts.Need-arrive-requires-2 (
@@ -144,7 +144,7 @@ look-look-rules-requires t c κs =
     let s = c .before .before .before .before .before .before .before .before in
     let a = s .args in
     let p = s .pre .1 in
-    (omega (arith, s .pre .0), (p .0, next-on (a .file .now) (a .t .now) (a .chain .now) (a .s .now) (a .read) (a .q .now) (a .from) (a .to) (a .pending) (a .made) (a .left) (p .0) (a .k) (a .desk .now) (a .path .now) (p .1) (p .2) (not-none (a .pending) (c .before .before .before .before .before .if1 .left)) _ (c .before .before .before .arrive2 .ensures .1), p .2, (not-none (a .pending) (c .before .before .before .before .before .if1 .left)), next-strictly (a .file .now) (a .t .now) (a .chain .now) (a .s .now) (a .read) (a .q .now) (a .from) (a .to) (a .pending) (a .made) (a .left) (p .0) (a .k) (a .desk .now) (a .path .now) (p .1) (p .2) (not-none (a .pending) (c .before .before .before .before .before .if1 .left)) _ (c .before .before .before .arrive2 .ensures .1)))
+    (omega (arith, s .pre .0), (p .0, next-on (p .0) (p .1) (p .2) (not-none (a .pending) (c .before .before .before .before .before .if1 .left)) _ (c .before .before .before .arrive2 .ensures .1), p .2, (not-none (a .pending) (c .before .before .before .before .before .if1 .left)), next-strictly (p .0) (p .1) (p .2) (not-none (a .pending) (c .before .before .before .before .before .if1 .left)) _ (c .before .before .before .arrive2 .ensures .1)))
 
 -- src/look.rt:83:9
 look-returns-2 : (t : ℕ) → look-lts.Need-returns-2 (
@@ -157,7 +157,7 @@ look-returns-2 t c =
     let s = c .before .before .before .before .before .before .before .before .before in
     let a = s .args in
     let p = s .pre .1 in
-    with-rules (a .file .now) (a .t .now) (a .chain .now) (a .s .now) (a .read) (a .q .now) (a .from) (a .to) (a .pending) (a .made) (a .left) (p .0) (a .k) (a .desk .now) (a .path .now) (p .1) (p .2) (not-none (a .pending) (c .before .before .before .before .before .before .if1 .left)) (sym (c .before .before .before .if2 .taken) ∙ c .before .before .before .before .arrive2 .ensures .0) _ (c .before .before .before .before .arrive2 .ensures .1) (c .look-rules .result) _ _ (c .look-rules .ensures)
+    with-rules (p .0) (p .1) (p .2) (not-none (a .pending) (c .before .before .before .before .before .before .if1 .left)) (sym (c .before .before .before .if2 .taken) ∙ c .before .before .before .before .arrive2 .ensures .0) _ (c .before .before .before .before .arrive2 .ensures .1) (c .look-rules .result) _ _ (c .look-rules .ensures)
 
 -- src/look.rt:60:1
 look-returns-3 : (t : ℕ) → look-lts.Need-returns-3 (
@@ -170,7 +170,7 @@ look-returns-3 t c =
     let s = c .before .before .before .before .before .before in
     let a = s .args in
     let p = s .pre .1 in
-    no-more (a .file .now) (a .t .now) (a .chain .now) (a .s .now) (a .read) (a .q .now) (a .from) (a .to) (a .pending) (a .made) (a .left) (p .0) (a .k) (a .desk .now) (a .path .now) (p .1) (p .2) (not-none (a .pending) (c .before .before .before .if1 .left)) (sym (c .if2 .left) ∙ c .before .arrive2 .ensures .0) _ (c .before .arrive2 .ensures .1)
+    no-more (p .0) (p .1) (p .2) (not-none (a .pending) (c .before .before .before .if1 .left)) (sym (c .if2 .left) ∙ c .before .arrive2 .ensures .0) _ (c .before .arrive2 .ensures .1)
 
 -- src/look.rt:231:9
 look-after-sub-step : (t : ℕ) → look-after-lts.Need-sub-step (
@@ -289,7 +289,7 @@ look-after-look-requires t c κs =
     let a = s .args in
     let p = s .pre .1 in
     let goes = scan-goes t (c .before .before) in
-    (omega (arith, s .pre .0, p .0 .fits, p .3), (stood-there (p .0) (a .r) _ _ _ _ _ _ (goes .0 .leads-to) (record { long = p .0 .held .long; ordered = omega (arith, goes .0 .fronted); within = p .0 .held .within }) (goes .1) (p .3) (goes .0 .short) (omega (arith, p .3)), on-there (a .file .now) (a .t .now) (a .chain .now) (a .s .now) (a .read) (a .q .now) (a .from) (a .to) (a .pending) (a .made) (a .left) (p .0) (a .k) (a .desk .now) (a .path .now) (p .1) (p .2) (p .3) (p .4) (a .r) (p .5), omega (arith, p .2, p .0 .fits, p .3)))
+    (omega (arith, s .pre .0, p .0 .fits, p .3), (stood-there (p .0) (a .r) _ _ _ _ _ _ (goes .0 .leads-to) (record { long = p .0 .held .long; ordered = omega (arith, goes .0 .fronted); within = p .0 .held .within }) (goes .1) (p .3) (goes .0 .short) (omega (arith, p .3)), on-there (p .0) (p .1) (p .2) (p .3) (p .4) (p .5), omega (arith, p .2, p .0 .fits, p .3)))
 
 -- src/look.rt:254:27
 look-after-enum-known-stepped-2 : (t : ℕ) → look-after-lts.Need-enum-known-stepped-2 (
@@ -386,7 +386,7 @@ look-after-look-requires-2 t c κs =
     let a = s .args in
     let p = s .pre .1 in
     let goes = row-goes t (c .before .before .before) in
-    (omega (arith, s .pre .0, p .0 .fits, p .3), (stood-there (p .0) (a .r) _ _ _ _ _ _ (goes .0 .leads-to) (record { long = c .before .before .before .before .before .before .step .ensures .kept; ordered = omega arith; within = goes .1 }) (p .0 .known) (p .3) (goes .0 .short) (omega (arith, p .3)), on-there (a .file .now) (a .t .now) (a .chain .now) (a .s .now) (a .read) (a .q .now) (a .from) (a .to) (a .pending) (a .made) (a .left) (p .0) (a .k) (a .desk .now) (a .path .now) (p .1) (p .2) (p .3) (p .4) (a .r) (p .5), omega (arith, p .2, p .0 .fits, p .3)))
+    (omega (arith, s .pre .0, p .0 .fits, p .3), (stood-there (p .0) (a .r) _ _ _ _ _ _ (goes .0 .leads-to) (record { long = c .before .before .before .before .before .before .step .ensures .kept; ordered = omega arith; within = goes .1 }) (p .0 .known) (p .3) (goes .0 .short) (omega (arith, p .3)), on-there (p .0) (p .1) (p .2) (p .3) (p .4) (p .5), omega (arith, p .2, p .0 .fits, p .3)))
 
 -- src/look.rt:200:1
 look-after-returns : (t : ℕ) → look-after-lts.Need-returns (
@@ -399,7 +399,7 @@ look-after-returns t c =
     let s = c .before .before .before .before .before .before in
     let a = s .args in
     let p = s .pre .1 in
-    halted (a .file .now) (a .t .now) (a .chain .now) (a .s .now) (a .read) (a .q .now) (a .from) (a .to) (a .pending) (a .made) (a .left) (p .0) (a .k) (a .desk .now) (a .path .now) (p .1) (p .2) (p .3) (p .4) (a .r) (p .5) _ (rw (c .enum-told .given .1) at (c .before .before .step .ensures .says))
+    halted (p .0) (p .1) (p .2) (p .3) (p .4) (p .5) _ (rw (c .enum-told .given .1) at (c .before .before .step .ensures .says))
 
 -- src/look.rt:200:1
 look-after-returns-2 : (t : ℕ) → look-after-lts.Need-returns-2 (
@@ -413,7 +413,7 @@ look-after-returns-2 t c =
     let a = s .args in
     let p = s .pre .1 in
     let l : (u : RowState) × (stepRow (grammarOf (a .file .now)) (standing (a .s .now) (a .read) (a .q .now) (a .from) (a .to) (a .pending) (a .made)) (a .r) ≡ moves u) × (a .left - 1 < u .pending) = rw (c .enum-told2 .given .1) at (c .before .before .step .ensures .says) in
-    longer (a .file .now) (a .t .now) (a .chain .now) (a .s .now) (a .read) (a .q .now) (a .from) (a .to) (a .pending) (a .made) (a .left) (p .0) (a .k) (a .desk .now) (a .path .now) (p .1) (p .2) (p .3) (p .4) (a .r) (p .5) (l .0) (l .1) (l .2)
+    longer (p .0) (p .1) (p .2) (p .3) (p .4) (p .5) (l .0) (l .1) (l .2)
 
 -- src/look.rt:200:1
 look-after-returns-3 : (t : ℕ) → look-after-lts.Need-returns-3 (
@@ -426,7 +426,7 @@ look-after-returns-3 t c =
     let s = c .before .before .before .before .before .before .before .before .before .before in
     let a = s .args in
     let p = s .pre .1 in
-    moved (a .file .now) (a .t .now) (a .chain .now) (a .s .now) (a .read) (a .q .now) (a .from) (a .to) (a .pending) (a .made) (a .left) (p .0) (a .k) (a .desk .now) (a .path .now) (p .1) (p .2) (p .3) (p .4) (a .r) (p .5) _ (scan-goes t (c .before .before .before) .0) (c .look .result) _ _ (c .look .ensures)
+    moved (p .0) (p .1) (p .2) (p .3) (p .4) (p .5) (scan-goes t (c .before .before .before) .0) (c .look .result) _ _ (c .look .ensures)
 
 -- src/look.rt:200:1
 look-after-returns-4 : (t : ℕ) → look-after-lts.Need-returns-4 (
@@ -439,7 +439,7 @@ look-after-returns-4 t c =
     let s = c .before .before .before .before .before .before .before .before .before .before .before in
     let a = s .args in
     let p = s .pre .1 in
-    moved (a .file .now) (a .t .now) (a .chain .now) (a .s .now) (a .read) (a .q .now) (a .from) (a .to) (a .pending) (a .made) (a .left) (p .0) (a .k) (a .desk .now) (a .path .now) (p .1) (p .2) (p .3) (p .4) (a .r) (p .5) _ (row-goes t (c .before .before .before .before) .0) (c .look2 .result) _ _ (c .look2 .ensures)
+    moved (p .0) (p .1) (p .2) (p .3) (p .4) (p .5) (row-goes t (c .before .before .before .before) .0) (c .look2 .result) _ _ (c .look2 .ensures)
 
 abbrev look-rules-Inv-loop : look-rules-lts.InvT-loop
 look-rules-Inv-loop file t chain s read q from to pending made left k desk₀ path₀ a r₀ desk path r =
@@ -518,7 +518,7 @@ look-rules-loop-holds t c =
     let s = c .before .before .before .before .before .before in
     let a = s .args in
     let p = s .pre .1 in
-    (p .1 .desk-long, p .1 .path-long, came-first (a .file .now) (a .t .now) (a .chain .now) (a .s .now) (a .read) (a .q .now) (a .from) (a .to) (a .pending) (a .made) (a .left) (p .0) (p .3) (a .k) (a .desk .now) (a .path .now) (p .1) (p .4) _ (ap (λ (j : ℕ). getD (a .chain .now) j 0) (c .before .before .category .ensures)))
+    (p .1 .desk-long, p .1 .path-long, came-first (p .0) (p .3) (p .1) (p .4) _ (ap (λ (j : ℕ). getD (a .chain .now) j 0) (c .before .before .category .ensures)))
 
 -- src/look.rt:126:12
 look-rules-look-under-requires : (t : ℕ) → look-rules-lts.Need-look-under-requires (
@@ -531,7 +531,7 @@ look-rules-look-under-requires t c κs =
     let s = c .before .before .before .before .before .before .before .before .before .before in
     let a = s .args in
     let p = s .pre .1 in
-    (omega (arith, s .pre .0), (p .0, on-now (a .file .now) (a .t .now) (a .chain .now) (a .s .now) (a .read) (a .q .now) (a .from) (a .to) (a .pending) (a .made) (a .left) (p .0) (p .3) (a .k) (a .desk .now) (a .path .now) (p .1) (p .4) (c .before .before .before .loop .desk) (c .before .before .before .loop .path) (c .before .before .before .loop .r) (c .before .before .before .loop .inv .2) (c .before .before .loop-test .taken), p .2, fronted (a .file .now) (a .t .now) (a .chain .now) (a .s .now) (a .read) (a .q .now) (a .from) (a .to) (a .pending) (a .made) (a .left) (p .0) (p .3) (a .k) (a .desk .now) (a .path .now) (p .1) (p .4) (c .before .before .before .loop .desk) (c .before .before .before .loop .path) (c .before .before .before .loop .r) (c .before .before .before .loop .inv .2) (c .before .before .loop-test .taken), strictly-now (a .file .now) (a .t .now) (a .chain .now) (a .s .now) (a .read) (a .q .now) (a .from) (a .to) (a .pending) (a .made) (a .left) (p .0) (p .3) (a .k) (a .desk .now) (a .path .now) (p .1) (p .4) (c .before .before .before .loop .desk) (c .before .before .before .loop .path) (c .before .before .before .loop .r) (c .before .before .before .loop .inv .2) (c .before .before .loop-test .taken)))
+    (omega (arith, s .pre .0), (p .0, on-now (p .0) (p .3) (p .1) (p .4) (c .before .before .before .loop .inv .2) (c .before .before .loop-test .taken), p .2, fronted (p .0) (p .3) (p .1) (p .4) (c .before .before .before .loop .inv .2) (c .before .before .loop-test .taken), strictly-now (p .0) (p .3) (p .1) (p .4) (c .before .before .before .loop .inv .2) (c .before .before .loop-test .taken)))
 
 -- src/look.rt:143:21
 look-rules-cast-i : (t : ℕ) → look-rules-lts.Need-cast-i (
@@ -580,7 +580,7 @@ look-rules-loop-less t c =
     let s = c .before .before .before .before .before .before .before .before .before .before .before .before .before in
     let a = s .args in
     let p = s .pre .1 in
-    later (a .file .now) (a .t .now) (a .chain .now) (a .s .now) (a .read) (a .q .now) (a .from) (a .to) (a .pending) (a .made) (a .left) (p .0) (p .3) (a .k) (a .desk .now) (a .path .now) (p .1) (p .4) (c .before .before .before .before .before .before .loop .desk) (c .before .before .before .before .before .before .loop .path) (c .before .before .before .before .before .before .loop .r) (c .before .before .before .before .before .before .loop .inv .2) (c .before .before .before .before .before .loop-test .taken) _ refl
+    later (p .0) (p .3) (p .1) (p .4) (c .before .before .before .before .before .before .loop .inv .2) (c .before .before .before .before .before .loop-test .taken) _ refl
 
 -- src/look.rt:125:5
 look-rules-loop-again : (t : ℕ) → look-rules-lts.Need-loop-again (
@@ -594,7 +594,7 @@ look-rules-loop-again t c =
     let a = s .args in
     let p = s .pre .1 in
     let k = c .before .before .look-under in
-    (k .ensures .looked .desk-long, k .ensures .looked .path-long, came-next (a .file .now) (a .t .now) (a .chain .now) (a .s .now) (a .read) (a .q .now) (a .from) (a .to) (a .pending) (a .made) (a .left) (p .0) (p .3) (a .k) (a .desk .now) (a .path .now) (p .1) (p .4) (c .before .before .before .before .before .before .loop .desk) (c .before .before .before .before .before .before .loop .path) (c .before .before .before .before .before .before .loop .r) (c .before .before .before .before .before .before .loop .inv .2) (c .before .before .before .before .before .loop-test .taken) _ _ _ (rw (c .before .if1 .taken) at (k .ensures)) refl)
+    (k .ensures .looked .desk-long, k .ensures .looked .path-long, came-next (p .0) (p .3) (p .1) (p .4) (c .before .before .before .before .before .before .loop .inv .2) (c .before .before .before .before .before .loop-test .taken) _ _ _ (rw (c .before .if1 .taken) at (k .ensures)) refl)
 
 -- src/look.rt:146:13
 look-rules-returns : (t : ℕ) → look-rules-lts.Need-returns (
@@ -607,7 +607,7 @@ look-rules-returns t c =
     let s = c .before .before .before .before .before .before .before .before .before .before .before .before in
     let a = s .args in
     let p = s .pre .1 in
-    stops (a .file .now) (a .t .now) (a .chain .now) (a .s .now) (a .read) (a .q .now) (a .from) (a .to) (a .pending) (a .made) (a .left) (p .0) (p .3) (a .k) (a .desk .now) (a .path .now) (p .1) (p .4) (c .before .before .before .before .before .loop .desk) (c .before .before .before .before .before .loop .path) (c .before .before .before .before .before .loop .r) (c .before .before .before .before .before .loop .inv .2) (c .before .before .before .before .loop-test .taken) _ _ (rw (c .if1 .left) at (c .before .look-under .ensures))
+    stops (p .0) (p .3) (p .1) (p .4) (c .before .before .before .before .before .loop .inv .2) (c .before .before .before .before .loop-test .taken) _ _ (rw (c .if1 .left) at (c .before .look-under .ensures))
 
 -- src/look.rt:104:1
 look-rules-returns-2 : (t : ℕ) → look-rules-lts.Need-returns-2 (
@@ -620,7 +620,7 @@ look-rules-returns-2 t c =
     let s = c .before .before .before .before .before .before .before .before in
     let a = s .args in
     let p = s .pre .1 in
-    came-last (a .file .now) (a .t .now) (a .chain .now) (a .s .now) (a .read) (a .q .now) (a .from) (a .to) (a .pending) (a .made) (a .left) (p .0) (p .3) (a .k) (a .desk .now) (a .path .now) (p .1) (p .4) (c .before .loop .desk) (c .before .loop .path) (c .before .loop .r) (c .before .loop .inv .2) (c .loop-test .left)
+    came-last (p .0) (p .3) (p .1) (p .4) (c .before .loop .inv .2) (c .loop-test .left)
 
 -- src/look.rt:173:8
 look-under-take-up-requires : (t : ℕ) → look-under-lts.Need-take-up-requires (
