@@ -1,20 +1,31 @@
 -- The fields of a record are the parts of the rule that it holds: what the accessors give. Rule r below R is `ruleRead` of the file (`rule-read`, model/proofs/FromFile),
--- its category and its word are the fields as they stand, and its daughters have the fields' length (`daughters-length`, model/proofs/RuleFromRecord).
+-- its category and its word are the fields as they stand, and it has as many daughters as the field says (`daughters-length`, model/proofs/RuleFromRecord).
+-- Here: its daughters; its components, of which those that it lacks have length 0; and that a variable names a daughter of the rule.
 -- Assumes nothing.
-use mathlib.Core.Path.{_≡_, refl, sym, ap, ap₂, _∙_}
+use mathlib.Core.Path.{_≡_, refl, sym, ap, ap₂, subst, _∙_}
+use mathlib.Core.Bool.{Bool, true, false}
 use mathlib.Core.Option.{none}
-use mathlib.Core.List.{List, [], _∷_, map}
-use Prim.Native.Nat.{ℕ, zero, suc, _+_, _-_, _<_, _≤_}
+use mathlib.Core.List.{List, [], _∷_, _++_, map, List·Memᴰ}
+use Prim.Native.Nat.{ℕ, zero, suc, _+_, _-_, _/_, _<_, _≤_}
 use native.Mathlib.Omega.{arith}
-use borrow.Author.Tests.{lt-ltb}
-use lib.ListN.{length, getD, take, drop, getElem?}
-use lib.Seq.{take-take, take-nil, drop-drop}
-use Rattle.model.specs.Base.{numbersFrom, total}
-use Rattle.model.specs.Grammar.{Variable, Rule, ruleAt, dimension}
-use Rattle.model.specs.GrammarFile.{fields, field, dimensionsOf, recordOf, rulesOf, lengthsOf, decoded, sequences, grammarOf, grammarRefusal}
-use Rattle.model.proofs.Variables.{parts-length}
-use Rattle.model.proofs.RuleFromRecord.{Tested, field-length, field-at, twelve, lengths-total}
-use Rattle.model.proofs.FromFile.{ruleRead, dimensions-in, dimensions-four, record-tested}
+use native.Mathlib.Decide.{decLt}
+use borrow.Author.Tests.{lt-ltb, le-ltb}
+use lib.Dec.{T, eqb, eqb→eq}
+use lib.ListN.{length, getD, getElem?, take, drop, List·getD-eq-default}
+use lib.Seq.{drop-drop}
+use Rattle.model.specs.declared.Refusal.{Refusal}
+use Rattle.model.specs.Base.{if_then_else_, _orElse_, sumBelow, numbersFrom}
+use Rattle.model.specs.Verdict.{refuseIf}
+use Rattle.model.specs.Grammar.{Variable, Rule, Grammar, ruleAt, dimension, isLexical}
+use Rattle.model.specs.GrammarFile.{fields, field, allZero, daughtersOf, lengthsOf, variables, dimensionIn, dimensionsOf, wordsOf, rulesOf, recordOf, wrongCategory, wrongWord, wrongVariables, unusedSet, unusedBytes, repeated, ruleRefusal, grammarRefusal, decoded, sequences, ruleOf, grammarOf}
+use Rattle.model.proofs.Tests.{no-refusal, first-of, rest-of, not-off, every-getD}
+use Rattle.model.proofs.Lists.{map-in, mem-getD}
+use Rattle.model.proofs.Perm.{perm-mem}
+use Rattle.model.proofs.Variables.{parts-length, vars-out}
+use Rattle.model.proofs.RuleFromRecord.{Tested, field-length, field-at, daughters-length, twelve, lengths-total, named-are, rule-right}
+use Rattle.model.proofs.FileTests.{passed}
+use Rattle.model.proofs.FromFile.{ruleRead, record-tested, dimensions-in, dimensions-four}
+use Rattle.grammar.proofs.Sums.{sum-same, sum-first, sum-total, every-left, every-right}
 
 -- no rule has a number from R on
 made-none : (f : ℕ → Rule) (from n r : ℕ) → n ≤ r → getElem? (map f (numbersFrom from n)) r ≡ none
@@ -25,66 +36,151 @@ made-none f from (suc n) (suc r) h = made-none f (suc from) n r (omega arith)
 pub rule-none : (file : List ℕ) (r : ℕ) → rulesOf file ≤ r → ruleAt (grammarOf file) r ≡ none
 rule-none file r h = made-none (ruleRead file) 0 (rulesOf file) r h
 
--- a part of a part
-drop-take : {A : Type 0} (b n : ℕ) (l : List A) → drop b (take n l) ≡ take (n - b) (drop b l)
-drop-take zero n l = let a : n - 0 ≡ n = omega arith in rw a
-drop-take (suc b) zero l = let a : 0 - suc b ≡ 0 = omega arith in rw a
-drop-take (suc b) (suc n) [] = sym (take-nil (suc n - suc b))
-drop-take (suc b) (suc n) (x ∷ l) = let a : suc n - suc b ≡ n - b = omega arith in rw a (drop-take b n l)
-
-part-of-part : (l : List ℕ) (i n b a : ℕ) → b + a ≤ n → fields (fields l i n) b a ≡ fields l (i + b) a
-part-of-part l i n b a h =
-    ap (take a) (drop-take b n (drop i l)) ∙ take-take a (n - b) (drop b (drop i l)) (omega arith) ∙ ap (take a) (drop-drop b i l)
-
 -- component k of sequences of these lengths
-sequence-at : (ls vs : List ℕ) (k : ℕ) → getD (sequences ls vs) k [] ≡ map decoded (fields vs (total (take k ls)) (getD ls k 0))
+sequence-at : (ls vs : List ℕ) (k : ℕ) → getD (sequences ls vs) k [] ≡ map decoded (take (getD ls k 0) (drop (sumBelow (λ j. getD ls j 0) k) vs))
 sequence-at [] vs k = refl
 sequence-at (n ∷ ls) vs zero = refl
 sequence-at (n ∷ ls) vs (suc k) =
-    sequence-at ls (drop n vs) k ∙ ap (λ (l : List ℕ). map decoded (take (getD ls k 0) l)) (drop-drop (total (take k ls)) n vs)
+    sequence-at ls (drop n vs) k
+    ∙ ap (λ (l : List ℕ). map decoded (take (getD ls k 0) l))
+    (drop-drop (sumBelow (λ j. getD ls j 0) k) n vs ∙ ap (λ (i : ℕ). drop i vs) (sym (sum-first (λ j. getD (n ∷ ls) j 0) k)))
 
-total-up-to : (ls : List ℕ) (k : ℕ) → total (take k ls) + getD ls k 0 ≤ total ls
-total-up-to [] k = simp take-nil (omega arith)
-total-up-to (n ∷ ls) zero = omega arith
-total-up-to (n ∷ ls) (suc k) = omega (arith, total-up-to ls k)
-
--- the parts of a rule below R of a file that the reader accepts
+-- refusal 9 of record r
 module _ (file : List ℕ) (accepted : grammarRefusal file ≡ none) (r : ℕ) (here : r < rulesOf file) where
   abbrev e : List ℕ
   e = recordOf file r
 
-  abbrev dim : ℕ
-  dim = dimension (grammarOf file) (field e 0)
+  abbrev d : List ℕ
+  d = dimensionsOf file
 
-  abbrev tests : Tested (grammarOf file) e
-  tests = record-tested file accepted r here
+  no-rule-refusal : ruleRefusal file r ≡ none
+  no-rule-refusal = passed file accepted .rule r here
+
+  nothing-unused : T (allZero (unusedBytes d e))
+  nothing-unused =
+      let r₆ = refuseIf (wrongCategory d e) (Refusal.Grammar 6 r) in
+      let r₇ = refuseIf (wrongWord d e (wordsOf file)) (Refusal.Grammar 7 r) in
+      let r₈ = refuseIf (wrongVariables d e) (Refusal.Grammar 8 r) in
+      let r₉ = refuseIf (unusedSet d e) (Refusal.Grammar 9 r) in
+      let r₁₀ = refuseIf (repeated (recordOf file) r) (Refusal.Grammar 10 r) in
+      not-off (allZero (unusedBytes d e))
+      (no-refusal (unusedSet d e) (Refusal.Grammar 9 r)
+      (first-of r₉ r₁₀ (rest-of r₈ (r₉ orElse r₁₀) (rest-of r₇ (r₈ orElse r₉ orElse r₁₀) (rest-of r₆ (r₇ orElse r₈ orElse r₉ orElse r₁₀) no-rule-refusal)))))
+
+  abbrev n : ℕ
+  n = field e 1
+
+  abbrev dim : ℕ
+  dim = dimensionIn d (field e 0)
+
+  abbrev rule : Rule
+  rule = ruleOf d e
+
+  -- the variables before component k
+  abbrev before : ℕ → ℕ
+  before k = sumBelow (λ j. field e (7 + j)) k
+
+  tested : Tested (grammarOf file) e
+  tested = record-tested file accepted r here
+
+  dim-four : dim ≤ 4
+  dim-four = dimensions-four file accepted (field e 0)
+
+  unused-zero : (i k j : ℕ) → i + k ≤ 24 → T (allZero (fields e i k)) → j < k → field e (i + j) ≡ 0
+  unused-zero i k j h t l =
+      sym (eqb→eq 0 (getD (fields e i k) j 0) (every-getD (eqb 0) (fields e i k) t j (omega (arith, field-length (grammarOf file) e tested i k h))) ∙ field-at (grammarOf file) e tested i k j l)
+
+  -- a length that the rule lacks
+  length-lacking : 0 < n → (k : ℕ) → dim ≤ k → k < 4 → field e (7 + k) ≡ 0
+  length-lacking h k a b =
+      let A = fields e (2 + n) (3 - n) in
+      let B = fields e 5 2 in
+      let C = fields e (7 + dim) (4 - dim) in
+      let D = fields e (11 + variables d e) (13 - variables d e) in
+      let t : T (allZero (A ++ B ++ C ++ D)) = rw (lt-ltb 0 n h) at nothing-unused in
+      let u : T (allZero C) = every-right (eqb 0) (A ++ B) C (every-left (eqb 0) (A ++ B ++ C) D t) in
+      let z : 7 + dim + (k - dim) ≡ 7 + k = omega arith in
+      subst (λ (i : ℕ). field e i ≡ 0) z (unused-zero (7 + dim) (4 - dim) (k - dim) (omega (arith, dim-four)) u (omega arith))
+
+  length-lexical : n ≡ 0 → (k : ℕ) → k < 4 → field e (7 + k) ≡ 0
+  length-lexical h k b =
+      let t : T (allZero (fields e 2 3 ++ fields e 7 17)) = rw (le-ltb 0 n (omega arith)) at nothing-unused in
+      unused-zero 7 17 k (omega arith) (every-right (eqb 0) (fields e 2 3) (fields e 7 17) t) (omega arith)
+
+  length-at : 0 < n → (k : ℕ) → k < 4 → getD (lengthsOf d e) k 0 ≡ field e (7 + k)
+  length-at h k b = go (decLt k dim)
+    where
+      go : Dec (k < dim) → getD (lengthsOf d e) k 0 ≡ field e (7 + k)
+      go (yes l) = field-at (grammarOf file) e tested 7 dim k l
+      go (no l) =
+          List·getD-eq-default (lengthsOf d e) 0 {n = k} (omega (arith, field-length (grammarOf file) e tested 7 dim (omega (arith, dim-four))))
+          ∙ sym (length-lacking h k (omega arith) b)
+
+  before-is : 0 < n → (k : ℕ) → k ≤ 4 → sumBelow (λ j. getD (lengthsOf d e) j 0) k ≡ before k
+  before-is h k b = sum-same (λ j. getD (lengthsOf d e) j 0) (λ j. field e (7 + j)) k (λ j l. length-at h j (omega arith))
+
+  before-lexical : n ≡ 0 → (k : ℕ) → k ≤ 4 → before k ≡ 0
+  before-lexical h zero b = refl
+  before-lexical h (suc k) b = omega (arith, before-lexical h k (omega arith), length-lexical h k (omega arith))
+
+  not-lexical : 0 < n → isLexical rule ≡ false
+  not-lexical h = go (daughtersOf e) (daughters-length (grammarOf file) e tested)
+    where
+      go : (ds : List ℕ) → length ds ≡ n → _≡_ {A = Bool} (elim ds [ [] ↦ true | x ∷ xs ↦ false ]) false
+      go [] k = absurd (omega arith)
+      go (x ∷ ds) k = refl
+
+  adds-up : 0 < n → before 4 ≡ variables d e
+  adds-up h =
+      sym (before-is h 4 (omega arith)) ∙ sum-total (lengthsOf d e) 4 (omega (arith, field-length (grammarOf file) e tested 7 dim (omega (arith, dim-four)), dim-four))
+      ∙ lengths-total (grammarOf file) e tested (dimensions-in file accepted) h
+
+  -- a record has room for 12 variables
+  pub before-twelve : before 4 ≤ 12
+  before-twelve = go (decLt 0 n)
+    where
+      go : Dec (0 < n) → before 4 ≤ 12
+      go (yes h) = omega (arith, adds-up h, twelve (grammarOf file) e tested (dimensions-in file accepted))
+      go (no h) = omega (arith, before-lexical (omega arith) 4 (omega arith))
+
+  -- component k: the part of its length behind the components before it
+  pub component-at : (k : ℕ) → k < 4 → getD (rule .components) k [] ≡ map decoded (take (field e (7 + k)) (drop (before k) (fields e 11 12)))
+  component-at k b = go (decLt 0 n)
+    where
+      go : Dec (0 < n) → getD (rule .components) k [] ≡ map decoded (take (field e (7 + k)) (drop (before k) (fields e 11 12)))
+      go (yes h) =
+          ap (λ (t : Bool). getD (if t then sequences (lengthsOf d e) (fields e 11 12) else []) k []) (lt-ltb 0 n h)
+          ∙ sequence-at (lengthsOf d e) (fields e 11 12) k
+          ∙ ap₂ (λ (a l : ℕ). map decoded (take l (drop a (fields e 11 12)))) (before-is h k (omega arith)) (length-at h k b)
+      go (no h) =
+          ap (λ (t : Bool). getD (if t then sequences (lengthsOf d e) (fields e 11 12) else []) k []) (le-ltb 0 n (omega arith))
+          ∙ sym (ap (λ (l : ℕ). map decoded (take l (drop (before k) (fields e 11 12)))) (length-lexical (omega arith) k b))
+
+  -- a variable of the rule names one of its daughters
+  pub variable-daughter : (v : ℕ) → v < before 4 → field e (11 + v) / 4 < n
+  variable-daughter v b = go (decLt 0 n)
+    where
+      named : (h : 0 < n) → List·Memᴰ (decoded (field e (11 + v))) (map decoded (fields e 11 (variables d e)))
+      named h =
+          let l = fields e 11 (variables d e) in
+          let c : v < variables d e = omega (arith, adds-up h) in
+          subst (λ (x : ℕ). List·Memᴰ (decoded x) (map decoded l)) (field-at (grammarOf file) e tested 11 (variables d e) v c)
+          (map-in decoded (mem-getD l 0 v (omega (arith, field-length (grammarOf file) e tested 11 (variables d e) (omega (arith, twelve (grammarOf file) e tested (dimensions-in file accepted)))))))
+
+      go : Dec (0 < n) → field e (11 + v) / 4 < n
+      go (yes h) =
+          let w = dimensions-in file accepted in
+          let m = perm-mem (rule-right (grammarOf file) e tested w .complete (not-lexical h))
+          (subst (λ (l : List Variable). List·Memᴰ (decoded (field e (11 + v))) l) (sym (named-are (grammarOf file) e tested w (not-lexical h))) (named h)) in
+          let p = vars-out (grammarOf file) 0 (daughtersOf e) (decoded (field e (11 + v))) m in
+          omega (arith, p .daughter-is, p .in-range, daughters-length (grammarOf file) e tested)
+      go (no h) = absurd (omega (arith, before-lexical (omega arith) 4 (omega arith)))
 
   pub daughter-is : (j : ℕ) → j < field (recordOf file r) 1 → getD (ruleRead file r .daughters) j 0 ≡ field (recordOf file r) (2 + j)
-  daughter-is j h = field-at (grammarOf file) e tests 2 (field e 1) j h
+  daughter-is j h = field-at (grammarOf file) e tested 2 n j h
 
-  -- of a nonlexical rule
-  module _ (some-daughter : 0 < field (recordOf file r) 1) where
-    abbrev ls : List ℕ
-    ls = lengthsOf (dimensionsOf file) e
-
-    components-held : ruleRead file r .components ≡ sequences ls (fields e 11 12)
-    components-held = rw (lt-ltb 0 (field e 1) some-daughter)
-
-    pub components-are : length (ruleRead file r .components) ≡ dimension (grammarOf file) (field (recordOf file r) 0)
-    components-are =
-        ap length components-held ∙ parts-length ls (fields e 11 12)
-        ∙ field-length (grammarOf file) e tests 7 dim (omega (arith, dimensions-four file accepted (field e 0)))
-
-    lengths-few : total ls ≤ 12
-    lengths-few = omega (arith, lengths-total (grammarOf file) e tests (dimensions-in file accepted) some-daughter, twelve (grammarOf file) e tests (dimensions-in file accepted))
-
-    -- component k has the variables after those of the components before it, as many as its length says
-    pub component-is : (k : ℕ) → k < dimension (grammarOf file) (field (recordOf file r) 0)
-        → getD (ruleRead file r .components) k [] ≡ map decoded (fields (recordOf file r) (11 + total (fields (recordOf file r) 7 k)) (field (recordOf file r) (7 + k)))
-    component-is k h =
-        let before : take k ls ≡ fields e 7 k = take-take k dim (drop 7 e) (omega arith) in
-        let own = field-at (grammarOf file) e tests 7 dim k h in
-        let fit : total (take k ls) + getD ls k 0 ≤ 12 = omega (arith, total-up-to ls k, lengths-few) in
-        ap (λ (l : List (List Variable)). getD l k []) components-held ∙ sequence-at ls (fields e 11 12) k
-        ∙ ap (map decoded) (part-of-part e 11 12 (total (take k ls)) (getD ls k 0) fit)
-        ∙ ap₂ (λ (b n : ℕ). map decoded (fields e (11 + b) n)) (ap total before) own
+  -- a nonlexical rule has as many components as its category has
+  pub components-are : 0 < field (recordOf file r) 1 → length (ruleRead file r .components) ≡ dimension (grammarOf file) (field (recordOf file r) 0)
+  components-are h =
+      ap (λ (t : Bool). length (if t then sequences (lengthsOf d e) (fields e 11 12) else [])) (lt-ltb 0 n h)
+      ∙ parts-length (lengthsOf d e) (fields e 11 12) ∙ field-length (grammarOf file) e tested 7 dim (omega (arith, dim-four))

@@ -8,34 +8,33 @@ use Rattle.model.specs.declared.Refusal.{Refusal}
 use Rattle.model.specs.declared.Verdict.the-variants.{Accepted, Refused}
 use Rattle.model.specs.Base.{_orElse_}
 use Rattle.model.specs.Verdict.{refuseIf}
-use Rattle.model.specs.GrammarFile.{dimensionsOf, wordsOf, recordOf, wrongCategory, wrongWord, wrongVariables, unusedSet, repeated, ruleRefusal}
+use Rattle.model.specs.GrammarFile.{wrongCategory, wrongWord, wrongVariables, unusedSet, repeated, recordRefusal}
 use Rattle.reader.specs.Reading.{tested, recordTests}
 use Rattle.reader.proofs.Answers.{none-by, some-by, join-stop, join-pass}
 
 -- tests joined in two groups
-pub join-joined : (a b c d e : Option Refusal) → (a orElse b orElse c orElse d) orElse e ≡ a orElse b orElse c orElse d orElse e
+join-joined : (a b c d e : Option Refusal) → (a orElse b orElse c orElse d) orElse e ≡ a orElse b orElse c orElse d orElse e
 join-joined (some r) b c d e = refl
 join-joined none (some r) c d e = refl
 join-joined none none (some r) d e = refl
 join-joined none none none d e = refl
 
-module _ (file : List ℕ) (i : ℕ) where
-  -- the tests of rule i: 6 to 9, and 10
+-- records by their numbers, as the file has them or as the writer is given them
+module _ (dimensions : List ℕ) (words : ℕ) (at : ℕ → List ℕ) (i : ℕ) where
+  -- the tests of record i: 6 to 9, and 10
   abbrev pub upTo9 : Option Refusal
-  upTo9 = recordTests (dimensionsOf file) (wordsOf file) (recordOf file i) i
+  upTo9 = recordTests dimensions words (at i) i
 
   abbrev tenth : Option Refusal
-  tenth = refuseIf (repeated (recordOf file) i) (Refusal.Grammar 10 i)
+  tenth = refuseIf (repeated at i) (Refusal.Grammar 10 i)
 
-  pub with-tenth : upTo9 orElse tenth ≡ ruleRefusal file i
+  with-tenth : upTo9 orElse tenth ≡ recordRefusal dimensions words at i
   with-tenth =
-      join-joined (refuseIf (wrongCategory (dimensionsOf file) (recordOf file i)) (Refusal.Grammar 6 i))
-      (refuseIf (wrongWord (dimensionsOf file) (recordOf file i) (wordsOf file)) (Refusal.Grammar 7 i))
-      (refuseIf (wrongVariables (dimensionsOf file) (recordOf file i)) (Refusal.Grammar 8 i))
-      (refuseIf (unusedSet (dimensionsOf file) (recordOf file i)) (Refusal.Grammar 9 i)) tenth
+      join-joined (refuseIf (wrongCategory dimensions (at i)) (Refusal.Grammar 6 i)) (refuseIf (wrongWord dimensions (at i) words) (Refusal.Grammar 7 i))
+      (refuseIf (wrongVariables dimensions (at i)) (Refusal.Grammar 8 i)) (refuseIf (unusedSet dimensions (at i)) (Refusal.Grammar 9 i)) tenth
 
-  pub record-stop : {r : Refusal} → tested upTo9 ≡ Refused r → tested (ruleRefusal file i) ≡ Refused r
+  pub record-stop : {r : Refusal} → tested upTo9 ≡ Refused r → tested (recordRefusal dimensions words at i) ≡ Refused r
   record-stop e = ap tested (sym with-tenth) ∙ join-stop upTo9 tenth 0 (some-by upTo9 e)
 
-  pub record-pass : {m : ℕ} → tested upTo9 ≡ Accepted m → tested (ruleRefusal file i) ≡ tested tenth
+  pub record-pass : {m : ℕ} → tested upTo9 ≡ Accepted m → tested (recordRefusal dimensions words at i) ≡ tested (refuseIf (repeated at i) (Refusal.Grammar 10 i))
   record-pass e = ap tested (sym with-tenth) ∙ join-pass upTo9 tenth 0 (none-by upTo9 e)

@@ -16,10 +16,11 @@ use Rattle.model.proofs.RuleFromRecord.{three, category-in, daughter-in, field-
 use Rattle.model.proofs.FromFile.{rule-is, rules-in, record-tested, categories-few}
 use Rattle.rows.specs.Row.{unpacked}
 use Rattle.rows.specs.Table.{startCell, slotCell, cellOf, begins, slots, CellsFit, RuleCells, Compiled}
-use Rattle.rows.proofs.Lists.{same-parts, sum-rises}
+use Rattle.grammar.proofs.Sums.{sum-rises}
+use Rattle.rows.proofs.Lists.{same-parts}
 use Rattle.rows.proofs.Cells.{Bytes, record-bytes, slot-small, cell-start, cell-slot}
 use Rattle.rows.proofs.Packing.{unpacked-packed}
-use Rattle.rows.proofs.Record.{before-twelve, component-at, variable-daughter}
+use Rattle.grammar.proofs.OfGrammar.{before-twelve, component-at, variable-daughter}
 
 module _ (file : List ℕ) (bytes : Bytes file) (accepted : grammarRefusal file ≡ none) (t : List ℕ) (long : length t ≡ 8192)
     (filled : (j : ℕ) → j < 32 * rulesOf file → getD t j 0 ≡ cellOf (recordOf file (j / 32)) (j % 32)) where

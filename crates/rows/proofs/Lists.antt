@@ -1,18 +1,14 @@
--- Lists that code fills from the front, parts of lists compared place by place, and sums.
+-- Lists that code fills from the front, and parts of lists compared place by place.
 -- Assumes nothing.
-use mathlib.Core.Path.{_≡_, refl, sym, ap, ap₂, _∙_}
+use mathlib.Core.Path.{_≡_, sym, ap, ap₂, _∙_}
 use mathlib.Core.Logic.{⊎-elim}
-use mathlib.Core.Bool.{Bool}
 use mathlib.Core.List.{List, [], _∷_, _++_, map, append-assoc}
 use Prim.Native.Nat.{ℕ, zero, suc, _+_, _<_, _≤_}
 use native.Mathlib.Nat.{eq-or-lt-of-le}
 use native.Mathlib.Omega.{arith}
-use lib.Dec.{T}
 use lib.ListN.{length, getD, take, drop, set}
 use lib.Seq.{slice, slice-empty, slice-cons, drop-cons, getD-set-same, getD-set-other, take-suc, take-suc-set}
-use Rattle.model.specs.Base.{sumBelow, total, every}
 use Rattle.model.proofs.Lists.{map-append}
-use Rattle.model.proofs.Tests.{and-l, and-r, and-both}
 
 -- one place further
 pub store-next : (f : ℕ → ℕ) (l : List ℕ) (i v : ℕ) → i < length l → ((j : ℕ) → j < i → getD l j 0 ≡ f j) → v ≡ f i → (j : ℕ) → j < i + 1 → getD (set l i v) j 0 ≡ f j
@@ -44,34 +40,6 @@ same-parts {B} f g (suc n) a b s t h k p =
         let x : suc a + i ≡ a + suc i = omega arith in
         let y : suc b + i ≡ b + suc i = omega arith in
         rw (x, y) (p (suc i) (omega arith))
-
--- sums
-pub sum-same : (f g : ℕ → ℕ) (n : ℕ) → ((j : ℕ) → j < n → f j ≡ g j) → sumBelow f n ≡ sumBelow g n
-sum-same f g zero h = refl
-sum-same f g (suc n) h = omega (arith, sum-same f g n (λ j k. h j (omega arith)), h n (omega arith))
-
-pub sum-first : (f : ℕ → ℕ) (n : ℕ) → sumBelow f (suc n) ≡ f 0 + sumBelow (λ j. f (suc j)) n
-sum-first f zero = omega arith
-sum-first f (suc n) = omega (arith, sum-first f n)
-
-pub sum-rises : (f : ℕ → ℕ) (m n : ℕ) → sumBelow f m ≤ sumBelow f (m + n)
-sum-rises f m zero = let z : m + 0 ≡ m = omega arith in rw z (omega arith)
-sum-rises f m (suc n) = let z : m + suc n ≡ suc (m + n) = omega arith in rw z (omega (arith, sum-rises f m n))
-
-pub sum-total : (l : List ℕ) (n : ℕ) → length l ≤ n → sumBelow (λ j. getD l j 0) n ≡ total l
-sum-total [] zero h = refl
-sum-total [] (suc n) h = omega (arith, sum-total [] n (omega arith))
-sum-total (x ∷ l) zero h = absurd (omega arith)
-sum-total (x ∷ l) (suc n) h = omega (arith, sum-first (λ j. getD (x ∷ l) j 0) n, sum-total l n (omega arith))
-
--- a test of all elements of two lists
-pub every-left : (test : ℕ → Bool) (a b : List ℕ) → T (every test (a ++ b)) → T (every test a)
-every-left test [] b h = tt
-every-left test (x ∷ a) b h = and-both (test x) (every test a) (and-l (test x) (every test (a ++ b)) h) (every-left test a b (and-r (test x) (every test (a ++ b)) h))
-
-pub every-right : (test : ℕ → Bool) (a b : List ℕ) → T (every test (a ++ b)) → T (every test b)
-every-right test [] b h = h
-every-right test (x ∷ a) b h = every-right test a b (and-r (test x) (every test (a ++ b)) h)
 
 -- a part, one element further
 pub slice-more : (f t : ℕ) (l : List ℕ) → f ≤ t → t < length l → slice f (suc t) l ≡ slice f t l ++ (getD l t 0 ∷ [])

@@ -1,4 +1,3 @@
 pub mod Content
 pub mod Checks
-pub mod Tests
 pub mod Outcome
