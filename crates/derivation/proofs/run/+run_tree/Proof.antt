@@ -1,4 +1,4 @@
--- `derivation::run::+run_tree` meets its contract.
+-- `derivation::run::run_tree` meets its contract.
 -- Assumes nothing.
 use mathlib.Core.Path.{_≡_, refl, subst, _∙_}
 use Prim.Native.Nat.{ℕ, _+_, _<_, _≤_, _-_}

@@ -1,3 +1,5 @@
+-- `listing::look::look`, `listing::look::look_after`, `listing::look::look_rules` and `listing::look::look_under` meet their contracts.
+-- Assumes nothing.
 use mathlib.Core.Path.{_≡_, refl, sym, ap, _∙_}
 use Prim.Native.Nat.{_+_, _-_, _*_, _≤_}
 use native.Mathlib.Omega.{arith}

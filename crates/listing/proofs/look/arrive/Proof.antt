@@ -1,3 +1,5 @@
+-- `listing::look::arrive` meets its contract.
+-- Assumes nothing.
 use Rattle.listing.proofs.LookDesk.{arrives-over, arrives-complete, arrives-on, arrives-last, arrives-way}
 use borrow.Author.Needs.{needs}
 use Rattle.listing.proofs.look.arrive.Statement.{statement}

@@ -1,3 +1,5 @@
+-- `listing::look::take_up` meets its contract.
+-- Assumes nothing.
 use Rattle.listing.proofs.LookDesk.{takes-off, takes-not, takes-later, takes-same}
 use borrow.Author.Needs.{needs}
 use Rattle.listing.proofs.look.take_up.Statement.{statement}

@@ -1,3 +1,5 @@
+-- `listing::stream::follow` meets its contract.
+-- Assumes nothing.
 use mathlib.Core.Path.{refl}
 use native.Mathlib.Omega.{arith}
 use Rattle.model.proofs.FromFile.{start-in, categories-in}

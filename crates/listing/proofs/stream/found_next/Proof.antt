@@ -1,3 +1,5 @@
+-- `listing::stream::found_next` meets its contract.
+-- Assumes nothing.
 use mathlib.Core.Path.{refl, ap, subst, _∙_}
 use mathlib.Core.List.{List}
 use native.Mathlib.Omega.{arith}

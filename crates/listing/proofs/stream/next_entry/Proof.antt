@@ -1,3 +1,5 @@
+-- `listing::stream::next_entry` meets its contract.
+-- Assumes nothing.
 use Rattle.model.proofs.Verdicts.{passed}
 use Rattle.listing.specs.Stream.{beforeNext}
 use Rattle.listing.proofs.NextCall.{tests-passed, searched-call, refused-call}

@@ -1,3 +1,5 @@
+-- `listing::stream::next_tests` meets its contract.
+-- Assumes nothing.
 use Rattle.model.specs.Trace.{lengthRefusal}
 use Rattle.model.proofs.Verdicts.{passed, stopped}
 use Rattle.analyses.specs.Tests.{beforeEntry}

@@ -1,4 +1,4 @@
--- `recognizer::trace::+run` meets its contract.
+-- `recognizer::trace::run` meets its contract.
 -- Assumes nothing.
 use mathlib.Core.Path.{_≡_, refl, sym, ap, _∙_}
 use Prim.Native.Nat.{_+_, _≤_, ℕ, _-_, _<_}

@@ -1,4 +1,4 @@
--- `search::prefixes::+expanded+search+stepped` meets its contract.
+-- `search::prefixes::expanded`, `search::prefixes::search` and `search::prefixes::stepped` meet their contracts.
 -- Assumes nothing.
 use mathlib.Core.Path.{_≡_, refl, sym, ap, subst, _∙_}
 use mathlib.Core.Bool.{true, false}

@@ -1,4 +1,4 @@
--- `trees::reading::+read_daughters+read_node` meets its contract.
+-- `trees::reading::read_daughters` and `trees::reading::read_node` meet their contracts.
 -- Assumes nothing.
 use native.Mathlib.Omega.{arith}
 use mathlib.Core.Path.{_≡_, refl, sym, ap, subst, _∙_}
