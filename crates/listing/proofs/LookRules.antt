@@ -45,7 +45,7 @@ module _ (g : Grammar) (left : ℕ) (t : RowState) (r : ℕ) where
   under-none f e = under-kept f ∙ ap (map (λ (p : List ℕ). r ∷ p)) (keep-no (λ p. f (r ∷ p)) rest e)
 
   -- the rule is taken up at place k
-  module _ (k : ℕ) (desk path : List ℕ) (on : OnDesk k desk path) (strictly : getD desk 2 0 ≡ 1 → k < getD desk 1 0) (few : k < 96) where
+  module _ {k : ℕ} {desk path : List ℕ} (on : OnDesk k desk path) (strictly : getD desk 2 0 ≡ 1 → k < getD desk 1 0) (few : k < 96) where
     abbrev x : ℕ
     x = getD path k 0
 
@@ -253,7 +253,7 @@ module _ (g : Grammar) (left : ℕ) (t : RowState) (r : ℕ) where
         ))
 
     -- the same for the desk and the path as code has them after the rule is taken up
-    module _ (desk₂ path₂ : List ℕ) (desk-is : desk₂ ≡ desk₁) (path-is : path₂ ≡ path₁) where
+    module _ {desk₂ path₂ : List ℕ} (desk-is : desk₂ ≡ desk₁) (path-is : path₂ ≡ path₁) where
       pub up-on : TakenUp → OnDesk k desk₂ path₂
       up-on up = subst (λ (d : List ℕ). OnDesk k d path₂) (sym desk-is) (subst (OnDesk k desk₁) (sym path-is) (up .on-desk))
 

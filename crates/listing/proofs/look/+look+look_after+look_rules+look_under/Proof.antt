@@ -648,7 +648,11 @@ look-under-look-after-requires t c κs =
     let s = c .before .before .before .before .before .before .before .before in
     let a = s .args in
     let p = s .pre .1 in
-    (omega (arith, s .pre .0), (p .0, up-on (grammarOf (a .file .now)) (a .left) (standing (a .s .now) (a .read) (a .q .now) (a .from) (a .to) (a .pending) (a .made)) (a .r) (a .k) (a .desk .now) (a .path .now) (p .1) (p .4) (omega (arith, p .2, p .0 .fits, p .3 .predicted)) _ _ (c .before .before .before .take-up .ensures .1) (c .before .before .before .take-up .ensures .2) (took (grammarOf (a .file .now)) (a .left) (standing (a .s .now) (a .read) (a .q .now) (a .from) (a .to) (a .pending) (a .made)) (a .r) (a .k) (a .desk .now) (a .path .now) (p .1) (p .4) (omega (arith, p .2, p .0 .fits, p .3 .predicted)) (sym (c .before .before .before .take-up .ensures .0) ∙ c .before .before .if1 .taken)), p .2, p .3 .predicted, up-strictly (grammarOf (a .file .now)) (a .left) (standing (a .s .now) (a .read) (a .q .now) (a .from) (a .to) (a .pending) (a .made)) (a .r) (a .k) (a .desk .now) (a .path .now) (p .1) (p .4) (omega (arith, p .2, p .0 .fits, p .3 .predicted)) _ _ (c .before .before .before .take-up .ensures .1) (c .before .before .before .take-up .ensures .2) (took (grammarOf (a .file .now)) (a .left) (standing (a .s .now) (a .read) (a .q .now) (a .from) (a .to) (a .pending) (a .made)) (a .r) (a .k) (a .desk .now) (a .path .now) (p .1) (p .4) (omega (arith, p .2, p .0 .fits, p .3 .predicted)) (sym (c .before .before .before .take-up .ensures .0) ∙ c .before .before .if1 .taken)), up-at (grammarOf (a .file .now)) (a .left) (standing (a .s .now) (a .read) (a .q .now) (a .from) (a .to) (a .pending) (a .made)) (a .r) (a .k) (a .desk .now) (a .path .now) (p .1) (p .4) (omega (arith, p .2, p .0 .fits, p .3 .predicted)) _ _ (c .before .before .before .take-up .ensures .1) (c .before .before .before .take-up .ensures .2) (took (grammarOf (a .file .now)) (a .left) (standing (a .s .now) (a .read) (a .q .now) (a .from) (a .to) (a .pending) (a .made)) (a .r) (a .k) (a .desk .now) (a .path .now) (p .1) (p .4) (omega (arith, p .2, p .0 .fits, p .3 .predicted)) (sym (c .before .before .before .take-up .ensures .0) ∙ c .before .before .if1 .taken))))
+    let g = grammarOf (a .file .now) in
+    let S = standing (a .s .now) (a .read) (a .q .now) (a .from) (a .to) (a .pending) (a .made) in
+    let few : a .k < 96 = omega (arith, p .2, p .0 .fits, p .3 .predicted) in
+    let up = took g (a .left) S (a .r) (p .1) (p .4) few (sym (c .before .before .before .take-up .ensures .0) ∙ c .before .before .if1 .taken) in
+    (omega (arith, s .pre .0), (p .0, up-on g (a .left) S (a .r) (p .1) (p .4) few (c .before .before .before .take-up .ensures .1) (c .before .before .before .take-up .ensures .2) up, p .2, p .3 .predicted, up-strictly g (a .left) S (a .r) (p .1) (p .4) few (c .before .before .before .take-up .ensures .1) (c .before .before .before .take-up .ensures .2) up, up-at g (a .left) S (a .r) (p .1) (p .4) few (c .before .before .before .take-up .ensures .1) (c .before .before .before .take-up .ensures .2) up))
 
 -- src/look.rt:191:13
 look-under-element-write-desk : (t : ℕ) → look-under-lts.Need-element-write-desk (
@@ -674,7 +678,11 @@ look-under-returns t c =
     let s = c .before .before .before .before .before .before .before .before .before .before in
     let a = s .args in
     let p = s .pre .1 in
-    under-settled (grammarOf (a .file .now)) (a .left) (standing (a .s .now) (a .read) (a .q .now) (a .from) (a .to) (a .pending) (a .made)) (a .r) (a .k) (a .desk .now) (a .path .now) (p .1) (p .4) (omega (arith, p .2, p .0 .fits, p .3 .predicted)) _ _ (c .before .before .before .before .before .take-up .ensures .1) (c .before .before .before .before .before .take-up .ensures .2) (took (grammarOf (a .file .now)) (a .left) (standing (a .s .now) (a .read) (a .q .now) (a .from) (a .to) (a .pending) (a .made)) (a .r) (a .k) (a .desk .now) (a .path .now) (p .1) (p .4) (omega (arith, p .2, p .0 .fits, p .3 .predicted)) (sym (c .before .before .before .before .before .take-up .ensures .0) ∙ c .before .before .before .before .if1 .taken)) _ _ (rw (c .if2 .taken) at (c .before .look-after .ensures))
+    let g = grammarOf (a .file .now) in
+    let S = standing (a .s .now) (a .read) (a .q .now) (a .from) (a .to) (a .pending) (a .made) in
+    let few : a .k < 96 = omega (arith, p .2, p .0 .fits, p .3 .predicted) in
+    let up = took g (a .left) S (a .r) (p .1) (p .4) few (sym (c .before .before .before .before .before .take-up .ensures .0) ∙ c .before .before .before .before .if1 .taken) in
+    under-settled g (a .left) S (a .r) (p .1) (p .4) few (c .before .before .before .before .before .take-up .ensures .1) (c .before .before .before .before .before .take-up .ensures .2) up _ _ (rw (c .if2 .taken) at (c .before .look-after .ensures))
 
 -- src/look.rt:194:9
 look-under-returns-2 : (t : ℕ) → look-under-lts.Need-returns-2 (
@@ -687,7 +695,11 @@ look-under-returns-2 t c =
     let s = c .before .before .before .before .before .before .before .before .before .before in
     let a = s .args in
     let p = s .pre .1 in
-    under-stopped (grammarOf (a .file .now)) (a .left) (standing (a .s .now) (a .read) (a .q .now) (a .from) (a .to) (a .pending) (a .made)) (a .r) (a .k) (a .desk .now) (a .path .now) (p .1) (p .4) (omega (arith, p .2, p .0 .fits, p .3 .predicted)) _ _ (c .before .before .before .before .before .take-up .ensures .1) (c .before .before .before .before .before .take-up .ensures .2) (took (grammarOf (a .file .now)) (a .left) (standing (a .s .now) (a .read) (a .q .now) (a .from) (a .to) (a .pending) (a .made)) (a .r) (a .k) (a .desk .now) (a .path .now) (p .1) (p .4) (omega (arith, p .2, p .0 .fits, p .3 .predicted)) (sym (c .before .before .before .before .before .take-up .ensures .0) ∙ c .before .before .before .before .if1 .taken)) _ _ (rw (c .if2 .left) at (c .before .look-after .ensures))
+    let g = grammarOf (a .file .now) in
+    let S = standing (a .s .now) (a .read) (a .q .now) (a .from) (a .to) (a .pending) (a .made) in
+    let few : a .k < 96 = omega (arith, p .2, p .0 .fits, p .3 .predicted) in
+    let up = took g (a .left) S (a .r) (p .1) (p .4) few (sym (c .before .before .before .before .before .take-up .ensures .0) ∙ c .before .before .before .before .if1 .taken) in
+    under-stopped g (a .left) S (a .r) (p .1) (p .4) few (c .before .before .before .before .before .take-up .ensures .1) (c .before .before .before .before .before .take-up .ensures .2) up _ _ (rw (c .if2 .left) at (c .before .look-after .ensures))
 
 -- src/look.rt:153:1
 look-under-returns-3 : (t : ℕ) → look-under-lts.Need-returns-3 (
@@ -700,7 +712,11 @@ look-under-returns-3 t c =
     let s = c .before .before .before .before .before .before in
     let a = s .args in
     let p = s .pre .1 in
-    under-left (grammarOf (a .file .now)) (a .left) (standing (a .s .now) (a .read) (a .q .now) (a .from) (a .to) (a .pending) (a .made)) (a .r) (a .k) (a .desk .now) (a .path .now) (p .1) (p .4) (omega (arith, p .2, p .0 .fits, p .3 .predicted)) _ _ (c .before .take-up .ensures .1) (c .before .take-up .ensures .2) (left-out (grammarOf (a .file .now)) (a .left) (standing (a .s .now) (a .read) (a .q .now) (a .from) (a .to) (a .pending) (a .made)) (a .r) (a .k) (a .desk .now) (a .path .now) (p .1) (p .4) (omega (arith, p .2, p .0 .fits, p .3 .predicted)) (sym (c .before .take-up .ensures .0) ∙ c .if1 .left))
+    let g = grammarOf (a .file .now) in
+    let S = standing (a .s .now) (a .read) (a .q .now) (a .from) (a .to) (a .pending) (a .made) in
+    let few : a .k < 96 = omega (arith, p .2, p .0 .fits, p .3 .predicted) in
+    let out = left-out g (a .left) S (a .r) (p .1) (p .4) few (sym (c .before .take-up .ensures .0) ∙ c .if1 .left) in
+    under-left g (a .left) S (a .r) (p .1) (p .4) few (c .before .take-up .ensures .1) (c .before .take-up .ensures .2) out
 
 pub +look+look-after+look-rules+look-under-spec : {M : Type 1} → statement M
 +look+look-after+look-rules+look-under-spec =
