@@ -772,7 +772,9 @@ stepped-returns t c =
     let a = s .args in
     λ f rd fr.
     let k = c .search in
-    empty-word rd fr (sym (c .before .before .before .before .before .before .daughters .ensures) ∙ (c .before .before .before .before .before .if1 .taken)) (sym (c .before .before .before .before .word .ensures) ∙ (c .before .before .if2 .taken)) (k .result) _ (k .ensures f (empty-ready rd fr (sym (c .before .before .before .before .before .before .daughters .ensures) ∙ (c .before .before .before .before .before .if1 .taken)) (sym (c .before .before .before .before .word .ensures) ∙ (c .before .before .if2 .taken))))
+    let lexical = sym (c .before .before .before .before .before .before .daughters .ensures) ∙ (c .before .before .before .before .before .if1 .taken) in
+    let empty = sym (c .before .before .before .before .word .ensures) ∙ (c .before .before .if2 .taken) in
+    empty-word rd fr lexical empty (k .result) _ (k .ensures f (empty-ready rd fr lexical empty))
 
 -- src/search.rt:136:13
 stepped-returns-2 : (t : ℕ) → stepped-lts.Need-returns-2 (
@@ -966,7 +968,10 @@ stepped-returns-3 t c =
     let a = s .args in
     λ f rd fr.
     let k = c .search2 in
-    next-word rd fr (sym (c .before .before .before .before .before .before .before .before .before .before .daughters .ensures) ∙ (c .before .before .before .before .before .before .before .before .before .if1 .taken)) (λ z. (c .before .before .before .before .before .before .if2 .left) ((c .before .before .before .before .before .before .before .before .word .ensures) ∙ z)) (c .before .before .before .before .before .if3 .left) (ap (λ (w : ℕ). wordFits w (getD (a .s .now) (a .read) 0)) (sym (c .before .before .before .before .before .before .before .before .word .ensures)) ∙ sym (c .before .before .before .fits2 .ensures) ∙ (c .before .before .if4 .taken)) (k .result) _ (k .ensures f (word-ready rd fr (sym (c .before .before .before .before .before .before .before .before .before .before .daughters .ensures) ∙ (c .before .before .before .before .before .before .before .before .before .if1 .taken)) (λ z. (c .before .before .before .before .before .before .if2 .left) ((c .before .before .before .before .before .before .before .before .word .ensures) ∙ z)) (c .before .before .before .before .before .if3 .left) (ap (λ (w : ℕ). wordFits w (getD (a .s .now) (a .read) 0)) (sym (c .before .before .before .before .before .before .before .before .word .ensures)) ∙ sym (c .before .before .before .fits2 .ensures) ∙ (c .before .before .if4 .taken))))
+    let lexical = sym (c .before .before .before .before .before .before .before .before .before .before .daughters .ensures) ∙ (c .before .before .before .before .before .before .before .before .before .if1 .taken) in
+    let full : getD (a .t .now) (32 * a .r + 1) 0 ≡ 65535 → ⊥ = λ z. (c .before .before .before .before .before .before .if2 .left) ((c .before .before .before .before .before .before .before .before .word .ensures) ∙ z) in
+    let same = ap (λ (w : ℕ). wordFits w (getD (a .s .now) (a .read) 0)) (sym (c .before .before .before .before .before .before .before .before .word .ensures)) ∙ sym (c .before .before .before .fits2 .ensures) ∙ (c .before .before .if4 .taken) in
+    next-word rd fr lexical full (c .before .before .before .before .before .if3 .left) same (k .result) _ (k .ensures f (word-ready rd fr lexical full (c .before .before .before .before .before .if3 .left) same))
 
 -- src/search.rt:153:9
 stepped-returns-4 : (t : ℕ) → stepped-lts.Need-returns-4 (
