@@ -65,7 +65,8 @@ module _ (count : ℕ → ℕ) (trace steps first : List ℕ) where
       record { forest = cons tree nil; grows = subst (GrowsAll count trace steps first (cons tree nil)) (sym e) (h, tt); whole = append-nil (preorder tree); kept = refl }
 
   -- one node: the next prediction is p
-  module _ (tree : Tree) (few : length (preorder tree) ≤ 96) (w top : ℕ) (st out old : List ℕ) (long : length st ≡ 96) (room : 96 ≤ length out) (fits : w ≤ 96) (more : top < 96) (s : Standing tree w top st out old) (p : ℕ) (p-is : p ≡ getD st top 0) where
+  module _ {tree : Tree} {w top : ℕ} {st out old : List ℕ} (s : Standing tree w top st out old) (few : length (preorder tree) ≤ 96)
+      (long : length st ≡ 96) (room : 96 ≤ length out) (fits : w ≤ 96) (more : top < 96) {p : ℕ} (p-is : p ≡ getD st top 0) where
     waiting : GrowsAll count trace steps first (s .forest) (p ∷ drop (suc top) st)
     waiting = subst (GrowsAll count trace steps first (s .forest)) (drop-cons st top 0 (omega arith) ∙ ap (λ (x : ℕ). x ∷ drop (suc top) st) (sym p-is)) (s .grows)
 
@@ -84,7 +85,7 @@ module _ (count : ℕ → ℕ) (trace steps first : List ℕ) where
         go (cons t f) h = below t p (h .0)
 
     -- step k takes it, by rule r
-    module _ (k : ℕ) (k-is : k ≡ getD steps p 0) where
+    module _ {k : ℕ} (k-is : k ≡ getD steps p 0) where
       pub step-small : k < 96
       step-small = go (s .forest) waiting
         where
@@ -92,7 +93,7 @@ module _ (count : ℕ → ℕ) (trace steps first : List ℕ) where
           go nil h = absurd h
           go (cons (node q ts) f) h = omega (arith, h .0 .1)
 
-      module _ (r : ℕ) (r-is : r ≡ getD trace k 0) where
+      module _ {r : ℕ} (r-is : r ≡ getD trace k 0) where
         -- its node, its daughters, and what waits behind it
         record Next : Type 0 where
           trees : Forest
@@ -126,7 +127,7 @@ module _ (count : ℕ → ℕ) (trace steps first : List ℕ) where
         nodes-add = omega (arith, nodes-all, ap length (next .nodes))
 
         -- its d daughters are put before those that wait
-        module _ (d : ℕ) (counted : d ≡ count r) where
+        module _ {d : ℕ} (counted : d ≡ count r) where
           pub daughters-small : (j : ℕ) → j < d → getD first k 0 + j < 96
           daughters-small j h = daughters-below (next .trees) (getD first k 0) (count r) (next .daughters) j (omega arith)
 

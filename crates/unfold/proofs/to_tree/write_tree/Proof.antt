@@ -44,7 +44,7 @@ element-copy-out-wide c =
     let g = s .pre .0 in
     let n = daughterCount (a .file .now) in
     let stands = l .inv .4 (g .tree) (g .grows) (g .few) in
-    prediction-small n (a .trace .now) (a .steps .now) (a .first .now) (g .tree) (g .few) (l .w) (l .top) (l .st) (l .out) (a .out .now) (l .inv .2) (omega (arith, s .pre .1, l .inv .3)) (l .inv .1) (omega arith) stands (c .wide .result) (c .wide .ensures .0)
+    prediction-small n (a .trace .now) (a .steps .now) (a .first .now) stands (g .few) (l .inv .2) (omega (arith, s .pre .1, l .inv .3)) (l .inv .1) (omega arith) (c .wide .ensures .0)
 
 wide-requires-2 : tie.Need-wide-requires-2 Inv-loop μ-loop
 wide-requires-2 c κs = search needs
@@ -63,7 +63,7 @@ slice-write-out c =
     let g = s .pre .0 in
     let n = daughterCount (a .file .now) in
     let stands = l .inv .4 (g .tree) (g .grows) (g .few) in
-    let h = write-small n (a .trace .now) (a .steps .now) (a .first .now) (g .tree) (g .few) (l .w) (l .top) (l .st) (l .out) (a .out .now) (l .inv .2) (omega (arith, s .pre .1, l .inv .3)) (l .inv .1) (omega arith) stands (c .before .before .before .wide .result) (c .before .before .before .wide .ensures .0) in
+    let h = write-small n (a .trace .now) (a .steps .now) (a .first .now) stands (g .few) (l .inv .2) (omega (arith, s .pre .1, l .inv .3)) (l .inv .1) (omega arith) (c .before .before .before .wide .ensures .0) in
     omega (arith, s .pre .1, l .inv .3)
 
 add-w : tie.Need-add-w Inv-loop μ-loop
@@ -83,7 +83,7 @@ element-copy-out-push c =
     let g = s .pre .0 in
     let n = daughterCount (a .file .now) in
     let stands = l .inv .4 (g .tree) (g .grows) (g .few) in
-    step-small n (a .trace .now) (a .steps .now) (a .first .now) (g .tree) (g .few) (l .w) (l .top) (l .st) (l .out) (a .out .now) (l .inv .2) (omega (arith, s .pre .1, l .inv .3)) (l .inv .1) (omega arith) stands (c .before .before .before .before .wide .result) (c .before .before .before .before .wide .ensures .0) (c .before .before .wide2 .result) (c .before .before .wide2 .ensures .0)
+    step-small n (a .trace .now) (a .steps .now) (a .first .now) stands (g .few) (l .inv .2) (omega (arith, s .pre .1, l .inv .3)) (l .inv .1) (omega arith) (c .before .before .before .before .wide .ensures .0) (c .before .before .wide2 .ensures .0)
 
 daughter-count-requires : tie.Need-daughter-count-requires Inv-loop μ-loop
 daughter-count-requires c κs = search needs
@@ -96,7 +96,7 @@ push-requires c κs =
     let g = s .pre .0 in
     let n = daughterCount (a .file .now) in
     let stands = l .inv .4 (g .tree) (g .grows) (g .few) in
-    (l .inv .2, omega arith, push-room n (a .trace .now) (a .steps .now) (a .first .now) (g .tree) (g .few) (l .w) (l .top) (l .st) (l .out) (a .out .now) (l .inv .2) (omega (arith, s .pre .1, l .inv .3)) (l .inv .1) (omega arith) stands (c .before .before .before .before .before .before .wide .result) (c .before .before .before .before .before .before .wide .ensures .0) (c .before .before .before .before .wide2 .result) (c .before .before .before .before .wide2 .ensures .0) (c .before .before .before .number-at .result) (c .before .before .before .number-at .ensures) (c .daughter-count .result) (c .daughter-count .ensures), daughters-small n (a .trace .now) (a .steps .now) (a .first .now) (g .tree) (g .few) (l .w) (l .top) (l .st) (l .out) (a .out .now) (l .inv .2) (omega (arith, s .pre .1, l .inv .3)) (l .inv .1) (omega arith) stands (c .before .before .before .before .before .before .wide .result) (c .before .before .before .before .before .before .wide .ensures .0) (c .before .before .before .before .wide2 .result) (c .before .before .before .before .wide2 .ensures .0) (c .before .before .before .number-at .result) (c .before .before .before .number-at .ensures) (c .daughter-count .result) (c .daughter-count .ensures))
+    (l .inv .2, omega arith, push-room n (a .trace .now) (a .steps .now) (a .first .now) stands (g .few) (l .inv .2) (omega (arith, s .pre .1, l .inv .3)) (l .inv .1) (omega arith) (c .before .before .before .before .before .before .wide .ensures .0) (c .before .before .before .before .wide2 .ensures .0) (c .before .before .before .number-at .ensures) (c .daughter-count .ensures), daughters-small n (a .trace .now) (a .steps .now) (a .first .now) stands (g .few) (l .inv .2) (omega (arith, s .pre .1, l .inv .3)) (l .inv .1) (omega arith) (c .before .before .before .before .before .before .wide .ensures .0) (c .before .before .before .before .wide2 .ensures .0) (c .before .before .before .number-at .ensures) (c .daughter-count .ensures))
 
 loop-less : tie.Need-loop-less Inv-loop μ-loop
 loop-less c =
@@ -106,7 +106,7 @@ loop-less c =
     let g = s .pre .0 in
     let n = daughterCount (a .file .now) in
     let stands = l .inv .4 (g .tree) (g .grows) (g .few) in
-    let h = write-small n (a .trace .now) (a .steps .now) (a .first .now) (g .tree) (g .few) (l .w) (l .top) (l .st) (l .out) (a .out .now) (l .inv .2) (omega (arith, s .pre .1, l .inv .3)) (l .inv .1) (omega arith) stands (c .before .before .before .before .before .before .before .wide .result) (c .before .before .before .before .before .before .before .wide .ensures .0) in
+    let h = write-small n (a .trace .now) (a .steps .now) (a .first .now) stands (g .few) (l .inv .2) (omega (arith, s .pre .1, l .inv .3)) (l .inv .1) (omega arith) (c .before .before .before .before .before .before .before .wide .ensures .0) in
     omega arith
 
 loop-again : tie.Need-loop-again Inv-loop μ-loop
@@ -117,9 +117,9 @@ loop-again c =
     let g = s .pre .0 in
     let n = daughterCount (a .file .now) in
     let stands = l .inv .4 (g .tree) (g .grows) (g .few) in
-    let h = write-small n (a .trace .now) (a .steps .now) (a .first .now) (g .tree) (g .few) (l .w) (l .top) (l .st) (l .out) (a .out .now) (l .inv .2) (omega (arith, s .pre .1, l .inv .3)) (l .inv .1) (omega arith) stands (c .before .before .before .before .before .before .before .wide .result) (c .before .before .before .before .before .before .before .wide .ensures .0) in
+    let h = write-small n (a .trace .now) (a .steps .now) (a .first .now) stands (g .few) (l .inv .2) (omega (arith, s .pre .1, l .inv .3)) (l .inv .1) (omega arith) (c .before .before .before .before .before .before .before .wide .ensures .0) in
     let k = c .push .ensures in
-    (omega (arith, k .place), omega arith, k .kept ∙ l .inv .2, simp length-set (l .inv .3), λ tree grows few. stands-next n (a .trace .now) (a .steps .now) (a .first .now) tree few (l .w) (l .top) (l .st) (l .out) (a .out .now) (l .inv .2) (omega (arith, s .pre .1, l .inv .3)) (l .inv .1) (omega arith) (l .inv .4 tree grows few) (c .before .before .before .before .before .before .before .wide .result) (c .before .before .before .before .before .before .before .wide .ensures .0) (c .before .before .before .before .before .wide2 .result) (c .before .before .before .before .before .wide2 .ensures .0) (c .before .before .before .before .number-at .result) (c .before .before .before .before .number-at .ensures) (c .before .daughter-count .result) (c .before .daughter-count .ensures) _ (c .push .result) (k .stack))
+    (omega (arith, k .place), omega arith, k .kept ∙ l .inv .2, simp length-set (l .inv .3), λ tree grows few. stands-next n (a .trace .now) (a .steps .now) (a .first .now) (l .inv .4 tree grows few) few (l .inv .2) (omega (arith, s .pre .1, l .inv .3)) (l .inv .1) (omega arith) (c .before .before .before .before .before .before .before .wide .ensures .0) (c .before .before .before .before .before .wide2 .ensures .0) (c .before .before .before .before .number-at .ensures) (c .before .daughter-count .ensures) _ (c .push .result) (k .stack))
 
 same-length : tie.Need-same-length Inv-loop μ-loop
 same-length c = search needs
