@@ -1,11 +1,12 @@
 -- `listing::stream::found_next` meets its contract.
 -- Assumes nothing.
-use mathlib.Core.Path.{refl, ap, subst, _∙_}
-use mathlib.Core.List.{List}
+use mathlib.Core.Path.{_≡_, refl, ap, subst, _∙_}
+use mathlib.Core.List.{List, _++_}
 use native.Mathlib.Omega.{arith}
 use Rattle.listing.specs.declared.stream.Followed.{Followed}
 use Prim.Native.Nat.{ℕ}
 use lib.ListN.{length, take}
+use Rattle.model.specs.Grammar.{Grammar}
 use Rattle.model.specs.GrammarFile.{grammarOf}
 use Rattle.listing.specs.Stream.{Follows}
 use Rattle.analyses.proofs.Limits.{ranges}
@@ -19,6 +20,13 @@ use Rattle.search.proofs.chain_rules.Reads as chain-rules-reads
 use Rattle.listing.proofs.stream.follow.Reads as follow-reads
 use Rattle.buffers.proofs.write_front.Reads as write-front-reads
 use Rattle.rows.proofs.rules.compile.Reads as compile-reads
+
+-- the list was written to the front of the path: what the search tells is of the list
+told : (g : Grammar) (sentence : List ℕ) (n limit : ℕ) (list : List ℕ) {rest front path : List ℕ} {f x : Followed} → front ≡ take (length list) list ++ rest
+    → Follows g sentence n limit (take (length list) front) path f → f ≡ x → Follows g sentence n limit list path x
+told g sentence n limit list {rest} {front} {path} {f} {x} e h d =
+    subst (λ (l : List ℕ). Follows g sentence n limit l path x) (ap (take (length list)) e ∙ front-is list rest)
+    (subst (λ (y : Followed). Follows g sentence n limit (take (length list) front) path y) d h)
 
 -- src/stream.rt:85:43
 slice-aggregate-write-front : tie.Need-slice-aggregate-write-front
@@ -54,14 +62,18 @@ slice-aggregate-write-front-2 : tie.Need-slice-aggregate-write-front-2
 slice-aggregate-write-front-2 c =
     let s = c .before .before .before .before .before .before .before .before .before .before .before .before .before .before .before .before .before in
     let a = s .args in
-    next-long (grammarOf (a .file .now)) (a .sentence .now) (a .n) (a .limit) (a .previous .now) (a .out .now) (c .before .before .before .before .follow .last .1 .1 .1 .1 .1 .1 .1 .0) (c .before .before .f .given .0 .0) (subst (λ (l : List ℕ). Follows (grammarOf (a .file .now)) (a .sentence .now) (a .n) (a .limit) l (c .before .before .before .before .follow .last .1 .1 .1 .1 .1 .1 .1 .0) (Followed.Next (c .before .before .f .given .0 .0))) (ap (take (length (a .previous .now))) (c .before .before .before .before .before .before .before .before .before .before .before .write-front .ensures) ∙ front-is (a .previous .now) _) (rw (c .before .before .f .given .1) at (c .before .before .before .before .follow .ensures)))
+    let g = grammarOf (a .file .now) in
+    let says = told g (a .sentence .now) (a .n) (a .limit) (a .previous .now) (c .before .before .before .before .before .before .before .before .before .before .before .write-front .ensures) (c .before .before .before .before .follow .ensures) (c .before .before .f .given .1) in
+    next-long g (a .sentence .now) (a .n) (a .limit) (a .previous .now) (a .out .now) (c .before .before .before .before .follow .last .1 .1 .1 .1 .1 .1 .1 .0) (c .before .before .f .given .0 .0) says
 
 -- src/stream.rt:100:13
 write-front-requires-2 : tie.Need-write-front-requires-2
 write-front-requires-2 c κs =
     let s = c .before .before .before .before .before .before .before .before .before .before .before .before .before .before .before .before .before .before in
     let a = s .args in
-    next-room (grammarOf (a .file .now)) (a .sentence .now) (a .n) (a .limit) (a .previous .now) (a .out .now) (c .before .before .before .before .before .follow .last .1 .1 .1 .1 .1 .1 .1 .0) (c .before .before .before .f .given .0 .0) (subst (λ (l : List ℕ). Follows (grammarOf (a .file .now)) (a .sentence .now) (a .n) (a .limit) l (c .before .before .before .before .before .follow .last .1 .1 .1 .1 .1 .1 .1 .0) (Followed.Next (c .before .before .before .f .given .0 .0))) (ap (take (length (a .previous .now))) (c .before .before .before .before .before .before .before .before .before .before .before .before .write-front .ensures) ∙ front-is (a .previous .now) _) (rw (c .before .before .before .f .given .1) at (c .before .before .before .before .before .follow .ensures))) (s .pre .2)
+    let g = grammarOf (a .file .now) in
+    let says = told g (a .sentence .now) (a .n) (a .limit) (a .previous .now) (c .before .before .before .before .before .before .before .before .before .before .before .before .write-front .ensures) (c .before .before .before .before .before .follow .ensures) (c .before .before .before .f .given .1) in
+    next-room g (a .sentence .now) (a .n) (a .limit) (a .previous .now) (a .out .now) (c .before .before .before .before .before .follow .last .1 .1 .1 .1 .1 .1 .1 .0) (c .before .before .before .f .given .0 .0) says (s .pre .2)
 
 -- src/stream.rt:103:44
 enum-told : tie.Need-enum-told
@@ -80,21 +92,27 @@ returns : tie.Need-returns
 returns c =
     let s = c .before .before .before .before .before .before .before .before .before .before .before .before .before .before .before .before .before .before .before .before .before in
     let a = s .args in
-    answers-next (grammarOf (a .file .now)) (a .sentence .now) (a .n) (a .limit) (a .previous .now) (a .out .now) (c .before .before .before .before .before .before .before .before .follow .last .1 .1 .1 .1 .1 .1 .1 .0) (c .before .before .before .before .before .before .f .given .0 .0) (subst (λ (l : List ℕ). Follows (grammarOf (a .file .now)) (a .sentence .now) (a .n) (a .limit) l (c .before .before .before .before .before .before .before .before .follow .last .1 .1 .1 .1 .1 .1 .1 .0) (Followed.Next (c .before .before .before .before .before .before .f .given .0 .0))) (ap (take (length (a .previous .now))) (c .before .before .before .before .before .before .before .before .before .before .before .before .before .before .before .write-front .ensures) ∙ front-is (a .previous .now) _) (rw (c .before .before .before .before .before .before .f .given .1) at (c .before .before .before .before .before .before .before .before .follow .ensures))) _ (c .before .before .write-front2 .ensures)
+    let g = grammarOf (a .file .now) in
+    let says = told g (a .sentence .now) (a .n) (a .limit) (a .previous .now) (c .before .before .before .before .before .before .before .before .before .before .before .before .before .before .before .write-front .ensures) (c .before .before .before .before .before .before .before .before .follow .ensures) (c .before .before .before .before .before .before .f .given .1) in
+    answers-next g (a .sentence .now) (a .n) (a .limit) (a .previous .now) (a .out .now) (c .before .before .before .before .before .before .before .before .follow .last .1 .1 .1 .1 .1 .1 .1 .0) (c .before .before .before .before .before .before .f .given .0 .0) says _ (c .before .before .write-front2 .ensures)
 
 -- src/stream.rt:73:1
 returns-2 : tie.Need-returns-2
 returns-2 c =
     let s = c .before .before .before .before .before .before .before .before .before .before .before .before .before .before .before in
     let a = s .args in
-    answers-last (grammarOf (a .file .now)) (a .sentence .now) (a .n) (a .limit) (a .previous .now) (a .out .now) (c .before .before .follow .last .1 .1 .1 .1 .1 .1 .1 .0) (subst (λ (l : List ℕ). Follows (grammarOf (a .file .now)) (a .sentence .now) (a .n) (a .limit) l (c .before .before .follow .last .1 .1 .1 .1 .1 .1 .1 .0) Followed.Last) (ap (take (length (a .previous .now))) (c .before .before .before .before .before .before .before .before .before .write-front .ensures) ∙ front-is (a .previous .now) _) (rw (c .enum-told .given .1) at (c .before .before .follow .ensures)))
+    let g = grammarOf (a .file .now) in
+    let says = told g (a .sentence .now) (a .n) (a .limit) (a .previous .now) (c .before .before .before .before .before .before .before .before .before .write-front .ensures) (c .before .before .follow .ensures) (c .enum-told .given .1) in
+    answers-last g (a .sentence .now) (a .n) (a .limit) (a .previous .now) (a .out .now) (c .before .before .follow .last .1 .1 .1 .1 .1 .1 .1 .0) says
 
 -- src/stream.rt:73:1
 returns-3 : tie.Need-returns-3
 returns-3 c =
     let s = c .before .before .before .before .before .before .before .before .before .before .before .before .before .before .before in
     let a = s .args in
-    answers-over (grammarOf (a .file .now)) (a .sentence .now) (a .n) (a .limit) (a .previous .now) (a .out .now) (c .before .before .follow .last .1 .1 .1 .1 .1 .1 .1 .0) (subst (λ (l : List ℕ). Follows (grammarOf (a .file .now)) (a .sentence .now) (a .n) (a .limit) l (c .before .before .follow .last .1 .1 .1 .1 .1 .1 .1 .0) Followed.Over) (ap (take (length (a .previous .now))) (c .before .before .before .before .before .before .before .before .before .write-front .ensures) ∙ front-is (a .previous .now) _) (rw (c .enum-told2 .given .1) at (c .before .before .follow .ensures)))
+    let g = grammarOf (a .file .now) in
+    let says = told g (a .sentence .now) (a .n) (a .limit) (a .previous .now) (c .before .before .before .before .before .before .before .before .before .write-front .ensures) (c .before .before .follow .ensures) (c .enum-told2 .given .1) in
+    answers-over g (a .sentence .now) (a .n) (a .limit) (a .previous .now) (a .out .now) (c .before .before .follow .last .1 .1 .1 .1 .1 .1 .1 .0) says
 
 pub found-next-spec : {M : Type 1} → statement M
 found-next-spec =
