@@ -22,9 +22,9 @@ use Rattle.buffers.proofs.write_front.Reads as write-front-reads
 use Rattle.rows.proofs.rules.compile.Reads as compile-reads
 
 -- the list was written to the front of the path: what the search tells is of the list
-told : (g : Grammar) (sentence : List ℕ) (n limit : ℕ) (list : List ℕ) {rest front path : List ℕ} {f x : Followed} → front ≡ take (length list) list ++ rest
+told : (g : Grammar) (sentence : List ℕ) (n limit : ℕ) (list rest path : List ℕ) {front : List ℕ} {f x : Followed} → front ≡ take (length list) list ++ rest
     → Follows g sentence n limit (take (length list) front) path f → f ≡ x → Follows g sentence n limit list path x
-told g sentence n limit list {rest} {front} {path} {f} {x} e h d =
+told g sentence n limit list rest path {front} {f} {x} e h d =
     subst (λ (l : List ℕ). Follows g sentence n limit l path x) (ap (take (length list)) e ∙ front-is list rest)
     (subst (λ (y : Followed). Follows g sentence n limit (take (length list) front) path y) d h)
 
@@ -63,8 +63,9 @@ slice-aggregate-write-front-2 c =
     let s = c .before .before .before .before .before .before .before .before .before .before .before .before .before .before .before .before .before in
     let a = s .args in
     let g = grammarOf (a .file .now) in
-    let says = told g (a .sentence .now) (a .n) (a .limit) (a .previous .now) (c .before .before .before .before .before .before .before .before .before .before .before .write-front .ensures) (c .before .before .before .before .follow .ensures) (c .before .before .f .given .1) in
-    next-long g (a .sentence .now) (a .n) (a .limit) (a .previous .now) (a .out .now) (c .before .before .before .before .follow .last .1 .1 .1 .1 .1 .1 .1 .0) (c .before .before .f .given .0 .0) says
+    let path = c .before .before .before .before .follow .last .1 .1 .1 .1 .1 .1 .1 .0 in
+    let says = told g (a .sentence .now) (a .n) (a .limit) (a .previous .now) _ path (c .before .before .before .before .before .before .before .before .before .before .before .write-front .ensures) (c .before .before .before .before .follow .ensures) (c .before .before .f .given .1) in
+    next-long g (a .sentence .now) (a .n) (a .limit) (a .previous .now) (a .out .now) path (c .before .before .f .given .0 .0) says
 
 -- src/stream.rt:100:13
 write-front-requires-2 : tie.Need-write-front-requires-2
@@ -72,8 +73,9 @@ write-front-requires-2 c κs =
     let s = c .before .before .before .before .before .before .before .before .before .before .before .before .before .before .before .before .before .before in
     let a = s .args in
     let g = grammarOf (a .file .now) in
-    let says = told g (a .sentence .now) (a .n) (a .limit) (a .previous .now) (c .before .before .before .before .before .before .before .before .before .before .before .before .write-front .ensures) (c .before .before .before .before .before .follow .ensures) (c .before .before .before .f .given .1) in
-    next-room g (a .sentence .now) (a .n) (a .limit) (a .previous .now) (a .out .now) (c .before .before .before .before .before .follow .last .1 .1 .1 .1 .1 .1 .1 .0) (c .before .before .before .f .given .0 .0) says (s .pre .2)
+    let path = c .before .before .before .before .before .follow .last .1 .1 .1 .1 .1 .1 .1 .0 in
+    let says = told g (a .sentence .now) (a .n) (a .limit) (a .previous .now) _ path (c .before .before .before .before .before .before .before .before .before .before .before .before .write-front .ensures) (c .before .before .before .before .before .follow .ensures) (c .before .before .before .f .given .1) in
+    next-room g (a .sentence .now) (a .n) (a .limit) (a .previous .now) (a .out .now) path (c .before .before .before .f .given .0 .0) says (s .pre .2)
 
 -- src/stream.rt:103:44
 enum-told : tie.Need-enum-told
@@ -93,8 +95,9 @@ returns c =
     let s = c .before .before .before .before .before .before .before .before .before .before .before .before .before .before .before .before .before .before .before .before .before in
     let a = s .args in
     let g = grammarOf (a .file .now) in
-    let says = told g (a .sentence .now) (a .n) (a .limit) (a .previous .now) (c .before .before .before .before .before .before .before .before .before .before .before .before .before .before .before .write-front .ensures) (c .before .before .before .before .before .before .before .before .follow .ensures) (c .before .before .before .before .before .before .f .given .1) in
-    answers-next g (a .sentence .now) (a .n) (a .limit) (a .previous .now) (a .out .now) (c .before .before .before .before .before .before .before .before .follow .last .1 .1 .1 .1 .1 .1 .1 .0) (c .before .before .before .before .before .before .f .given .0 .0) says _ (c .before .before .write-front2 .ensures)
+    let path = c .before .before .before .before .before .before .before .before .follow .last .1 .1 .1 .1 .1 .1 .1 .0 in
+    let says = told g (a .sentence .now) (a .n) (a .limit) (a .previous .now) _ path (c .before .before .before .before .before .before .before .before .before .before .before .before .before .before .before .write-front .ensures) (c .before .before .before .before .before .before .before .before .follow .ensures) (c .before .before .before .before .before .before .f .given .1) in
+    answers-next g (a .sentence .now) (a .n) (a .limit) (a .previous .now) (a .out .now) path (c .before .before .before .before .before .before .f .given .0 .0) says _ (c .before .before .write-front2 .ensures)
 
 -- src/stream.rt:73:1
 returns-2 : tie.Need-returns-2
@@ -102,8 +105,9 @@ returns-2 c =
     let s = c .before .before .before .before .before .before .before .before .before .before .before .before .before .before .before in
     let a = s .args in
     let g = grammarOf (a .file .now) in
-    let says = told g (a .sentence .now) (a .n) (a .limit) (a .previous .now) (c .before .before .before .before .before .before .before .before .before .write-front .ensures) (c .before .before .follow .ensures) (c .enum-told .given .1) in
-    answers-last g (a .sentence .now) (a .n) (a .limit) (a .previous .now) (a .out .now) (c .before .before .follow .last .1 .1 .1 .1 .1 .1 .1 .0) says
+    let path = c .before .before .follow .last .1 .1 .1 .1 .1 .1 .1 .0 in
+    let says = told g (a .sentence .now) (a .n) (a .limit) (a .previous .now) _ path (c .before .before .before .before .before .before .before .before .before .write-front .ensures) (c .before .before .follow .ensures) (c .enum-told .given .1) in
+    answers-last g (a .sentence .now) (a .n) (a .limit) (a .previous .now) (a .out .now) path says
 
 -- src/stream.rt:73:1
 returns-3 : tie.Need-returns-3
@@ -111,8 +115,9 @@ returns-3 c =
     let s = c .before .before .before .before .before .before .before .before .before .before .before .before .before .before .before in
     let a = s .args in
     let g = grammarOf (a .file .now) in
-    let says = told g (a .sentence .now) (a .n) (a .limit) (a .previous .now) (c .before .before .before .before .before .before .before .before .before .write-front .ensures) (c .before .before .follow .ensures) (c .enum-told2 .given .1) in
-    answers-over g (a .sentence .now) (a .n) (a .limit) (a .previous .now) (a .out .now) (c .before .before .follow .last .1 .1 .1 .1 .1 .1 .1 .0) says
+    let path = c .before .before .follow .last .1 .1 .1 .1 .1 .1 .1 .0 in
+    let says = told g (a .sentence .now) (a .n) (a .limit) (a .previous .now) _ path (c .before .before .before .before .before .before .before .before .before .write-front .ensures) (c .before .before .follow .ensures) (c .enum-told2 .given .1) in
+    answers-over g (a .sentence .now) (a .n) (a .limit) (a .previous .now) (a .out .now) path says
 
 pub found-next-spec : {M : Type 1} → statement M
 found-next-spec =

@@ -66,15 +66,15 @@ stepped-at t = and 5 stepped-kinds.ps (is 5 stepped-kinds.ps μ-stepped t) stepp
 abbrev stepped-below : ℕ → In 5 stepped-kinds.ps
 stepped-below t = and 5 stepped-kinds.ps (falls 5 stepped-kinds.ps _<_ μ-stepped t) stepped.Pre
 
--- what `expanded` asks of the functions that it calls, and what they tell it
+-- the contracts of what `expanded` calls
 abbrev expanded-claims : ℕ → expanded-lts.Claims
 expanded-claims t = (expand-reads.Asked, expand-reads.Learnt, search-below t, search′.Post)
 
--- what `search` asks of the functions that it calls, and what they tell it
+-- the contracts of what `search` calls
 abbrev search-claims : ℕ → search-lts.Claims
 search-claims t = (complete-reads.Asked, complete-reads.Learnt, category-reads.Asked, category-reads.Learnt, stepped-below t, stepped.Post, note-reads.Asked, note-reads.Learnt)
 
--- what `stepped` asks of the functions that it calls, and what they tell it
+-- the contracts of what `stepped` calls
 abbrev stepped-claims : ℕ → stepped-lts.Claims
 stepped-claims t = (daughters-reads.Asked, daughters-reads.Learnt, word-reads.Asked, word-reads.Learnt, search-below t, search′.Post, fits-reads.Asked, fits-reads.Learnt, expanded-below t, expanded.Post)
 
