@@ -1,8 +1,8 @@
 //! Links libdowngrater.a from the folder DOWNGRATER_LIB, by default from target/staticlib at the top of the repository. Where there is no
 //! library the crate builds without it.
 
-use std::path::{Path, PathBuf};
 use std::env;
+use std::path::{Path, PathBuf};
 
 fn main() {
     println!("cargo::rustc-check-cfg=cfg(downgrater_library)");
