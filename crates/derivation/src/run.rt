@@ -10,13 +10,7 @@ use model::RuleNumber;
 use recognizer::step::Stepped;
 use recognizer::step::step;
 use rows::row::owner;
-
-// The same number, of which it is known that it has 16 bits.
-fn wide(x: u16) -> usize
-    ensures { λ n. ⌜ (n ≡ x) × (n < 65536) ⌝ }
-{
-    x as usize
-}
+use rows::rules::wide;
 
 // Names d predictions from number `made` on by the places of the daughters of the node at place i, which the table of ends gives.
 fn name_daughters(ends: &[u16; 96], i: usize, made: usize, d: usize, names: &mut [u16; 96])

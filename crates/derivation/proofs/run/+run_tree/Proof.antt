@@ -19,7 +19,7 @@ use Rattle.derivation.proofs.run.run_tree.Kinds as run-tree-kinds
 use Rattle.derivation.proofs.run.+run_tree.Lts-run_tree as run-tree-lts
 use Rattle.derivation.proofs.run.front_node.Reads as front-node-reads
 use Rattle.derivation.proofs.run.name_daughters.Reads as name-daughters-reads
-use Rattle.derivation.proofs.run.wide.Reads as wide-reads
+use Rattle.rows.proofs.rules.wide.Reads as wide-reads
 use Rattle.recognizer.proofs.step.step.Reads as step-reads
 use Rattle.derivation.proofs.run.+run_tree.{statement}
 use Rattle.derivation.proofs.run.+run_tree.Tie.{close}
