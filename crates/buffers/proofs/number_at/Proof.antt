@@ -8,19 +8,15 @@ use Rattle.buffers.proofs.number_at.Tie as tie
 use Rattle.buffers.proofs.number_at.Reads as reads
 use Rattle.buffers.proofs.number_at.Lts as lts
 
--- src/lib.rt:15:25
 mul-result : tie.Need-mul-result
 mul-result c = search needs
 
--- src/lib.rt:15:25
 shared-slice-read-result : tie.Need-shared-slice-read-result
 shared-slice-read-result c = search needs
 
--- src/lib.rt:12:1
 returns : tie.Need-returns
 returns c = search needs
 
--- src/lib.rt:12:1
 returns-2 : tie.Need-returns-2
 returns-2 c = sym (List·getD-eq-default (c .before .args .list .now) 0 (c .if1 .left))
 

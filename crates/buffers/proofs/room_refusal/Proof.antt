@@ -6,11 +6,9 @@ use Rattle.buffers.proofs.room_refusal.Tie as tie
 use Rattle.buffers.proofs.room_refusal.Reads as reads
 use Rattle.buffers.proofs.room_refusal.Lts as lts
 
--- src/lib.rt:19:1
 returns : tie.Need-returns
 returns c = simp (lt-ltb _ _ (c .if1 .taken))
 
--- src/lib.rt:19:1
 returns-2 : tie.Need-returns-2
 returns-2 c = simp (le-ltb _ _ (c .if1 .left))
 

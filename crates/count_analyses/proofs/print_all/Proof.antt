@@ -11,15 +11,12 @@ use Rattle.count_analyses.proofs.print_listing.Reads as print-listing-r
 use Rattle.count_analyses.proofs.print_refusal.Reads as print-refusal-reads
 use Rattle.report.proofs.program_verdict.Reads as program-verdict-reads
 
--- src/main.rt:177:9
 program-verdict-requires : tie.Need-program-verdict-requires
 program-verdict-requires c κs = search needs
 
--- src/main.rt:179:31
 enum-known-v : tie.Need-enum-known-v
 enum-known-v c = search needs
 
--- src/main.rt:180:13
 print-listing-requires : tie.Need-print-listing-requires
 print-listing-requires c κs =
     let a = c .before .before .before .before .before .before .args in
@@ -27,19 +24,15 @@ print-listing-requires c κs =
     let w = affords (a .file .now) (a .sentence .now) (a .n) (a .even) _ _ (sym (v .ensures) ∙ c .before .v .given .1) in
     (w .accepted, w .some-nodes, w .few-nodes, w .affordable)
 
--- src/main.rt:182:34
 enum-known-v-2 : tie.Need-enum-known-v-2
 enum-known-v-2 c = search needs
 
--- src/main.rt:183:13
 print-refusal-requires : tie.Need-print-refusal-requires
 print-refusal-requires c κs = search needs
 
--- src/main.rt:176:1
 returns : tie.Need-returns
 returns c = search needs
 
--- src/main.rt:176:1
 returns-2 : tie.Need-returns-2
 returns-2 c = search needs
 

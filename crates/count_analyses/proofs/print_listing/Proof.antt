@@ -23,27 +23,21 @@ Inv-loop file sentence n count effort t chain path₀ out₀ at₀ len₀ pages�
 abbrev μ-loop : tie.MeasureT-loop
 μ-loop file sentence n count effort t chain path₀ out₀ at₀ len₀ pages₀ path out at len pages = pages
 
--- src/main.rt:157:13
 compile-requires : tie.Need-compile-requires Inv-loop μ-loop
 compile-requires c κs = search needs
 
--- src/main.rt:158:17
 chain-rules-requires : tie.Need-chain-rules-requires Inv-loop μ-loop
 chain-rules-requires c κs = search needs
 
--- src/main.rt:160:21
 large-buffer-requires : tie.Need-large-buffer-requires Inv-loop μ-loop
 large-buffer-requires c κs = search needs
 
--- src/main.rt:161:9
 slice-aggregate-out : tie.Need-slice-aggregate-out Inv-loop μ-loop
 slice-aggregate-out c = search needs
 
--- src/main.rt:162:9
 put-count-requires : tie.Need-put-count-requires Inv-loop μ-loop
 put-count-requires c κs = search needs
 
--- src/main.rt:165:5
 loop-holds : tie.Need-loop-holds Inv-loop μ-loop
 loop-holds c =
     let s = c .before .before .before .before .before .before .before .before .before .before in
@@ -61,31 +55,24 @@ loop-holds c =
       c .before .before .put-count .ensures .within,
     )
 
--- src/main.rt:166:13
 print-page-requires : tie.Need-print-page-requires Inv-loop μ-loop
 print-page-requires c κs = c .before .before .before .before .before .loop .inv
 
--- src/main.rt:167:25
 enum-known-next : tie.Need-enum-known-next Inv-loop μ-loop
 enum-known-next c = search needs
 
--- src/main.rt:168:13
 enum-told : tie.Need-enum-told Inv-loop μ-loop
 enum-told c = search needs
 
--- src/main.rt:168:13
 returns : tie.Need-returns Inv-loop μ-loop
 returns c = search needs
 
--- src/main.rt:172:9
 sub-pages : tie.Need-sub-pages Inv-loop μ-loop
 sub-pages c = search needs
 
--- src/main.rt:165:5
 loop-less : tie.Need-loop-less Inv-loop μ-loop
 loop-less c = search needs
 
--- src/main.rt:165:5
 loop-again : tie.Need-loop-again Inv-loop μ-loop
 loop-again c =
     let i = c .before .before .before .before .before .before .before .before .before .before .before .loop in
@@ -93,7 +80,6 @@ loop-again c =
     let w = rw (c .before .next .given .1) at (l .ensures) in
     (lists-again (i .inv .0) _ _ (w .0) (w .1), omega arith)
 
--- src/main.rt:154:1
 returns-2 : tie.Need-returns-2 Inv-loop μ-loop
 returns-2 c = search needs
 

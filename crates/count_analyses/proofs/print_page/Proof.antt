@@ -8,73 +8,56 @@ use Rattle.count_analyses.proofs.print_page.Lts as lts
 use Rattle.io.proofs.write_all.Reads as write-all-reads
 use Rattle.report.proofs.fill.Reads as fill-reads
 
--- src/main.rt:137:9
 fill-requires : tie.Need-fill-requires
 fill-requires c κs = search needs
 
--- src/main.rt:139:20
 enum-known-page : tie.Need-enum-known-page
 enum-known-page c = search needs
 
--- src/main.rt:140:42
 sub-write-all : tie.Need-sub-write-all
 sub-write-all c = search needs
 
--- src/main.rt:140:42
 part-write-all-start : tie.Need-part-write-all-start
 part-write-all-start c = search needs
 
--- src/main.rt:140:42
 part-write-all-end : tie.Need-part-write-all-end
 part-write-all-end c = (rw (c .before .before .page .given .1) at (c .before .before .before .before .before .before .fill .ensures)) .1 .within
 
--- src/main.rt:140:13
 write-all-requires : tie.Need-write-all-requires
 write-all-requires c κs = search needs
 
--- src/main.rt:143:20
 enum-known-page-2 : tie.Need-enum-known-page-2
 enum-known-page-2 c = search needs
 
--- src/main.rt:144:45
 sub-write-all-2 : tie.Need-sub-write-all-2
 sub-write-all-2 c = search needs
 
--- src/main.rt:144:45
 part-write-all-start-2 : tie.Need-part-write-all-start-2
 part-write-all-start-2 c = search needs
 
--- src/main.rt:144:45
 part-write-all-end-2 : tie.Need-part-write-all-end-2
 part-write-all-end-2 c = (rw (c .before .before .page2 .given .1) at (c .before .before .before .before .before .before .fill .ensures)) .1 .within
 
--- src/main.rt:144:16
 write-all-requires-2 : tie.Need-write-all-requires-2
 write-all-requires-2 c κs = search needs
 
--- src/main.rt:123:1
 same-length : tie.Need-same-length
 same-length c = search needs
 
--- src/main.rt:123:1
 returns : tie.Need-returns
 returns c = search needs
 
--- src/main.rt:123:1
 same-length-2 : tie.Need-same-length-2
 same-length-2 c = search needs
 
--- src/main.rt:123:1
 returns-2 : tie.Need-returns-2
 returns-2 c =
     let w = rw (c .before .before .before .before .before .page2 .given .1) at (c .before .before .before .before .before .before .before .before .before .fill .ensures) in
     (w .2, w .3)
 
--- src/main.rt:123:1
 same-length-3 : tie.Need-same-length-3
 same-length-3 c = search needs
 
--- src/main.rt:123:1
 returns-3 : tie.Need-returns-3
 returns-3 c = search needs
 

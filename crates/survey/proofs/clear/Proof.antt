@@ -20,27 +20,21 @@ Inv-loop figures₀ n i₀ figures i = (n ≡ length figures₀) × (i ≤ n) ×
 abbrev μ-loop : tie.MeasureT-loop
 μ-loop figures₀ n i₀ figures i = n - i
 
--- src/lib.rt:91:5
 loop-holds : tie.Need-loop-holds Inv-loop μ-loop
 loop-holds c = search needs
 
--- src/lib.rt:92:9
 mul-figures : tie.Need-mul-figures Inv-loop μ-loop
 mul-figures c = search needs
 
--- src/lib.rt:92:9
 slice-write-figures : tie.Need-slice-write-figures Inv-loop μ-loop
 slice-write-figures c = search needs
 
--- src/lib.rt:93:9
 add-i : tie.Need-add-i Inv-loop μ-loop
 add-i c = search needs
 
--- src/lib.rt:91:5
 loop-less : tie.Need-loop-less Inv-loop μ-loop
 loop-less c = search needs
 
--- src/lib.rt:91:5
 loop-again : tie.Need-loop-again Inv-loop μ-loop
 loop-again c =
     let t = c .before in
@@ -48,11 +42,9 @@ loop-again c =
     let h : t .loop .i < length a = omega (arith, t .loop .inv .0) in
     (t .loop .inv .0, omega arith, search needs, rw add-one (rw (t .loop .inv .3) (cleared a (t .loop .i) h)))
 
--- src/lib.rt:86:1
 same-length : tie.Need-same-length Inv-loop μ-loop
 same-length c = search needs
 
--- src/lib.rt:86:1
 returns : tie.Need-returns Inv-loop μ-loop
 returns c =
     let a = c .before .before .args .figures .now in

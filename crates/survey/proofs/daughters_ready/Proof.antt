@@ -25,34 +25,27 @@ Inv-loop file figures r round n j₀ j =
 abbrev μ-loop : tie.MeasureT-loop
 μ-loop file figures r round n j₀ j = n - j
 
--- src/lib.rt:19:13
 daughter-count-requires : tie.Need-daughter-count-requires Inv-loop μ-loop
 daughter-count-requires c κs = search needs
 
--- src/lib.rt:19:13
 cast-n : tie.Need-cast-n Inv-loop μ-loop
 cast-n c = search needs
 
--- src/lib.rt:21:5
 loop-holds : tie.Need-loop-holds Inv-loop μ-loop
 loop-holds c =
     let s = c .before .before .before in
     let n = daughter-number (s .args .file .now) (s .pre .0) (s .args .r .0) (s .pre .1) in
     (c .daughter-count .ensures ∙ sym n, omega arith, refl)
 
--- src/lib.rt:22:13
 daughter-requires : tie.Need-daughter-requires Inv-loop μ-loop
 daughter-requires c κs = search needs
 
--- src/lib.rt:23:36
 cast-number-at : tie.Need-cast-number-at Inv-loop μ-loop
 cast-number-at c = search needs
 
--- src/lib.rt:23:13
 number-at-requires : tie.Need-number-at-requires Inv-loop μ-loop
 number-at-requires c κs = search needs
 
--- src/lib.rt:25:13
 returns : tie.Need-returns Inv-loop μ-loop
 returns c =
     let t = c .before .before .before .before .before in
@@ -64,7 +57,6 @@ returns c =
     let rest = ready (s .args .round) (s .args .figures .now) (drop (suc j) (daughtersOf e)) in
     sym (sym (t .loop .inv .2) ∙ d ∙ no-figure (c .before .number-at .result) (s .args .round) rest (c .if1 .taken))
 
--- src/lib.rt:28:13
 returns-2 : tie.Need-returns-2 Inv-loop μ-loop
 returns-2 c =
     let t = c .before .before .before .before .before .before in
@@ -76,15 +68,12 @@ returns-2 c =
     let rest = ready (s .args .round) (s .args .figures .now) (drop (suc j) (daughtersOf e)) in
     sym (sym (t .loop .inv .2) ∙ d ∙ late-figure (c .before .before .number-at .result) (s .args .round) rest (c .if2 .taken))
 
--- src/lib.rt:30:9
 add-j : tie.Need-add-j Inv-loop μ-loop
 add-j c = search needs
 
--- src/lib.rt:21:5
 loop-less : tie.Need-loop-less Inv-loop μ-loop
 loop-less c = search needs
 
--- src/lib.rt:21:5
 loop-again : tie.Need-loop-again Inv-loop μ-loop
 loop-again c =
     let t = c .before .before .before .before .before .before in
@@ -96,7 +85,6 @@ loop-again c =
     let rest = ready (s .args .round) (s .args .figures .now) (drop (suc j) (daughtersOf e)) in
     (t .loop .inv .0, omega arith, rw add-one (sym (d ∙ early-figure (c .before .before .number-at .result) (s .args .round) rest (c .before .if1 .left) (c .if2 .left)) ∙ t .loop .inv .2))
 
--- src/lib.rt:15:1
 returns-3 : tie.Need-returns-3 Inv-loop μ-loop
 returns-3 c =
     let s = c .before .before .before .before .before in

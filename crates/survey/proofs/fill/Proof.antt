@@ -22,36 +22,29 @@ Inv-loop file figures₀ last round₀ figures round =
 abbrev μ-loop : tie.MeasureT-loop
 μ-loop file figures₀ last round₀ figures round = last + 1 - round
 
--- src/lib.rt:74:16
 categories-requires : tie.Need-categories-requires Inv-loop μ-loop
 categories-requires c κs = search needs
 
--- src/lib.rt:74:16
 cast-last : tie.Need-cast-last Inv-loop μ-loop
 cast-last c = search needs
 
--- src/lib.rt:76:5
 loop-holds : tie.Need-loop-holds Inv-loop μ-loop
 loop-holds c =
     let s = c .before .before .before in
     (c .categories .ensures, omega arith, omega arith, refl, s .pre .1 ∙ first-round (s .args .file .now) (s .pre .0))
 
--- src/lib.rt:77:12
 visit-all-requires : tie.Need-visit-all-requires Inv-loop μ-loop
 visit-all-requires c κs =
     let t = c .before .before in
     let s = t .before .before .before .before in
     (s .pre .0, t .loop .inv .3 ∙ ap length (s .pre .1) ∙ length-replicate _ _)
 
--- src/lib.rt:78:13
 add-round : tie.Need-add-round Inv-loop μ-loop
 add-round c = search needs
 
--- src/lib.rt:76:5
 loop-less : tie.Need-loop-less Inv-loop μ-loop
 loop-less c = search needs
 
--- src/lib.rt:76:5
 loop-again : tie.Need-loop-again Inv-loop μ-loop
 loop-again c =
     let t = c .before .before .before .before .before .before in
@@ -64,11 +57,9 @@ loop-again c =
       next-round (s .args .file .now) (s .pre .0) (t .loop .round) (t .loop .figures) _ (omega arith) (t .loop .inv .4) (v .ensures .0),
     )
 
--- src/lib.rt:80:13
 same-length : tie.Need-same-length Inv-loop μ-loop
 same-length c = search needs
 
--- src/lib.rt:80:13
 returns : tie.Need-returns Inv-loop μ-loop
 returns c =
     let t = c .before .before .before .before .before .before in
@@ -76,11 +67,9 @@ returns c =
     let v = c .before .before .before .visit-all in
     idle-round (s .args .file .now) (s .pre .0) (t .loop .round) (t .loop .figures) _ (omega arith) (omega (arith, t .loop .inv .0)) (t .loop .inv .4) (v .ensures .0) (v .ensures .1 (c .if1 .left))
 
--- src/lib.rt:70:1
 same-length-2 : tie.Need-same-length-2 Inv-loop μ-loop
 same-length-2 c = search needs
 
--- src/lib.rt:70:1
 returns-2 : tie.Need-returns-2 Inv-loop μ-loop
 returns-2 c =
     let s = c .before .before .before .before .before in

@@ -21,40 +21,33 @@ use Rattle.grammar.proofs.categories.Reads as categories-reads
 use Rattle.reader.proofs.read_grammar.Reads as read-grammar-reads
 use Rattle.survey.proofs.write_figures.Reads as write-figures-reads
 
--- src/lib.rt:105:9
 read-grammar-requires : tie.Need-read-grammar-requires
 read-grammar-requires c κs = search needs
 
 enum-told : tie.Need-enum-told
 enum-told c = search needs
 
--- src/lib.rt:107:9
 enum-told-2 : tie.Need-enum-told-2
 enum-told-2 c = search needs
 
--- src/lib.rt:107:9
 returns : tie.Need-returns
 returns c =
     let a = c .before .before .before .before .before .args in
     let k = c .before .before .read-grammar in
     refused-grammar (a .file .now) (a .out .now) (k .result) (k .ensures) (c .enum-told2 .given .1)
 
--- src/lib.rt:109:9
 room-refusal-requires : tie.Need-room-refusal-requires
 room-refusal-requires c κs = search needs
 
 enum-told-3 : tie.Need-enum-told-3
 enum-told-3 c = search needs
 
--- src/lib.rt:111:9
 enum-told-4 : tie.Need-enum-told-4
 enum-told-4 c = search needs
 
--- src/lib.rt:111:9
 same-length : tie.Need-same-length
 same-length c = search needs
 
--- src/lib.rt:111:9
 returns-2 : tie.Need-returns-2
 returns-2 c =
     let a = c .before .before .before .before .before .before .before .before .before .args in
@@ -63,23 +56,18 @@ returns-2 c =
     let accepted = passed (grammarRefusal (a .file .now)) (rulesOf (a .file .now)) (g .result) (g .ensures) (c .before .before .before .before .enum-told .given .1) in
     refused-room (a .file .now) (a .out .now) accepted (k .result) (k .ensures) (c .enum-told4 .given .1)
 
--- src/lib.rt:113:13
 categories-requires : tie.Need-categories-requires
 categories-requires c κs = search needs
 
--- src/lib.rt:113:13
 cast-n : tie.Need-cast-n
 cast-n c = search needs
 
--- src/lib.rt:114:25
 sub-write-figures : tie.Need-sub-write-figures
 sub-write-figures c = search needs
 
--- src/lib.rt:114:25
 part-write-figures-start : tie.Need-part-write-figures-start
 part-write-figures-start c = search needs
 
--- src/lib.rt:114:25
 part-write-figures-end : tie.Need-part-write-figures-end
 part-write-figures-end c =
     let a = c .before .before .before .before .before .before .before .before .before .before .args in
@@ -89,7 +77,6 @@ part-write-figures-end c =
     let room = passed (roomRefusal (a .out .now)) 0 (k .result) (k .ensures) (c .before .enum-told3 .given .1) in
     omega (arith, c .categories .ensures, categories-in (a .file .now) accepted, room-long (a .out .now) room)
 
--- src/lib.rt:114:5
 write-figures-requires : tie.Need-write-figures-requires
 write-figures-requires c κs =
     let a = c .before .before .before .before .before .before .before .before .before .before .before .args in
@@ -100,11 +87,9 @@ write-figures-requires c κs =
     let n : categoriesOf (a .file .now) ≤ length (a .out .now) = omega (arith, categories-in (a .file .now) accepted, room-long (a .out .now) room) in
     (accepted, simp length-take (omega (arith, c .before .categories .ensures, n)))
 
--- src/lib.rt:102:1
 same-length-2 : tie.Need-same-length-2
 same-length-2 c = search needs
 
--- src/lib.rt:102:1
 returns-3 : tie.Need-returns-3
 returns-3 c =
     let a = c .before .before .before .before .before .before .before .before .before .before .before .before .before .before .args in

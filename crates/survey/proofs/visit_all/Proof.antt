@@ -28,27 +28,21 @@ Inv-loop file figures₀ round rules changed₀ r₀ figures changed r =
 abbrev μ-loop : tie.MeasureT-loop
 μ-loop file figures₀ round rules changed₀ r₀ figures changed r = rules - r
 
--- src/lib.rt:57:9
 rules-requires : tie.Need-rules-requires Inv-loop μ-loop
 rules-requires c κs = search needs
 
--- src/lib.rt:60:5
 loop-holds : tie.Need-loop-holds Inv-loop μ-loop
 loop-holds c = (c .rules .ensures, omega arith, refl, refl, λ n. refl)
 
--- src/lib.rt:61:12
 visit-rule-requires : tie.Need-visit-rule-requires Inv-loop μ-loop
 visit-rule-requires c κs = search needs
 
--- src/lib.rt:64:9
 add-r : tie.Need-add-r Inv-loop μ-loop
 add-r c = search needs
 
--- src/lib.rt:60:5
 loop-less : tie.Need-loop-less Inv-loop μ-loop
 loop-less c = search needs
 
--- src/lib.rt:60:5
 loop-again : tie.Need-loop-again Inv-loop μ-loop
 loop-again c =
     let v = c .before .before .before .visit-rule in
@@ -61,11 +55,9 @@ loop-again c =
       ⊎-elim (λ w n. not-both (sym (w .1) ∙ n)) (λ w n. v .ensures .1 (w .0 .left) ∙ t .loop .inv .4 (sym (w .1) ∙ n)) (c .if1 .came),
     )
 
--- src/lib.rt:53:1
 same-length : tie.Need-same-length Inv-loop μ-loop
 same-length c = search needs
 
--- src/lib.rt:53:1
 returns : tie.Need-returns Inv-loop μ-loop
 returns c =
     let s = c .before .before .before .before .before in

@@ -16,23 +16,18 @@ use Rattle.buffers.proofs.number_at.Reads as number-at-reads
 use Rattle.grammar.proofs.category_of.Reads as category-of-reads
 use Rattle.survey.proofs.daughters_ready.Reads as daughters-ready-reads
 
--- src/lib.rt:40:9
 category-of-requires : tie.Need-category-of-requires
 category-of-requires c κs = search needs
 
--- src/lib.rt:41:13
 cast-i : tie.Need-cast-i
 cast-i c = search needs
 
--- src/lib.rt:42:8
 number-at-requires : tie.Need-number-at-requires
 number-at-requires c κs = search needs
 
--- src/lib.rt:43:9
 same-length : tie.Need-same-length
 same-length c = search needs
 
--- src/lib.rt:43:9
 returns : tie.Need-returns
 returns c =
     let s = c .before .before .before .before .before .before .before in
@@ -43,25 +38,20 @@ returns c =
     let x : c .before .number-at .result ≡ getD F (field (recordOf f r) 0) 0 = c .before .number-at .ensures ∙ ap (λ (k : ℕ). getD F k 0) a in
     (sym (visit-figured f (s .pre .0) r (s .pre .1) (s .args .round) F (λ z. c .if1 .taken (x ∙ z))), λ n. refl)
 
--- src/lib.rt:45:8
 daughters-ready-requires : tie.Need-daughters-ready-requires
 daughters-ready-requires c κs = search needs
 
--- src/lib.rt:46:9
 mul-figures : tie.Need-mul-figures
 mul-figures c = search needs
 
--- src/lib.rt:46:9
 slice-write-figures : tie.Need-slice-write-figures
 slice-write-figures c =
     let s = c .before .before .before .before .before .before .before .before .before .before in
     omega (arith, category-below (s .args .file .now) (s .pre .0) (s .args .r .0) (s .pre .1), c .before .before .before .before .before .before .before .category-of .ensures)
 
--- src/lib.rt:47:9
 same-length-2 : tie.Need-same-length-2
 same-length-2 c = search needs
 
--- src/lib.rt:47:9
 returns-2 : tie.Need-returns-2
 returns-2 c =
     let s = c .before .before .before .before .before .before .before .before .before .before in
@@ -72,11 +62,9 @@ returns-2 c =
     let x : c .before .before .before .before .number-at .result ≡ getD F (field (recordOf f r) 0) 0 = c .before .before .before .before .number-at .ensures ∙ ap (λ (k : ℕ). getD F k 0) a in
     (sym (visit-due f (s .pre .0) r (s .pre .1) (s .args .round) F (sym x ∙ c .before .before .before .if1 .left) (sym (c .before .daughters-ready .ensures) ∙ c .if2 .taken) ∙ ap (λ (k : ℕ). set F k (s .args .round)) (sym a)), λ n. not-both n)
 
--- src/lib.rt:36:1
 same-length-3 : tie.Need-same-length-3
 same-length-3 c = search needs
 
--- src/lib.rt:36:1
 returns-3 : tie.Need-returns-3
 returns-3 c =
     let s = c .before .before .before .before .before .before .before .before .before .before in

@@ -11,21 +11,17 @@ use Rattle.survey.proofs.write_figures.Lts as lts
 use Rattle.survey.proofs.clear.Reads as clear-reads
 use Rattle.survey.proofs.fill.Reads as fill-reads
 
--- src/lib.rt:123:5
 clear-requires : tie.Need-clear-requires
 clear-requires c κs = search needs
 
--- src/lib.rt:124:5
 fill-requires : tie.Need-fill-requires
 fill-requires c κs =
     let s = c .before .before .before .before .before .before .before in
     (s .pre .0, c .before .before .before .clear .ensures ∙ ap (λ (n : ℕ). replicate n 0) (s .pre .1))
 
--- src/lib.rt:119:1
 same-length : tie.Need-same-length
 same-length c = search needs
 
--- src/lib.rt:119:1
 returns : tie.Need-returns
 returns c = search needs
 

@@ -22,46 +22,36 @@ Inv-loop sheet from steps out₀ i₀ out i =
 abbrev μ-loop : tie.MeasureT-loop
 μ-loop sheet from steps out₀ i₀ out i = steps - i
 
--- src/calls.rt:111:5
 loop-holds : tie.Need-loop-holds Inv-loop μ-loop
 loop-holds c =
     let z : c .args .from + 0 ≡ c .args .from = omega arith in
     let e : slice (c .args .from) (c .args .from + 0) (c .args .sheet .now) ≡ [] = ap (λ (t : ℕ). slice (c .args .from) t (c .args .sheet .now)) z ∙ slice-empty (c .args .from) (c .args .sheet .now) in
     (omega arith, refl, sym (ap (λ (l : List ℕ). lowWords l ++ c .args .out .now) e))
 
--- src/calls.rt:112:25
 add-out : tie.Need-add-out Inv-loop μ-loop
 add-out c = search needs
 
--- src/calls.rt:112:19
 mul-out : tie.Need-mul-out Inv-loop μ-loop
 mul-out c = search needs
 
--- src/calls.rt:112:19
 element-copy-out-out : tie.Need-element-copy-out-out Inv-loop μ-loop
 element-copy-out-out c = search needs
 
--- src/calls.rt:112:18
 cast-out : tie.Need-cast-out Inv-loop μ-loop
 cast-out c = search needs
 
--- src/calls.rt:112:9
 mul-out-2 : tie.Need-mul-out-2 Inv-loop μ-loop
 mul-out-2 c = search needs
 
--- src/calls.rt:112:9
 slice-write-out : tie.Need-slice-write-out Inv-loop μ-loop
 slice-write-out c = search needs
 
--- src/calls.rt:113:9
 add-i : tie.Need-add-i Inv-loop μ-loop
 add-i c = search needs
 
--- src/calls.rt:111:5
 loop-less : tie.Need-loop-less Inv-loop μ-loop
 loop-less c = search needs
 
--- src/calls.rt:111:5
 loop-again : tie.Need-loop-again Inv-loop μ-loop
 loop-again c =
     let t = c .before .before in
@@ -71,11 +61,9 @@ loop-again c =
     let k : t .loop .i < length (a .out .now) = omega (arith, p .1) in
     (omega arith, search needs, rw add-one (rw (t .loop .inv .2) (copied-next (a .sheet .now) (a .out .now) (a .from) (t .loop .i) h k)))
 
--- src/calls.rt:106:1
 same-length : tie.Need-same-length Inv-loop μ-loop
 same-length c = search needs
 
--- src/calls.rt:106:1
 returns : tie.Need-returns Inv-loop μ-loop
 returns c =
     let e : c .before .loop .i ≡ c .before .before .args .steps = omega arith in

@@ -11,15 +11,12 @@ use Rattle.analyses.proofs.calls.count.Lts as lts
 use Rattle.analyses.proofs.calls.count_tests.Reads as count-tests-reads
 use Rattle.analyses.proofs.calls.counted.Reads as counted-reads
 
--- src/calls.rt:95:9
 count-tests-requires : tie.Need-count-tests-requires
 count-tests-requires c κs = search needs
 
--- src/calls.rt:97:33
 enum-told : tie.Need-enum-told
 enum-told c = search needs
 
--- src/calls.rt:97:33
 counted-requires : tie.Need-counted-requires
 counted-requires c κs =
     let a = c .before .before .before .before .before .args in
@@ -28,11 +25,9 @@ counted-requires c κs =
     let p = tests-passed (a .file .now) (a .sentence .now) (a .n) (a .limit) (passed o 0 (k .result) (k .ensures) (c .enum-told .given .1)) in
     (p .0, p .1)
 
--- src/calls.rt:98:26
 enum-known-tests : tie.Need-enum-known-tests
 enum-known-tests c = search needs
 
--- src/calls.rt:92:1
 returns : tie.Need-returns
 returns c =
     let a = c .before .before .before .before .before .before .args in
@@ -40,7 +35,6 @@ returns c =
     let o = beforeSearch (a .file .now) (a .sentence .now) (a .n) (a .limit) in
     searched-call (a .file .now) (a .sentence .now) (a .n) (a .limit) (passed o 0 (k .result) (k .ensures) (c .before .enum-told .given .1)) (c .counted .result) (c .counted .ensures)
 
--- src/calls.rt:92:1
 returns-2 : tie.Need-returns-2
 returns-2 c =
     let a = c .before .before .before .before .before .before .args in

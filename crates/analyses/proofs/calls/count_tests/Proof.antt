@@ -14,18 +14,15 @@ use Rattle.analyses.proofs.calls.limits_refusal.Reads as limits-refusal
 use Rattle.reader.proofs.read_grammar.Reads as read-grammar-reads
 use Rattle.recognizer.proofs.sentence_refusal.Reads as sentence-refusal-reads
 
--- src/calls.rt:80:9
 read-grammar-requires : tie.Need-read-grammar-requires
 read-grammar-requires c κs = search needs
 
 enum-told : tie.Need-enum-told
 enum-told c = search needs
 
--- src/calls.rt:82:9
 enum-told-2 : tie.Need-enum-told-2
 enum-told-2 c = search needs
 
--- src/calls.rt:82:9
 returns : tie.Need-returns
 returns c =
     let a = c .before .before .before .before .before .args in
@@ -35,18 +32,15 @@ returns c =
     let k = c .before .before .read-grammar in
     stopped G (rulesOf (a .file .now)) (k .result) (k .ensures) (L orElse W) 0 (c .enum-told2 .given .1)
 
--- src/calls.rt:84:9
 limits-refusal-requires : tie.Need-limits-refusal-requires
 limits-refusal-requires c κs = search needs
 
 enum-told-3 : tie.Need-enum-told-3
 enum-told-3 c = search needs
 
--- src/calls.rt:86:9
 enum-told-4 : tie.Need-enum-told-4
 enum-told-4 c = search needs
 
--- src/calls.rt:86:9
 returns-2 : tie.Need-returns-2
 returns-2 c =
     let a = c .before .before .before .before .before .before .before .before .args in
@@ -57,11 +51,9 @@ returns-2 c =
     let k = c .before .before .limits-refusal in
     after-pass G (L orElse W) 0 (k .result) (passed G (rulesOf (a .file .now)) (g .result) (g .ensures) (c .before .before .before .enum-told .given .1)) (stopped L 0 (k .result) (k .ensures) W 0 (c .enum-told4 .given .1))
 
--- src/calls.rt:88:5
 sentence-refusal-requires : tie.Need-sentence-refusal-requires
 sentence-refusal-requires c κs = search needs
 
--- src/calls.rt:77:1
 returns-3 : tie.Need-returns-3
 returns-3 c =
     let a = c .before .before .before .before .before .before .before .before .before .args in

@@ -12,11 +12,9 @@ use Rattle.analyses.proofs.calls.counted.Lts as lts
 use Rattle.analyses.proofs.calls.search_all.Reads as search-all-reads
 use Rattle.analyses.proofs.calls.sheet_for.Reads as sheet-for-reads
 
--- src/calls.rt:68:21
 sheet-for-requires : tie.Need-sheet-for-requires
 sheet-for-requires c κs = search needs
 
--- src/calls.rt:69:8
 search-all-requires : tie.Need-search-all-requires
 search-all-requires c κs =
     let s = c .before .before .before .before in
@@ -24,15 +22,12 @@ search-all-requires c κs =
     let r = ranges (s .args .n) (s .args .limit) (s .pre .1) in
     (s .pre .0, r .nodes-some, r .nodes-few, k .ensures .0, omega (arith, k .ensures .1, k .ensures .2, r .limit-few))
 
--- src/calls.rt:70:31
 array-read-t13 : tie.Need-array-read-t13
 array-read-t13 c = search needs
 
--- src/calls.rt:70:49
 array-read-t16 : tie.Need-array-read-t16
 array-read-t16 c = search needs
 
--- src/calls.rt:70:41
 sub-t17 : tie.Need-sub-t17
 sub-t17 c =
     let s = c .before .before .before .before .before .before in
@@ -40,7 +35,6 @@ sub-t17 c =
     let k = c .before .before .before .sheet-for in
     budget-left (grammarOf (a .file .now)) (a .sentence .now) (a .n) (a .limit) (k .result) _ (k .ensures .1) (k .ensures .2) (rw (c .if1 .taken) at (c .before .search-all .ensures))
 
--- src/calls.rt:64:1
 returns : tie.Need-returns
 returns c =
     let s = c .before .before .before .before .before .before in
@@ -48,7 +42,6 @@ returns c =
     let k = c .before .before .before .sheet-for in
     within-budget (grammarOf (a .file .now)) (a .sentence .now) (a .n) (a .limit) (k .result) _ (k .ensures .1) (k .ensures .2) (rw (c .if1 .taken) at (c .before .search-all .ensures))
 
--- src/calls.rt:64:1
 returns-2 : tie.Need-returns-2
 returns-2 c =
     let s = c .before .before .before .before .before .before in

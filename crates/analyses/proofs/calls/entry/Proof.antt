@@ -11,41 +11,33 @@ use Rattle.analyses.proofs.calls.entry.Lts as lts
 use Rattle.analyses.proofs.calls.entry_tests.Reads as entry-tests-reads
 use Rattle.analyses.proofs.calls.found_entry.Reads as found-entry-reads
 
--- src/calls.rt:147:9
 entry-tests-requires : tie.Need-entry-tests-requires
 entry-tests-requires c κs = search needs
 
--- src/calls.rt:149:74
 enum-told : tie.Need-enum-told
 enum-told c = search needs
 
--- src/calls.rt:149:33
 found-entry-requires : tie.Need-found-entry-requires
 found-entry-requires c κs =
     let a = c .before .before .before .before .before .before .before .before .args in
     let k = c .before .before .before .entry-tests in
     tests-passed (a .file .now) (a .sentence .now) (a .n) (a .limit) (a .m) (a .out .now) (passed (beforeEntry (a .file .now) (a .sentence .now) (a .n) (a .limit) (a .out .now)) 0 (k .result) (k .ensures) (c .before .enum-told .given .1))
 
--- src/calls.rt:150:32
 enum-told-2 : tie.Need-enum-told-2
 enum-told-2 c = search needs
 
--- src/calls.rt:144:1
 same-length : tie.Need-same-length
 same-length c = search needs
 
--- src/calls.rt:144:1
 returns : tie.Need-returns
 returns c =
     let a = c .before .before .before .before .before .before .before .before .before .before .before .args in
     let k = c .before .before .before .before .before .before .entry-tests in
     searched-call (a .file .now) (a .sentence .now) (a .n) (a .limit) (a .m) (a .out .now) (passed (beforeEntry (a .file .now) (a .sentence .now) (a .n) (a .limit) (a .out .now)) 0 (k .result) (k .ensures) (c .before .before .before .before .enum-told .given .1)) (c .before .before .found-entry .result) _ (c .before .before .found-entry .ensures)
 
--- src/calls.rt:144:1
 same-length-2 : tie.Need-same-length-2
 same-length-2 c = search needs
 
--- src/calls.rt:144:1
 returns-2 : tie.Need-returns-2
 returns-2 c =
     let a = c .before .before .before .before .before .before .before .args in

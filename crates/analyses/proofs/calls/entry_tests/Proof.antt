@@ -16,18 +16,15 @@ use Rattle.buffers.proofs.room_refusal.Reads as room-refusal-reads
 use Rattle.reader.proofs.read_grammar.Reads as read-grammar-reads
 use Rattle.recognizer.proofs.sentence_refusal.Reads as sentence-refusal-reads
 
--- src/calls.rt:158:9
 read-grammar-requires : tie.Need-read-grammar-requires
 read-grammar-requires c κs = search needs
 
 enum-told : tie.Need-enum-told
 enum-told c = search needs
 
--- src/calls.rt:160:9
 enum-told-2 : tie.Need-enum-told-2
 enum-told-2 c = search needs
 
--- src/calls.rt:160:9
 returns : tie.Need-returns
 returns c =
     let a = c .before .before .before .before .before .before .args in
@@ -38,18 +35,15 @@ returns c =
     let k = c .before .before .read-grammar in
     stopped G (rulesOf (a .file .now)) (k .result) (k .ensures) (O orElse L orElse W) 0 (c .enum-told2 .given .1)
 
--- src/calls.rt:162:9
 room-refusal-requires : tie.Need-room-refusal-requires
 room-refusal-requires c κs = search needs
 
 enum-told-3 : tie.Need-enum-told-3
 enum-told-3 c = search needs
 
--- src/calls.rt:164:9
 enum-told-4 : tie.Need-enum-told-4
 enum-told-4 c = search needs
 
--- src/calls.rt:164:9
 returns-2 : tie.Need-returns-2
 returns-2 c =
     let a = c .before .before .before .before .before .before .before .before .before .args in
@@ -61,18 +55,15 @@ returns-2 c =
     let k = c .before .before .room-refusal in
     after-pass G (O orElse L orElse W) 0 (k .result) (passed G (rulesOf (a .file .now)) (g .result) (g .ensures) (c .before .before .before .enum-told .given .1)) (stopped O 0 (k .result) (k .ensures) (L orElse W) 0 (c .enum-told4 .given .1))
 
--- src/calls.rt:166:9
 limits-refusal-requires : tie.Need-limits-refusal-requires
 limits-refusal-requires c κs = search needs
 
 enum-told-5 : tie.Need-enum-told-5
 enum-told-5 c = search needs
 
--- src/calls.rt:168:9
 enum-told-6 : tie.Need-enum-told-6
 enum-told-6 c = search needs
 
--- src/calls.rt:168:9
 returns-3 : tie.Need-returns-3
 returns-3 c =
     let a = c .before .before .before .before .before .before .before .before .before .before .before .before .args in
@@ -86,11 +77,9 @@ returns-3 c =
     after-pass G (O orElse L orElse W) 0 (k .result) (passed G (rulesOf (a .file .now)) (g .result) (g .ensures) (c .before .before .before .before .before .before .enum-told .given .1))
     (after-pass O (L orElse W) 0 (k .result) (passed O 0 (o .result) (o .ensures) (c .before .before .before .enum-told3 .given .1)) (stopped L 0 (k .result) (k .ensures) W 0 (c .enum-told6 .given .1)))
 
--- src/calls.rt:170:5
 sentence-refusal-requires : tie.Need-sentence-refusal-requires
 sentence-refusal-requires c κs = search needs
 
--- src/calls.rt:155:1
 returns-4 : tie.Need-returns-4
 returns-4 c =
     let a = c .before .before .before .before .before .before .before .before .before .before .before .before .before .args in

@@ -12,11 +12,9 @@ use Rattle.analyses.proofs.calls.copy_entry.Reads as copy-entry-reads
 use Rattle.analyses.proofs.calls.search_all.Reads as search-all-reads
 use Rattle.analyses.proofs.calls.sheet_for.Reads as sheet-for-reads
 
--- src/calls.rt:129:21
 sheet-for-requires : tie.Need-sheet-for-requires
 sheet-for-requires c κs = search needs
 
--- src/calls.rt:130:8
 search-all-requires : tie.Need-search-all-requires
 search-all-requires c κs =
     let s = c .before .before .before .before .before in
@@ -25,11 +23,9 @@ search-all-requires c κs =
     let r = ranges (a .n) (a .limit) (s .pre .1) in
     (s .pre .0, r .nodes-some, r .nodes-few, k .ensures .0, omega (arith, k .ensures .1, k .ensures .2, r .limit-few))
 
--- src/calls.rt:131:12
 array-read-if2 : tie.Need-array-read-if2
 array-read-if2 c = search needs
 
--- src/calls.rt:132:13
 returns : tie.Need-returns
 returns c =
     let s = c .before .before .before .before .before .before .before .before in
@@ -39,7 +35,6 @@ returns c =
     none-such (a .file .now) (s .pre .0) (a .sentence .now) (a .n) (a .limit) (a .m) (r .nodes-some) (r .nodes-few) (k .result) _ (a .out .now) (k .ensures .0) (k .ensures .1) (k .ensures .2) (k .ensures .3)
     (rw (c .before .if1 .taken) at (c .before .before .search-all .ensures)) (c .if2 .taken)
 
--- src/calls.rt:134:21
 sub-place : tie.Need-sub-place
 sub-place c =
     let s = c .before .before .before .before .before .before .before .before in
@@ -48,11 +43,9 @@ sub-place c =
     let r = ranges (a .n) (a .limit) (s .pre .1) in
     r .nodes-few
 
--- src/calls.rt:135:21
 array-read-steps : tie.Need-array-read-steps
 array-read-steps c = search needs
 
--- src/calls.rt:135:21
 sub-steps : tie.Need-sub-steps
 sub-steps c =
     let s = c .before .before .before .before .before .before .before .before in
@@ -62,11 +55,9 @@ sub-steps c =
     ends-after (a .file .now) (s .pre .0) (a .sentence .now) (a .n) (a .limit) (a .m) (r .nodes-some) (r .nodes-few) (k .result) _ (a .out .now) (k .ensures .0) (k .ensures .1) (k .ensures .2) (k .ensures .3)
     (rw (c .before .if1 .taken) at (c .before .before .search-all .ensures)) (c .if2 .left)
 
--- src/calls.rt:136:28
 add-copy-entry : tie.Need-add-copy-entry
 add-copy-entry c = search needs
 
--- src/calls.rt:136:9
 copy-entry-requires : tie.Need-copy-entry-requires
 copy-entry-requires c κs =
     let s = c .before .before .before .before .before .before .before .before .before .before in
@@ -77,11 +68,9 @@ copy-entry-requires c κs =
     let l = (c .before .before .if2 .left) in
     (steps-within (a .file .now) (s .pre .0) (a .sentence .now) (a .n) (a .limit) (a .m) (r .nodes-some) (r .nodes-few) (k .result) _ (a .out .now) (k .ensures .0) (k .ensures .1) (k .ensures .2) (k .ensures .3) h l, steps-room (a .file .now) (s .pre .0) (a .sentence .now) (a .n) (a .limit) (a .m) (r .nodes-some) (r .nodes-few) (k .result) _ (a .out .now) (k .ensures .0) (k .ensures .1) (k .ensures .2) (k .ensures .3) h l (s .pre .2), after-long (a .file .now) (s .pre .0) (a .sentence .now) (a .n) (a .limit) (a .m) (r .nodes-some) (r .nodes-few) (k .result) _ (a .out .now) (k .ensures .0) (k .ensures .1) (k .ensures .2) (k .ensures .3) h l)
 
--- src/calls.rt:118:1
 same-length : tie.Need-same-length
 same-length c = search needs
 
--- src/calls.rt:118:1
 returns-2 : tie.Need-returns-2
 returns-2 c =
     let s = c .before .before .before .before .before .before .before .before .before .before .before .before .before in
@@ -92,7 +81,6 @@ returns-2 c =
     let l = (c .before .before .before .before .before .if2 .left) in
     found (a .file .now) (s .pre .0) (a .sentence .now) (a .n) (a .limit) (a .m) (r .nodes-some) (r .nodes-few) (k .result) _ (a .out .now) (k .ensures .0) (k .ensures .1) (k .ensures .2) (k .ensures .3) h l _ (steps-are (a .file .now) (s .pre .0) (a .sentence .now) (a .n) (a .limit) (a .m) (r .nodes-some) (r .nodes-few) (k .result) _ (a .out .now) (k .ensures .0) (k .ensures .1) (k .ensures .2) (k .ensures .3) h l) _ (c .before .before .copy-entry .ensures)
 
--- src/calls.rt:118:1
 returns-3 : tie.Need-returns-3
 returns-3 c =
     let s = c .before .before .before .before .before .before .before in

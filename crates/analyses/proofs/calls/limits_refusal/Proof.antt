@@ -6,23 +6,18 @@ use Rattle.analyses.proofs.calls.limits_refusal.Tie as tie
 use Rattle.analyses.proofs.calls.limits_refusal.Reads as reads
 use Rattle.analyses.proofs.calls.limits_refusal.Lts as lts
 
--- src/calls.rt:27:9
 returns : tie.Need-returns
 returns c = few-nodes (c .before .args .n) (c .before .args .limit) (c .if1 .taken)
 
--- src/calls.rt:30:9
 returns-2 : tie.Need-returns-2
 returns-2 c = many-nodes (c .before .before .args .n) (c .before .before .args .limit) (c .before .if1 .left) (c .if2 .taken)
 
--- src/calls.rt:33:9
 returns-3 : tie.Need-returns-3
 returns-3 c = no-effort (c .before .before .before .args .n) (c .before .before .before .args .limit) (c .before .before .if1 .left) (c .before .if2 .left) (c .if3 .taken)
 
--- src/calls.rt:36:9
 returns-4 : tie.Need-returns-4
 returns-4 c = much-effort (c .before .before .before .before .args .n) (c .before .before .before .before .args .limit) (c .before .before .before .if1 .left) (c .before .before .if2 .left) (c .before .if3 .left) (c .if4 .taken)
 
--- src/calls.rt:23:1
 returns-5 : tie.Need-returns-5
 returns-5 c = in-range (c .before .before .before .before .args .n) (c .before .before .before .before .args .limit) (c .before .before .before .if1 .left) (c .before .before .if2 .left) (c .before .if3 .left) (c .if4 .left)
 

@@ -14,25 +14,20 @@ use Rattle.grammar.proofs.start.Reads as start-reads
 use Rattle.rows.proofs.row.first_row.Reads as first-row-reads
 use Rattle.rows.proofs.rules.compile.Reads as compile-reads
 
--- src/calls.rt:46:13
 compile-requires : tie.Need-compile-requires
 compile-requires c κs = search needs
 
--- src/calls.rt:47:17
 chain-rules-requires : tie.Need-chain-rules-requires
 chain-rules-requires c κs = search needs
 
--- src/calls.rt:48:23
 start-requires : tie.Need-start-requires
 start-requires c κs = search needs
 
--- src/calls.rt:48:13
 first-row-requires : tie.Need-first-row-requires
 first-row-requires c κs =
     let s = c .before .before .before .before .before in
     omega (arith, c .start .ensures, start-in (s .args .file .now) (s .pre .0), categories-in (s .args .file .now) (s .pre .0))
 
--- src/calls.rt:49:5
 search-requires : tie.Need-search-requires
 search-requires c κs =
     let s = c .before .before .before .before .before .before .before .before .before .before in
@@ -45,7 +40,6 @@ search-requires c κs =
           (c .before .before .before .before .before .before .before .compile .ensures (p .0)) (c .before .before .before .before .before .before .chain-rules .ensures (p .0)) (r .ensures .0) (p .3) (p .4));
     }
 
--- src/calls.rt:42:1
 returns : tie.Need-returns
 returns c =
     let s = c .before .before .before .before .before .before .before .before .before .before .before in

@@ -112,7 +112,6 @@ row-goes : (t : ℕ) (c : look-after-lts.After-known-told2 (look-after-claims t)
     × (n ≤ 384) × (d ≤ 3)
 row-goes t c = rw (c .before .stepped2 .given .1) at (c .before .before .before .step .ensures .says)
 
--- src/look.rt:80:9
 look-arrive-requires : (t : ℕ) → look-lts.Need-arrive-requires (look-claims t) (look-at t) look.Post
 look-arrive-requires t c κs =
     let s = c .before .before .before .before in
@@ -120,7 +119,6 @@ look-arrive-requires t c κs =
     let p = s .pre .1 in
     p .1 .desk-long
 
--- src/look.rt:80:9
 look-returns : (t : ℕ) → look-lts.Need-returns (look-claims t) (look-at t) look.Post
 look-returns t c =
     let s = c .before .before .before .before .before in
@@ -128,7 +126,6 @@ look-returns t c =
     let p = s .pre .1 in
     at-end (p .0) (p .1) (p .2) (c .before .before .if1 .taken) _ refl (c .arrive .result) _ (c .arrive .ensures .0) (c .arrive .ensures .1)
 
--- src/look.rt:82:8
 look-arrive-requires-2 : (t : ℕ) → look-lts.Need-arrive-requires-2 (look-claims t) (look-at t) look.Post
 look-arrive-requires-2 t c κs =
     let s = c .before .before .before .before in
@@ -136,7 +133,6 @@ look-arrive-requires-2 t c κs =
     let p = s .pre .1 in
     p .1 .desk-long
 
--- src/look.rt:83:9
 look-look-rules-requires : (t : ℕ) → look-lts.Need-look-rules-requires (look-claims t) (look-at t) look.Post
 look-look-rules-requires t c κs =
     let s = c .before .before .before .before .before .before .before .before in
@@ -144,7 +140,6 @@ look-look-rules-requires t c κs =
     let p = s .pre .1 in
     (omega (arith, s .pre .0), (p .0, next-on (p .0) (p .1) (p .2) (not-none (a .pending) (c .before .before .before .before .before .if1 .left)) _ (c .before .before .before .arrive2 .ensures .1), p .2, (not-none (a .pending) (c .before .before .before .before .before .if1 .left)), next-strictly (p .0) (p .1) (p .2) (not-none (a .pending) (c .before .before .before .before .before .if1 .left)) _ (c .before .before .before .arrive2 .ensures .1)))
 
--- src/look.rt:83:9
 look-returns-2 : (t : ℕ) → look-lts.Need-returns-2 (look-claims t) (look-at t) look.Post
 look-returns-2 t c =
     let s = c .before .before .before .before .before .before .before .before .before in
@@ -152,7 +147,6 @@ look-returns-2 t c =
     let p = s .pre .1 in
     with-rules (p .0) (p .1) (p .2) (not-none (a .pending) (c .before .before .before .before .before .before .if1 .left)) (sym (c .before .before .before .if2 .taken) ∙ c .before .before .before .before .arrive2 .ensures .0) _ (c .before .before .before .before .arrive2 .ensures .1) (c .look-rules .result) _ _ (c .look-rules .ensures)
 
--- src/look.rt:60:1
 look-returns-3 : (t : ℕ) → look-lts.Need-returns-3 (look-claims t) (look-at t) look.Post
 look-returns-3 t c =
     let s = c .before .before .before .before .before .before in
@@ -160,7 +154,6 @@ look-returns-3 t c =
     let p = s .pre .1 in
     no-more (p .0) (p .1) (p .2) (not-none (a .pending) (c .before .before .before .if1 .left)) (sym (c .if2 .left) ∙ c .before .arrive2 .ensures .0) _ (c .before .arrive2 .ensures .1)
 
--- src/look.rt:231:9
 look-after-sub-step : (t : ℕ) → look-after-lts.Need-sub-step (look-after-claims t) (look-after-at t) look-after.Post
 look-after-sub-step t c =
     let s = c .before .before in
@@ -168,7 +161,6 @@ look-after-sub-step t c =
     let p = s .pre .1 in
     omega (arith, p .0 .fits, p .3)
 
--- src/look.rt:221:9
 look-after-step-requires : (t : ℕ) → look-after-lts.Need-step-requires (look-after-claims t) (look-after-at t) look-after.Post
 look-after-step-requires t c κs =
     let s = c .before .before .before in
@@ -176,19 +168,15 @@ look-after-step-requires t c κs =
     let p = s .pre .1 in
     (p .0 .accepted, p .0 .compiled, p .0 .held, refl {a = 384}, p .0 .known, stands (p .0) (p .3) (omega (arith, p .2)))
 
--- src/look.rt:236:30
 look-after-enum-told : (t : ℕ) → look-after-lts.Need-enum-told (look-after-claims t) (look-after-at t) look-after.Post
 look-after-enum-told t c = search needs
 
--- src/look.rt:237:26
 look-after-enum-told-2 : (t : ℕ) → look-after-lts.Need-enum-told-2 (look-after-claims t) (look-after-at t) look-after.Post
 look-after-enum-told-2 t c = search needs
 
--- src/look.rt:238:26
 look-after-enum-known-stepped : (t : ℕ) → look-after-lts.Need-enum-known-stepped (look-after-claims t) (look-after-at t) look-after.Post
 look-after-enum-known-stepped t c = search needs
 
--- src/look.rt:245:13
 look-after-add-look : (t : ℕ) → look-after-lts.Need-add-look (look-after-claims t) (look-after-at t) look-after.Post
 look-after-add-look t c =
     let s = c .before .before .before .before .before .before .before in
@@ -196,7 +184,6 @@ look-after-add-look t c =
     let p = s .pre .1 in
     omega (arith, p .0 .held .ordered, p .0 .held .within)
 
--- src/look.rt:247:13
 look-after-sub-look : (t : ℕ) → look-after-lts.Need-sub-look (look-after-claims t) (look-after-at t) look-after.Post
 look-after-sub-look t c =
     let s = c .before .before .before .before .before .before .before in
@@ -204,7 +191,6 @@ look-after-sub-look t c =
     let p = s .pre .1 in
     p .3
 
--- src/look.rt:249:13
 look-after-sub-look-2 : (t : ℕ) → look-after-lts.Need-sub-look-2 (look-after-claims t) (look-after-at t) look-after.Post
 look-after-sub-look-2 t c =
     let s = c .before .before .before .before .before .before .before in
@@ -212,7 +198,6 @@ look-after-sub-look-2 t c =
     let p = s .pre .1 in
     omega (arith, p .0 .fits, p .3)
 
--- src/look.rt:250:13
 look-after-add-look-2 : (t : ℕ) → look-after-lts.Need-add-look-2 (look-after-claims t) (look-after-at t) look-after.Post
 look-after-add-look-2 t c =
     let s = c .before .before .before .before .before .before .before in
@@ -220,7 +205,6 @@ look-after-add-look-2 t c =
     let p = s .pre .1 in
     omega (arith, p .2)
 
--- src/look.rt:238:32
 look-after-look-requires : (t : ℕ) → look-after-lts.Need-look-requires (look-after-claims t) (look-after-at t) look-after.Post
 look-after-look-requires t c κs =
     let s = c .before .before .before .before .before .before .before .before .before in
@@ -229,11 +213,9 @@ look-after-look-requires t c κs =
     let goes = scan-goes t (c .before .before) in
     (omega (arith, s .pre .0, p .0 .fits, p .3), (stood-there (p .0) (a .r) _ _ _ _ _ _ (goes .0 .leads-to) (record { long = p .0 .held .long; ordered = omega (arith, goes .0 .fronted); within = p .0 .held .within }) (goes .1) (p .3) (goes .0 .short) (omega (arith, p .3)), on-there (p .0) (p .1) (p .2) (p .3) (p .4) (p .5), omega (arith, p .2, p .0 .fits, p .3)))
 
--- src/look.rt:254:27
 look-after-enum-known-stepped-2 : (t : ℕ) → look-after-lts.Need-enum-known-stepped-2 (look-after-claims t) (look-after-at t) look-after.Post
 look-after-enum-known-stepped-2 t c = search needs
 
--- src/look.rt:263:13
 look-after-sub-look-3 : (t : ℕ) → look-after-lts.Need-sub-look-3 (look-after-claims t) (look-after-at t) look-after.Post
 look-after-sub-look-3 t c =
     let s = c .before .before .before .before .before .before .before .before in
@@ -241,11 +223,9 @@ look-after-sub-look-3 t c =
     let p = s .pre .1 in
     p .3
 
--- src/look.rt:263:27
 look-after-cast-look : (t : ℕ) → look-after-lts.Need-cast-look (look-after-claims t) (look-after-at t) look-after.Post
 look-after-cast-look t c = search needs
 
--- src/look.rt:263:13
 look-after-add-look-3 : (t : ℕ) → look-after-lts.Need-add-look-3 (look-after-claims t) (look-after-at t) look-after.Post
 look-after-add-look-3 t c =
     let s = c .before .before .before .before .before .before .before .before in
@@ -253,7 +233,6 @@ look-after-add-look-3 t c =
     let p = s .pre .1 in
     omega (arith, row-goes t (c .before) .2, p .0 .fits, p .2)
 
--- src/look.rt:264:13
 look-after-add-look-4 : (t : ℕ) → look-after-lts.Need-add-look-4 (look-after-claims t) (look-after-at t) look-after.Post
 look-after-add-look-4 t c =
     let s = c .before .before .before .before .before .before .before .before in
@@ -261,7 +240,6 @@ look-after-add-look-4 t c =
     let p = s .pre .1 in
     omega (arith, row-goes t (c .before) .2, p .0 .fits, p .0 .numbered, p .2)
 
--- src/look.rt:265:13
 look-after-sub-look-4 : (t : ℕ) → look-after-lts.Need-sub-look-4 (look-after-claims t) (look-after-at t) look-after.Post
 look-after-sub-look-4 t c =
     let s = c .before .before .before .before .before .before .before .before in
@@ -269,7 +247,6 @@ look-after-sub-look-4 t c =
     let p = s .pre .1 in
     omega (arith, p .0 .fits, p .3)
 
--- src/look.rt:266:13
 look-after-add-look-5 : (t : ℕ) → look-after-lts.Need-add-look-5 (look-after-claims t) (look-after-at t) look-after.Post
 look-after-add-look-5 t c =
     let s = c .before .before .before .before .before .before .before .before in
@@ -277,7 +254,6 @@ look-after-add-look-5 t c =
     let p = s .pre .1 in
     omega (arith, p .2)
 
--- src/look.rt:254:36
 look-after-look-requires-2 : (t : ℕ) → look-after-lts.Need-look-requires-2 (look-after-claims t) (look-after-at t) look-after.Post
 look-after-look-requires-2 t c κs =
     let s = c .before .before .before .before .before .before .before .before .before .before in
@@ -286,7 +262,6 @@ look-after-look-requires-2 t c κs =
     let goes = row-goes t (c .before .before .before) in
     (omega (arith, s .pre .0, p .0 .fits, p .3), (stood-there (p .0) (a .r) _ _ _ _ _ _ (goes .0 .leads-to) (record { long = c .before .before .before .before .before .before .step .ensures .kept; ordered = omega arith; within = goes .1 }) (p .0 .known) (p .3) (goes .0 .short) (omega (arith, p .3)), on-there (p .0) (p .1) (p .2) (p .3) (p .4) (p .5), omega (arith, p .2, p .0 .fits, p .3)))
 
--- src/look.rt:200:1
 look-after-returns : (t : ℕ) → look-after-lts.Need-returns (look-after-claims t) (look-after-at t) look-after.Post
 look-after-returns t c =
     let s = c .before .before .before .before .before .before in
@@ -294,7 +269,6 @@ look-after-returns t c =
     let p = s .pre .1 in
     halted (p .0) (p .1) (p .2) (p .3) (p .4) (p .5) _ (rw (c .enum-told .given .1) at (c .before .before .step .ensures .says))
 
--- src/look.rt:200:1
 look-after-returns-2 : (t : ℕ) → look-after-lts.Need-returns-2 (look-after-claims t) (look-after-at t) look-after.Post
 look-after-returns-2 t c =
     let s = c .before .before .before .before .before .before in
@@ -303,7 +277,6 @@ look-after-returns-2 t c =
     let l : (u : RowState) × (stepRow (grammarOf (a .file .now)) (standing (a .s .now) (a .read) (a .q .now) (a .from) (a .to) (a .pending) (a .made)) (a .r) ≡ moves u) × (a .left - 1 < u .pending) = rw (c .enum-told2 .given .1) at (c .before .before .step .ensures .says) in
     longer (p .0) (p .1) (p .2) (p .3) (p .4) (p .5) (l .0) (l .1) (l .2)
 
--- src/look.rt:200:1
 look-after-returns-3 : (t : ℕ) → look-after-lts.Need-returns-3 (look-after-claims t) (look-after-at t) look-after.Post
 look-after-returns-3 t c =
     let s = c .before .before .before .before .before .before .before .before .before .before in
@@ -311,7 +284,6 @@ look-after-returns-3 t c =
     let p = s .pre .1 in
     moved (p .0) (p .1) (p .2) (p .3) (p .4) (p .5) (scan-goes t (c .before .before .before) .0) (c .look .result) _ _ (c .look .ensures)
 
--- src/look.rt:200:1
 look-after-returns-4 : (t : ℕ) → look-after-lts.Need-returns-4 (look-after-claims t) (look-after-at t) look-after.Post
 look-after-returns-4 t c =
     let s = c .before .before .before .before .before .before .before .before .before .before .before in
@@ -327,11 +299,9 @@ look-rules-Inv-loop file t chain s read q from to pending made left k desk₀ pa
 abbrev look-rules-μ-loop : look-rules-lts.MeasureT-loop
 look-rules-μ-loop file t chain s read q from to pending made left k desk₀ path₀ a r₀ desk path r = 256 - r
 
--- src/look.rt:123:22
 look-rules-mul-category : (t : ℕ) → look-rules-lts.Need-mul-category (look-rules-claims t) (look-rules-at t) look-rules.Post look-rules-Inv-loop look-rules-μ-loop
 look-rules-mul-category t c = search needs
 
--- src/look.rt:123:22
 look-rules-element-copy-out-category : (t : ℕ) → look-rules-lts.Need-element-copy-out-category (look-rules-claims t) (look-rules-at t) look-rules.Post look-rules-Inv-loop look-rules-μ-loop
 look-rules-element-copy-out-category t c =
     let s = c .before .before in
@@ -339,23 +309,18 @@ look-rules-element-copy-out-category t c =
     let p = s .pre .1 in
     omega (arith, row-some (p .0) (p .3), p .0 .held .within)
 
--- src/look.rt:123:13
 look-rules-category-requires : (t : ℕ) → look-rules-lts.Need-category-requires (look-rules-claims t) (look-rules-at t) look-rules.Post look-rules-Inv-loop look-rules-μ-loop
 look-rules-category-requires t c κs = search needs
 
--- src/look.rt:123:13
 look-rules-cast-a : (t : ℕ) → look-rules-lts.Need-cast-a (look-rules-claims t) (look-rules-at t) look-rules.Post look-rules-Inv-loop look-rules-μ-loop
 look-rules-cast-a t c = search needs
 
--- src/look.rt:124:17
 look-rules-mul-r : (t : ℕ) → look-rules-lts.Need-mul-r (look-rules-claims t) (look-rules-at t) look-rules.Post look-rules-Inv-loop look-rules-μ-loop
 look-rules-mul-r t c = search needs
 
--- src/look.rt:124:17
 look-rules-element-copy-out-r : (t : ℕ) → look-rules-lts.Need-element-copy-out-r (look-rules-claims t) (look-rules-at t) look-rules.Post look-rules-Inv-loop look-rules-μ-loop
 look-rules-element-copy-out-r t c = omega (arith, c .before .category .ensures)
 
--- src/look.rt:125:5
 look-rules-loop-holds : (t : ℕ) → look-rules-lts.Need-loop-holds (look-rules-claims t) (look-rules-at t) look-rules.Post look-rules-Inv-loop look-rules-μ-loop
 look-rules-loop-holds t c =
     let s = c .before .before .before .before .before .before in
@@ -363,7 +328,6 @@ look-rules-loop-holds t c =
     let p = s .pre .1 in
     (p .1 .desk-long, p .1 .path-long, came-first (p .0) (p .3) (p .1) (p .4) _ (ap (λ (j : ℕ). getD (a .chain .now) j 0) (c .before .before .category .ensures)))
 
--- src/look.rt:126:12
 look-rules-look-under-requires : (t : ℕ) → look-rules-lts.Need-look-under-requires (look-rules-claims t) (look-rules-at t) look-rules.Post look-rules-Inv-loop look-rules-μ-loop
 look-rules-look-under-requires t c κs =
     let s = c .before .before .before .before .before .before .before .before .before .before in
@@ -371,23 +335,18 @@ look-rules-look-under-requires t c κs =
     let p = s .pre .1 in
     (omega (arith, s .pre .0), (p .0, on-now (p .0) (p .3) (p .1) (p .4) (c .before .before .before .loop .inv .2) (c .before .before .loop-test .taken), p .2, fronted (p .0) (p .3) (p .1) (p .4) (c .before .before .before .loop .inv .2) (c .before .before .loop-test .taken), strictly-now (p .0) (p .3) (p .1) (p .4) (c .before .before .before .loop .inv .2) (c .before .before .loop-test .taken)))
 
--- src/look.rt:143:21
 look-rules-cast-i : (t : ℕ) → look-rules-lts.Need-cast-i (look-rules-claims t) (look-rules-at t) look-rules.Post look-rules-Inv-loop look-rules-μ-loop
 look-rules-cast-i t c = search needs
 
--- src/look.rt:144:23
 look-rules-add-r : (t : ℕ) → look-rules-lts.Need-add-r (look-rules-claims t) (look-rules-at t) look-rules.Post look-rules-Inv-loop look-rules-μ-loop
 look-rules-add-r t c = search needs
 
--- src/look.rt:144:17
 look-rules-mul-r-2 : (t : ℕ) → look-rules-lts.Need-mul-r-2 (look-rules-claims t) (look-rules-at t) look-rules.Post look-rules-Inv-loop look-rules-μ-loop
 look-rules-mul-r-2 t c = search needs
 
--- src/look.rt:144:17
 look-rules-element-copy-out-r-2 : (t : ℕ) → look-rules-lts.Need-element-copy-out-r-2 (look-rules-claims t) (look-rules-at t) look-rules.Post look-rules-Inv-loop look-rules-μ-loop
 look-rules-element-copy-out-r-2 t c = search needs
 
--- src/look.rt:125:5
 look-rules-loop-less : (t : ℕ) → look-rules-lts.Need-loop-less (look-rules-claims t) (look-rules-at t) look-rules.Post look-rules-Inv-loop look-rules-μ-loop
 look-rules-loop-less t c =
     let s = c .before .before .before .before .before .before .before .before .before .before .before .before .before in
@@ -395,7 +354,6 @@ look-rules-loop-less t c =
     let p = s .pre .1 in
     later (p .0) (p .3) (p .1) (p .4) (c .before .before .before .before .before .before .loop .inv .2) (c .before .before .before .before .before .loop-test .taken) _ refl
 
--- src/look.rt:125:5
 look-rules-loop-again : (t : ℕ) → look-rules-lts.Need-loop-again (look-rules-claims t) (look-rules-at t) look-rules.Post look-rules-Inv-loop look-rules-μ-loop
 look-rules-loop-again t c =
     let s = c .before .before .before .before .before .before .before .before .before .before .before .before .before in
@@ -404,7 +362,6 @@ look-rules-loop-again t c =
     let k = c .before .before .look-under in
     (k .ensures .looked .desk-long, k .ensures .looked .path-long, came-next (p .0) (p .3) (p .1) (p .4) (c .before .before .before .before .before .before .loop .inv .2) (c .before .before .before .before .before .loop-test .taken) _ _ _ (rw (c .before .if1 .taken) at (k .ensures)) refl)
 
--- src/look.rt:146:13
 look-rules-returns : (t : ℕ) → look-rules-lts.Need-returns (look-rules-claims t) (look-rules-at t) look-rules.Post look-rules-Inv-loop look-rules-μ-loop
 look-rules-returns t c =
     let s = c .before .before .before .before .before .before .before .before .before .before .before .before in
@@ -412,7 +369,6 @@ look-rules-returns t c =
     let p = s .pre .1 in
     stops (p .0) (p .3) (p .1) (p .4) (c .before .before .before .before .before .loop .inv .2) (c .before .before .before .before .loop-test .taken) _ _ (rw (c .if1 .left) at (c .before .look-under .ensures))
 
--- src/look.rt:104:1
 look-rules-returns-2 : (t : ℕ) → look-rules-lts.Need-returns-2 (look-rules-claims t) (look-rules-at t) look-rules.Post look-rules-Inv-loop look-rules-μ-loop
 look-rules-returns-2 t c =
     let s = c .before .before .before .before .before .before .before .before in
@@ -420,7 +376,6 @@ look-rules-returns-2 t c =
     let p = s .pre .1 in
     came-last (p .0) (p .3) (p .1) (p .4) (c .before .loop .inv .2) (c .loop-test .left)
 
--- src/look.rt:173:8
 look-under-take-up-requires : (t : ℕ) → look-under-lts.Need-take-up-requires (look-under-claims t) (look-under-at t) look-under.Post
 look-under-take-up-requires t c κs =
     let s = c .before .before .before .before in
@@ -428,7 +383,6 @@ look-under-take-up-requires t c κs =
     let p = s .pre .1 in
     (p .1 .desk-long, p .1 .path-long, (omega (arith, p .2, p .0 .fits, p .3 .predicted)))
 
--- src/look.rt:174:12
 look-under-look-after-requires : (t : ℕ) → look-under-lts.Need-look-after-requires (look-under-claims t) (look-under-at t) look-under.Post
 look-under-look-after-requires t c κs =
     let s = c .before .before .before .before .before .before .before .before in
@@ -440,7 +394,6 @@ look-under-look-after-requires t c κs =
     let up = took g (a .left) S (a .r) (p .1) (p .4) few (sym (c .before .before .before .take-up .ensures .0) ∙ c .before .before .if1 .taken) in
     (omega (arith, s .pre .0), (p .0, up-on g (a .left) S (a .r) (p .1) (p .4) few (c .before .before .before .take-up .ensures .1) (c .before .before .before .take-up .ensures .2) up, p .2, p .3 .predicted, up-strictly g (a .left) S (a .r) (p .1) (p .4) few (c .before .before .before .take-up .ensures .1) (c .before .before .before .take-up .ensures .2) up, up-at g (a .left) S (a .r) (p .1) (p .4) few (c .before .before .before .take-up .ensures .1) (c .before .before .before .take-up .ensures .2) up))
 
--- src/look.rt:191:13
 look-under-element-write-desk : (t : ℕ) → look-under-lts.Need-element-write-desk (look-under-claims t) (look-under-at t) look-under.Post
 look-under-element-write-desk t c =
     let s = c .before .before .before .before .before .before .before .before .before .before in
@@ -448,7 +401,6 @@ look-under-element-write-desk t c =
     let p = s .pre .1 in
     omega (arith, c .before .look-after .ensures .desk-long)
 
--- src/look.rt:192:13
 look-under-returns : (t : ℕ) → look-under-lts.Need-returns (look-under-claims t) (look-under-at t) look-under.Post
 look-under-returns t c =
     let s = c .before .before .before .before .before .before .before .before .before .before in
@@ -460,7 +412,6 @@ look-under-returns t c =
     let up = took g (a .left) S (a .r) (p .1) (p .4) few (sym (c .before .before .before .before .before .take-up .ensures .0) ∙ c .before .before .before .before .if1 .taken) in
     under-settled g (a .left) S (a .r) (p .1) (p .4) few (c .before .before .before .before .before .take-up .ensures .1) (c .before .before .before .before .before .take-up .ensures .2) up _ _ (rw (c .if2 .taken) at (c .before .look-after .ensures))
 
--- src/look.rt:194:9
 look-under-returns-2 : (t : ℕ) → look-under-lts.Need-returns-2 (look-under-claims t) (look-under-at t) look-under.Post
 look-under-returns-2 t c =
     let s = c .before .before .before .before .before .before .before .before .before .before in
@@ -472,7 +423,6 @@ look-under-returns-2 t c =
     let up = took g (a .left) S (a .r) (p .1) (p .4) few (sym (c .before .before .before .before .before .take-up .ensures .0) ∙ c .before .before .before .before .if1 .taken) in
     under-stopped g (a .left) S (a .r) (p .1) (p .4) few (c .before .before .before .before .before .take-up .ensures .1) (c .before .before .before .before .before .take-up .ensures .2) up _ _ (rw (c .if2 .left) at (c .before .look-after .ensures))
 
--- src/look.rt:153:1
 look-under-returns-3 : (t : ℕ) → look-under-lts.Need-returns-3 (look-under-claims t) (look-under-at t) look-under.Post
 look-under-returns-3 t c =
     let s = c .before .before .before .before .before .before in

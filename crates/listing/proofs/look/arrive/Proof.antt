@@ -7,67 +7,54 @@ use Rattle.listing.proofs.look.arrive.Tie as tie
 use Rattle.listing.proofs.look.arrive.Reads as reads
 use Rattle.listing.proofs.look.arrive.Lts as lts
 
--- src/look.rt:18:8
 element-copy-out-if1 : tie.Need-element-copy-out-if1
 element-copy-out-if1 c = search needs
 
--- src/look.rt:19:22
 element-copy-out-budget : tie.Need-element-copy-out-budget
 element-copy-out-budget c = search needs
 
--- src/look.rt:21:13
 returns : tie.Need-returns
 returns c =
     let s = c .before .before .before .before in
     let a = s .args in
     arrives-over (a .k) (a .complete) (a .desk .now) (c .before .before .if1 .taken) (c .if2 .taken)
 
--- src/look.rt:23:19
 sub-desk : tie.Need-sub-desk
 sub-desk c = search needs
 
--- src/look.rt:23:9
 element-write-desk : tie.Need-element-write-desk
 element-write-desk c = search needs
 
--- src/look.rt:25:13
 element-write-desk-2 : tie.Need-element-write-desk-2
 element-write-desk-2 c = search needs
 
--- src/look.rt:26:13
 element-write-desk-3 : tie.Need-element-write-desk-3
 element-write-desk-3 c = search needs
 
--- src/look.rt:27:13
 returns-2 : tie.Need-returns-2
 returns-2 c =
     let s = c .before .before .before .before .before in
     let a = s .args in
     arrives-complete (a .k) (a .complete) (a .desk .now) (c .before .before .before .if1 .taken) (c .before .if2 .left) (c .if3 .taken)
 
--- src/look.rt:29:9
 returns-3 : tie.Need-returns-3
 returns-3 c =
     let s = c .before .before .before .before .before in
     let a = s .args in
     arrives-on (a .k) (a .complete) (a .desk .now) (c .before .before .before .if1 .taken) (c .before .if2 .left) (c .if3 .left)
 
--- src/look.rt:31:8
 element-copy-out-if4 : tie.Need-element-copy-out-if4
 element-copy-out-if4 c = search needs
 
--- src/look.rt:32:9
 element-write-desk-4 : tie.Need-element-write-desk-4
 element-write-desk-4 c = search needs
 
--- src/look.rt:33:9
 returns-4 : tie.Need-returns-4
 returns-4 c =
     let s = c .before .before .before .before in
     let a = s .args in
     arrives-last (a .k) (a .complete) (a .desk .now) (c .before .before .if1 .left) (c .if4 .taken)
 
--- src/look.rt:14:1
 returns-5 : tie.Need-returns-5
 returns-5 c =
     let s = c .before .before .before .before in

@@ -7,60 +7,48 @@ use Rattle.listing.proofs.look.take_up.Tie as tie
 use Rattle.listing.proofs.look.take_up.Reads as reads
 use Rattle.listing.proofs.look.take_up.Lts as lts
 
--- src/look.rt:43:8
 element-copy-out-if1 : tie.Need-element-copy-out-if1
 element-copy-out-if1 c = search needs
 
--- src/look.rt:44:9
 mul-path : tie.Need-mul-path
 mul-path c = search needs
 
--- src/look.rt:44:9
 element-write-path : tie.Need-element-write-path
 element-write-path c = search needs
 
--- src/look.rt:45:9
 returns : tie.Need-returns
 returns c =
     let s = c .before .before in
     let a = s .args in
     takes-off (a .k) (a .r) (a .desk .now) (a .path .now) (c .if1 .taken)
 
--- src/look.rt:47:13
 mul-x : tie.Need-mul-x
 mul-x c = search needs
 
--- src/look.rt:47:13
 element-copy-out-x : tie.Need-element-copy-out-x
 element-copy-out-x c = search needs
 
--- src/look.rt:49:9
 returns-2 : tie.Need-returns-2
 returns-2 c =
     let s = c .before .before .before .before in
     let a = s .args in
     takes-not (a .k) (a .r) (a .desk .now) (a .path .now) (c .before .before .if1 .left) (c .if2 .taken)
 
--- src/look.rt:52:9
 element-write-desk : tie.Need-element-write-desk
 element-write-desk c = search needs
 
--- src/look.rt:53:9
 mul-path-2 : tie.Need-mul-path-2
 mul-path-2 c = search needs
 
--- src/look.rt:53:9
 element-write-path-2 : tie.Need-element-write-path-2
 element-write-path-2 c = search needs
 
--- src/look.rt:54:9
 returns-3 : tie.Need-returns-3
 returns-3 c =
     let s = c .before .before .before .before .before in
     let a = s .args in
     takes-later (a .k) (a .r) (a .desk .now) (a .path .now) (c .before .before .before .if1 .left) (c .if3 .taken)
 
--- src/look.rt:39:1
 returns-4 : tie.Need-returns-4
 returns-4 c =
     let s = c .before .before .before .before .before in

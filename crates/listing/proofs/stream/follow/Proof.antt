@@ -15,11 +15,9 @@ use Rattle.listing.proofs.look.look.Reads as look-reads
 use Rattle.grammar.proofs.start.Reads as start-reads
 use Rattle.rows.proofs.row.first_row.Reads as first-row-reads
 
--- src/stream.rt:46:23
 start-requires : tie.Need-start-requires
 start-requires c κs = search needs
 
--- src/stream.rt:46:13
 first-row-requires : tie.Need-first-row-requires
 first-row-requires c κs =
     let s = c .before .before .before in
@@ -27,7 +25,6 @@ first-row-requires c κs =
     let p = s .pre in
     omega (arith, c .start .ensures, start-in (a .file .now) (p .0), categories-in (a .file .now) (p .0))
 
--- src/stream.rt:47:8
 look-requires : tie.Need-look-requires
 look-requires c κs =
     let s = c .before .before .before .before .before .before .before in
@@ -35,7 +32,6 @@ look-requires c κs =
     let p = s .pre in
     (start-stood (a .file .now) (p .0) (a .sentence .now) (a .t .now) (a .chain .now) (c .before .before .before .first-row .result) (c .before .before .before .before .start .result .0) (a .n) (c .before .before .before .before .start .ensures) (c .before .before .before .first-row .ensures .1) (p .3) (p .4) (p .1) (p .2) (c .before .before .before .first-row .ensures .0), record { desk-long = refl; path-long = p .6; going = omega arith; until = p .5; ahead = λ z. omega arith }, omega (arith, p .4))
 
--- src/stream.rt:63:9
 returns : tie.Need-returns
 returns c =
     let s = c .before .before .before .before .before .before .before .before .before in
@@ -43,15 +39,12 @@ returns c =
     let p = s .pre in
     follows-last (a .file .now) (p .0) (a .sentence .now) (a .n) (a .limit) (a .len) (p .3) (a .path .now) _ (begins (a .file .now) (a .sentence .now) (c .before .before .before .before .before .first-row .result) (c .before .before .before .before .before .before .start .result .0) (c .before .before .before .before .before .before .start .ensures) (c .before .before .before .before .before .first-row .ensures .1)) (c .before .look .result) _ _ (c .before .look .ensures) (c .if1 .taken)
 
--- src/stream.rt:65:8
 array-read-if2 : tie.Need-array-read-if2
 array-read-if2 c = search needs
 
--- src/stream.rt:66:31
 array-read-t23 : tie.Need-array-read-t23
 array-read-t23 c = search needs
 
--- src/stream.rt:66:9
 returns-2 : tie.Need-returns-2
 returns-2 c =
     let s = c .before .before .before .before .before .before .before .before .before .before in
@@ -59,7 +52,6 @@ returns-2 c =
     let p = s .pre in
     follows-next (a .file .now) (p .0) (a .sentence .now) (a .n) (a .limit) (a .len) (p .3) (a .path .now) _ (begins (a .file .now) (a .sentence .now) (c .before .before .before .before .before .before .first-row .result) (c .before .before .before .before .before .before .before .start .result .0) (c .before .before .before .before .before .before .before .start .ensures) (c .before .before .before .before .before .before .first-row .ensures .1)) (c .before .before .look .result) _ _ (c .before .before .look .ensures) (c .before .if1 .left) (c .if2 .taken)
 
--- src/stream.rt:32:1
 returns-3 : tie.Need-returns-3
 returns-3 c =
     let s = c .before .before .before .before .before .before .before .before .before .before in

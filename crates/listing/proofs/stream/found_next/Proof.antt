@@ -28,23 +28,18 @@ told g sentence n limit list rest path {front} {f} {x} e h d =
     subst (λ (l : List ℕ). Follows g sentence n limit l path x) (ap (take (length list)) e ∙ front-is list rest)
     (subst (λ (y : Followed). Follows g sentence n limit (take (length list) front) path y) d h)
 
--- src/stream.rt:85:43
 slice-aggregate-write-front : tie.Need-slice-aggregate-write-front
 slice-aggregate-write-front c = search needs
 
--- src/stream.rt:85:5
 write-front-requires : tie.Need-write-front-requires
 write-front-requires c κs = search needs
 
--- src/stream.rt:86:13
 compile-requires : tie.Need-compile-requires
 compile-requires c κs = search needs
 
--- src/stream.rt:87:17
 chain-rules-requires : tie.Need-chain-rules-requires
 chain-rules-requires c κs = search needs
 
--- src/stream.rt:88:9
 follow-requires : tie.Need-follow-requires
 follow-requires c κs =
     let s = c .before .before .before .before .before .before .before .before .before .before .before .before in
@@ -53,11 +48,9 @@ follow-requires c κs =
     let r = ranges (a .n) (a .limit) (p .1) in
     (p .0, c .before .before .before .before .compile .ensures (p .0), c .before .before .before .chain-rules .ensures (p .0), r .nodes-some, r .nodes-few, omega (arith, p .3), path-long (a .previous .now) _ _ (c .before .before .before .before .before .before .write-front .ensures) refl (p .3))
 
--- src/stream.rt:99:24
 enum-known-f : tie.Need-enum-known-f
 enum-known-f c = search needs
 
--- src/stream.rt:100:25
 slice-aggregate-write-front-2 : tie.Need-slice-aggregate-write-front-2
 slice-aggregate-write-front-2 c =
     let s = c .before .before .before .before .before .before .before .before .before .before .before .before .before .before .before .before .before in
@@ -67,7 +60,6 @@ slice-aggregate-write-front-2 c =
     let says = told g (a .sentence .now) (a .n) (a .limit) (a .previous .now) _ path (c .before .before .before .before .before .before .before .before .before .before .before .write-front .ensures) (c .before .before .before .before .follow .ensures) (c .before .before .f .given .1) in
     next-long g (a .sentence .now) (a .n) (a .limit) (a .previous .now) (a .out .now) path (c .before .before .f .given .0 .0) says
 
--- src/stream.rt:100:13
 write-front-requires-2 : tie.Need-write-front-requires-2
 write-front-requires-2 c κs =
     let s = c .before .before .before .before .before .before .before .before .before .before .before .before .before .before .before .before .before .before in
@@ -77,19 +69,15 @@ write-front-requires-2 c κs =
     let says = told g (a .sentence .now) (a .n) (a .limit) (a .previous .now) _ path (c .before .before .before .before .before .before .before .before .before .before .before .before .write-front .ensures) (c .before .before .before .before .before .follow .ensures) (c .before .before .before .f .given .1) in
     next-room g (a .sentence .now) (a .n) (a .limit) (a .previous .now) (a .out .now) path (c .before .before .before .f .given .0 .0) says (s .pre .2)
 
--- src/stream.rt:103:44
 enum-told : tie.Need-enum-told
 enum-told c = search needs
 
--- src/stream.rt:104:44
 enum-told-2 : tie.Need-enum-told-2
 enum-told-2 c = search needs
 
--- src/stream.rt:73:1
 same-length : tie.Need-same-length
 same-length c = search needs
 
--- src/stream.rt:73:1
 returns : tie.Need-returns
 returns c =
     let s = c .before .before .before .before .before .before .before .before .before .before .before .before .before .before .before .before .before .before .before .before .before in
@@ -99,7 +87,6 @@ returns c =
     let says = told g (a .sentence .now) (a .n) (a .limit) (a .previous .now) _ path (c .before .before .before .before .before .before .before .before .before .before .before .before .before .before .before .write-front .ensures) (c .before .before .before .before .before .before .before .before .follow .ensures) (c .before .before .before .before .before .before .f .given .1) in
     answers-next g (a .sentence .now) (a .n) (a .limit) (a .previous .now) (a .out .now) path (c .before .before .before .before .before .before .f .given .0 .0) says _ (c .before .before .write-front2 .ensures)
 
--- src/stream.rt:73:1
 returns-2 : tie.Need-returns-2
 returns-2 c =
     let s = c .before .before .before .before .before .before .before .before .before .before .before .before .before .before .before in
@@ -109,7 +96,6 @@ returns-2 c =
     let says = told g (a .sentence .now) (a .n) (a .limit) (a .previous .now) _ path (c .before .before .before .before .before .before .before .before .before .write-front .ensures) (c .before .before .follow .ensures) (c .enum-told .given .1) in
     answers-last g (a .sentence .now) (a .n) (a .limit) (a .previous .now) (a .out .now) path says
 
--- src/stream.rt:73:1
 returns-3 : tie.Need-returns-3
 returns-3 c =
     let s = c .before .before .before .before .before .before .before .before .before .before .before .before .before .before .before in

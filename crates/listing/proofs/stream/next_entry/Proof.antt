@@ -11,15 +11,12 @@ use Rattle.listing.proofs.stream.next_entry.Lts as lts
 use Rattle.listing.proofs.stream.found_next.Reads as found-next-reads
 use Rattle.listing.proofs.stream.next_tests.Reads as next-tests-reads
 
--- src/stream.rt:141:9
 next-tests-requires : tie.Need-next-tests-requires
 next-tests-requires c κs = search needs
 
--- src/stream.rt:143:80
 enum-told : tie.Need-enum-told
 enum-told c = search needs
 
--- src/stream.rt:143:33
 found-next-requires : tie.Need-found-next-requires
 found-next-requires c κs =
     let s = c .before .before .before .before .before .before .before .before .before in
@@ -27,15 +24,12 @@ found-next-requires c κs =
     let p = s .pre in
     tests-passed (a .file .now) (a .sentence .now) (a .n) (a .limit) (a .previous .now) (a .out .now) (passed (beforeNext (a .file .now) (a .sentence .now) (a .n) (a .limit) (a .previous .now) (a .out .now)) 0 (c .before .before .before .next-tests .result) (c .before .before .before .next-tests .ensures) (c .before .enum-told .given .1))
 
--- src/stream.rt:144:32
 enum-told-2 : tie.Need-enum-told-2
 enum-told-2 c = search needs
 
--- src/stream.rt:131:1
 same-length : tie.Need-same-length
 same-length c = search needs
 
--- src/stream.rt:131:1
 returns : tie.Need-returns
 returns c =
     let s = c .before .before .before .before .before .before .before .before .before .before .before .before in
@@ -43,11 +37,9 @@ returns c =
     let p = s .pre in
     searched-call (a .file .now) (a .sentence .now) (a .n) (a .limit) (a .previous .now) (a .out .now) (passed (beforeNext (a .file .now) (a .sentence .now) (a .n) (a .limit) (a .previous .now) (a .out .now)) 0 (c .before .before .before .before .before .before .next-tests .result) (c .before .before .before .before .before .before .next-tests .ensures) (c .before .before .before .before .enum-told .given .1)) (c .before .before .found-next .result) _ (c .before .before .found-next .ensures)
 
--- src/stream.rt:131:1
 same-length-2 : tie.Need-same-length-2
 same-length-2 c = search needs
 
--- src/stream.rt:131:1
 returns-2 : tie.Need-returns-2
 returns-2 c =
     let s = c .before .before .before .before .before .before .before .before in

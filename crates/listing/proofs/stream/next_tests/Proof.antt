@@ -11,18 +11,15 @@ use Rattle.listing.proofs.stream.next_tests.Reads as reads
 use Rattle.listing.proofs.stream.next_tests.Lts as lts
 use Rattle.analyses.proofs.entry_tests.Reads as entry-tests-reads
 
--- src/stream.rt:119:9
 entry-tests-requires : tie.Need-entry-tests-requires
 entry-tests-requires c κs = search needs
 
 enum-told : tie.Need-enum-told
 enum-told c = search needs
 
--- src/stream.rt:121:9
 enum-told-2 : tie.Need-enum-told-2
 enum-told-2 c = search needs
 
--- src/stream.rt:121:9
 returns : tie.Need-returns
 returns c =
     let s = c .before .before .before .before .before .before .before in
@@ -30,7 +27,6 @@ returns c =
     let p = s .pre in
     stopped (beforeEntry (a .file .now) (a .sentence .now) (a .n) (a .limit) (a .out .now)) 0 (c .before .before .entry-tests .result) (c .before .before .entry-tests .ensures) (lengthRefusal (a .previous .now)) 0 (c .enum-told2 .given .1)
 
--- src/stream.rt:124:9
 returns-2 : tie.Need-returns-2
 returns-2 c =
     let s = c .before .before .before .before .before .before .before .before in
@@ -38,7 +34,6 @@ returns-2 c =
     let p = s .pre in
     long-list (a .file .now) (a .sentence .now) (a .n) (a .limit) (a .previous .now) (a .out .now) (passed (beforeEntry (a .file .now) (a .sentence .now) (a .n) (a .limit) (a .out .now)) 0 (c .before .before .before .entry-tests .result) (c .before .before .before .entry-tests .ensures) (c .before .enum-told .given .1)) (c .if1 .taken)
 
--- src/stream.rt:109:1
 returns-3 : tie.Need-returns-3
 returns-3 c =
     let s = c .before .before .before .before .before .before .before .before in

@@ -18,29 +18,24 @@ Inv-loop file t chain sentence n path₀ len out₀ at p₀ k₀ path out p k = 
 abbrev μ-loop : tie.MeasureT-loop
 μ-loop file t chain sentence n path₀ len out₀ at p₀ k₀ path out p k = length out - p
 
--- src/page.rt:69:5
 loop-holds : tie.Need-loop-holds Inv-loop μ-loop
 loop-holds c =
     let s = c .before .before .before in
     let a = s .args in
     filled-none (grammarOf (a .file .now)) (a .sentence .now) (a .n) (a .path .now) (a .len) (a .out .now) (a .at) (s .pre .0 .listed) (s .pre .0 .path-long) (s .pre .1)
 
--- src/page.rt:69:17
 sub-loop : tie.Need-sub-loop Inv-loop μ-loop
 sub-loop c = c .loop .inv .put .within
 
--- src/page.rt:70:13
 put-next-requires : tie.Need-put-next-requires Inv-loop μ-loop
 put-next-requires c κs =
     let s = c .before .before .before .before .before .before .before in
     let i = c .before .before .before .loop in
     (lists-again (s .pre .0) (i .path) (i .k) (i .inv .listed) (i .inv .path-long), omega (arith, c .before .before .loop-test .taken, i .inv .put .within))
 
--- src/page.rt:72:23
 enum-known-l : tie.Need-enum-known-l Inv-loop μ-loop
 enum-known-l c = search needs
 
--- src/page.rt:69:5
 loop-less : tie.Need-loop-less Inv-loop μ-loop
 loop-less c =
     let s = c .before .before .before .before .before .before .before .before .before .before .before .before .before in
@@ -49,7 +44,6 @@ loop-less c =
     let l = c .before .before .before .before .before .put-next in
     filled-less (grammarOf (a .file .now)) (a .sentence .now) (a .n) (take (a .len) (a .path .now)) (a .out .now) (a .at) (i .path) (i .out) (i .p) (i .k) (i .inv) _ _ _ _ (rw (c .before .l .given .1) at (l .ensures))
 
--- src/page.rt:69:5
 loop-again : tie.Need-loop-again Inv-loop μ-loop
 loop-again c =
     let s = c .before .before .before .before .before .before .before .before .before .before .before .before .before in
@@ -58,11 +52,9 @@ loop-again c =
     let l = c .before .before .before .before .before .put-next in
     filled-more (grammarOf (a .file .now)) (a .sentence .now) (a .n) (take (a .len) (a .path .now)) (a .out .now) (a .at) (i .path) (i .out) (i .p) (i .k) (i .inv) _ _ _ _ (rw (c .before .l .given .1) at (l .ensures))
 
--- src/page.rt:77:17
 enum-told : tie.Need-enum-told Inv-loop μ-loop
 enum-told c = search needs
 
--- src/page.rt:77:17
 same-length : tie.Need-same-length Inv-loop μ-loop
 same-length c =
     let s = c .before .before .before .before .before .before .before .before .before .before .before .before in
@@ -71,7 +63,6 @@ same-length c =
     let l = c .before .before .before .before .put-next in
     last-long (grammarOf (a .file .now)) (a .sentence .now) (a .n) (take (a .len) (a .path .now)) (a .out .now) (a .at) (i .path) (i .out) (i .p) (i .k) (i .inv) (l .last .1 .1 .1 .1 .1 .0) _ (rw (c .enum-told .given .1) at (l .ensures))
 
--- src/page.rt:77:17
 returns : tie.Need-returns Inv-loop μ-loop
 returns c =
     let s = c .before .before .before .before .before .before .before .before .before .before .before .before in
@@ -80,7 +71,6 @@ returns c =
     let l = c .before .before .before .before .put-next in
     filled-last (grammarOf (a .file .now)) (a .sentence .now) (a .n) (take (a .len) (a .path .now)) (a .out .now) (a .at) (i .path) (i .out) (i .p) (i .k) (i .inv) (l .last .1 .1 .1 .1 .1 .0) _ (rw (c .enum-told .given .1) at (l .ensures))
 
--- src/page.rt:53:1
 same-length-2 : tie.Need-same-length-2 Inv-loop μ-loop
 same-length-2 c =
     let s = c .before .before .before .before .before in
@@ -88,7 +78,6 @@ same-length-2 c =
     let i = c .before .loop in
     filled-long (grammarOf (a .file .now)) (a .sentence .now) (a .n) (take (a .len) (a .path .now)) (a .out .now) (a .at) (i .path) (i .out) (i .p) (i .k) (i .inv)
 
--- src/page.rt:53:1
 returns-2 : tie.Need-returns-2 Inv-loop μ-loop
 returns-2 c =
     let s = c .before .before .before .before .before in

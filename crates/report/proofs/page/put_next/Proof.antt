@@ -11,15 +11,12 @@ use Rattle.report.proofs.page.put_next.Lts as lts
 use Rattle.listing.proofs.follow.Reads as follow-reads
 use Rattle.report.proofs.text.put_line.Reads as put-line-reads
 
--- src/page.rt:43:9
 follow-requires : tie.Need-follow-requires
 follow-requires c κs = search needs
 
--- src/page.rt:45:24
 enum-known-f : tie.Need-enum-known-f
 enum-known-f c = search needs
 
--- src/page.rt:45:40
 put-line-requires : tie.Need-put-line-requires
 put-line-requires c κs =
     let s = c .before .before .before .before .before .before .before .before .before .before in
@@ -27,19 +24,15 @@ put-line-requires c κs =
     let f = c .before .before .before .before .before .follow in
     next-fits (grammarOf (a .file .now)) (a .sentence .now) (a .n) (take (a .len) (a .path .now)) (f .last .1 .1 .1 .1 .1 .1 .1 .0) _ (rw (c .before .before .before .f .given .1) at (f .ensures)) (a .at) (length (a .out .now)) (s .pre .1)
 
--- src/page.rt:46:27
 enum-told : tie.Need-enum-told
 enum-told c = search needs
 
--- src/page.rt:47:27
 enum-told-2 : tie.Need-enum-told-2
 enum-told-2 c = search needs
 
--- src/page.rt:29:1
 same-length : tie.Need-same-length
 same-length c = search needs
 
--- src/page.rt:29:1
 returns : tie.Need-returns
 returns c =
     let s = c .before .before .before .before .before .before .before .before .before .before .before .before .before in
@@ -47,7 +40,6 @@ returns c =
     let f = c .before .before .before .before .before .before .before .before .follow in
     says-next (grammarOf (a .file .now)) (a .sentence .now) (a .n) (take (a .len) (a .path .now)) (f .last .1 .1 .1 .1 .1 .1 .1 .0) _ (rw (c .before .before .before .before .before .before .f .given .1) at (f .ensures)) (c .before .before .put-line .ensures)
 
--- src/page.rt:29:1
 returns-2 : tie.Need-returns-2
 returns-2 c =
     let s = c .before .before .before .before .before .before .before in
@@ -55,7 +47,6 @@ returns-2 c =
     let f = c .before .before .follow in
     says-last (grammarOf (a .file .now)) (a .sentence .now) (a .n) (take (a .len) (a .path .now)) (f .last .1 .1 .1 .1 .1 .1 .1 .0) (rw (c .enum-told .given .1) at (f .ensures)) (a .out .now) (a .at)
 
--- src/page.rt:29:1
 returns-3 : tie.Need-returns-3
 returns-3 c =
     let s = c .before .before .before .before .before .before .before in

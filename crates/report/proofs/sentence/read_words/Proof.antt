@@ -15,61 +15,48 @@ Inv-loop bytes words₀ k₀ words k = WordsTo bytes words k
 abbrev μ-loop : tie.MeasureT-loop
 μ-loop bytes words₀ k₀ words k = 97 - k
 
--- src/sentence.rt:22:5
 loop-holds : tie.Need-loop-holds Inv-loop μ-loop
 loop-holds c = words-none (c .before .args .bytes .now) (c .before .args .words .now) (c .before .pre)
 
--- src/sentence.rt:23:27
 mul-if1 : tie.Need-mul-if1 Inv-loop μ-loop
 mul-if1 c = search needs
 
--- src/sentence.rt:23:27
 add-if1 : tie.Need-add-if1 Inv-loop μ-loop
 add-if1 c = search needs
 
--- src/sentence.rt:24:13
 returns : tie.Need-returns Inv-loop μ-loop
 returns c =
     let i = c .before .before .loop in
     let a = c .before .before .before .before .args in
     (i .inv .few, i .inv .room, words-end (a .bytes .now) (i .words) (i .k) (i .inv) (c .if1 .taken))
 
--- src/sentence.rt:26:37
 mul-two-bytes : tie.Need-mul-two-bytes Inv-loop μ-loop
 mul-two-bytes c = search needs
 
--- src/sentence.rt:26:37
 add-two-bytes : tie.Need-add-two-bytes Inv-loop μ-loop
 add-two-bytes c = search needs
 
--- src/sentence.rt:26:20
 two-bytes-requires : tie.Need-two-bytes-requires Inv-loop μ-loop
 two-bytes-requires c κs = search needs
 
--- src/sentence.rt:26:9
 mul-words : tie.Need-mul-words Inv-loop μ-loop
 mul-words c = search needs
 
--- src/sentence.rt:26:9
 element-write-words : tie.Need-element-write-words Inv-loop μ-loop
 element-write-words c = search needs
 
--- src/sentence.rt:27:9
 add-k : tie.Need-add-k Inv-loop μ-loop
 add-k c = search needs
 
--- src/sentence.rt:22:5
 loop-less : tie.Need-loop-less Inv-loop μ-loop
 loop-less c = search needs
 
--- src/sentence.rt:22:5
 loop-again : tie.Need-loop-again Inv-loop μ-loop
 loop-again c =
     let i = c .before .before .before .loop in
     let a = c .before .before .before .before .before .args in
     words-more (a .bytes .now) (i .words) (i .k) (c .two-bytes .result) (i .inv) (c .before .before .loop-test .taken) (c .before .if1 .left) (c .two-bytes .ensures)
 
--- src/sentence.rt:17:1
 returns-2 : tie.Need-returns-2 Inv-loop μ-loop
 returns-2 c =
     let i = c .before .loop in

@@ -16,17 +16,14 @@ use Rattle.report.proofs.text.put_item.Lts as lts
 use Rattle.report.proofs.text.ending_of.Reads as ending-of-reads
 use Rattle.report.proofs.text.put_number.Reads as put-number-reads
 
--- src/text.rt:73:9
 put-number-requires : tie.Need-put-number-requires
 put-number-requires c κs =
     let a = c .before .before .args in
     omega (arith, c .before .before .pre, length-append (decimal (a .n)) (ending (a .last) ∷ []))
 
--- src/text.rt:74:14
 ending-of-requires : tie.Need-ending-of-requires
 ending-of-requires c κs = search needs
 
--- src/text.rt:74:5
 slice-write-out : tie.Need-slice-write-out
 slice-write-out c =
     let s = c .before .before .before .before .before .before in
@@ -34,7 +31,6 @@ slice-write-out c =
     let w = c .before .before .before .put-number .ensures in
     omega (arith, s .pre, length-append (decimal (a .n)) (ending (a .last) ∷ []), w .place, put-long w)
 
--- src/text.rt:75:5
 add-result : tie.Need-add-result
 add-result c =
     let s = c .before .before .before .before .before .before in
@@ -42,11 +38,9 @@ add-result c =
     let w = c .before .before .before .put-number .ensures in
     omega (arith, s .pre, length-append (decimal (a .n)) (ending (a .last) ∷ []), w .place)
 
--- src/text.rt:69:1
 same-length : tie.Need-same-length
 same-length c = search needs
 
--- src/text.rt:69:1
 returns : tie.Need-returns
 returns c =
     let s = c .before .before .before .before .before .before in

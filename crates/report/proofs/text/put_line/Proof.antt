@@ -23,26 +23,21 @@ Inv-loop list n out₀ at i₀ p₀ out i p = (i ≤ n) × (p ≤ at + 6 * i) ×
 abbrev μ-loop : tie.MeasureT-loop
 μ-loop list n out₀ at i₀ p₀ out i p = n - i
 
--- src/text.rt:108:9
 slice-write-out : tie.Need-slice-write-out Inv-loop μ-loop
 slice-write-out c = omega (arith, c .before .before .pre .2)
 
--- src/text.rt:109:16
 add-result : tie.Need-add-result Inv-loop μ-loop
 add-result c = omega (arith, c .before .before .pre .2)
 
--- src/text.rt:109:9
 same-length : tie.Need-same-length Inv-loop μ-loop
 same-length c = search needs
 
--- src/text.rt:109:9
 returns : tie.Need-returns Inv-loop μ-loop
 returns c =
     let s = c .before .before in
     let e : s .args .n ≡ 0 = c .if1 .taken in
     subst (λ (k : ℕ). Put (s .args .out .now) (set (s .args .out .now) (s .args .at) newline) (s .args .at) (line (take k (s .args .list .now))) (s .args .at + 1)) (sym e) (put-one (s .args .out .now) (s .args .at) newline (omega (arith, s .pre .2)))
 
--- src/text.rt:113:5
 loop-holds : tie.Need-loop-holds Inv-loop μ-loop
 loop-holds c =
     let s = c .before .before in
@@ -50,38 +45,30 @@ loop-holds c =
     let l = length-take-le (a .n) (a .list .now) (omega (arith, s .pre .0, s .pre .1)) in
     (omega arith, omega arith, line-begun (take (a .n) (a .list .now)) (a .out .now) (a .at) (omega (arith, l, c .if1 .left)))
 
--- src/text.rt:114:27
 mul-wide : tie.Need-mul-wide Inv-loop μ-loop
 mul-wide c = search needs
 
--- src/text.rt:114:27
 element-copy-out-wide : tie.Need-element-copy-out-wide Inv-loop μ-loop
 element-copy-out-wide c = search needs
 
--- src/text.rt:114:22
 wide-requires : tie.Need-wide-requires Inv-loop μ-loop
 wide-requires c κs = search needs
 
--- src/text.rt:114:37
 add-put-item : tie.Need-add-put-item Inv-loop μ-loop
 add-put-item c = search needs
 
--- src/text.rt:114:9
 put-item-requires : tie.Need-put-item-requires Inv-loop μ-loop
 put-item-requires c κs =
     let s = c .before .before .before .before .before .before .before in
     let i = c .before .before .before .before .loop in
     omega (arith, s .pre .2, i .inv .1, i .inv .2 .kept, c .before .before .before .loop-test .taken, item-short (c .before .wide .result) (eqb (i .i + 1) (s .args .n)) (c .before .wide .ensures .1))
 
--- src/text.rt:115:9
 add-i : tie.Need-add-i Inv-loop μ-loop
 add-i c = search needs
 
--- src/text.rt:113:5
 loop-less : tie.Need-loop-less Inv-loop μ-loop
 loop-less c = search needs
 
--- src/text.rt:113:5
 loop-again : tie.Need-loop-again Inv-loop μ-loop
 loop-again c =
     let s = c .before .before .before .before .before .before .before .before .before .before in
@@ -96,11 +83,9 @@ loop-again c =
       line-more (take (a .n) (a .list .now)) (a .out .now) (a .at) (i .out) (i .i) (i .p) (i .inv .2) (a .n) _ _ l h (x .ensures .0 ∙ sym (getD-take (a .n) (a .list .now) (i .i) 0 h)) refl w,
     )
 
--- src/text.rt:103:1
 same-length-2 : tie.Need-same-length-2 Inv-loop μ-loop
 same-length-2 c = c .before .loop .inv .2 .kept
 
--- src/text.rt:103:1
 returns-2 : tie.Need-returns-2 Inv-loop μ-loop
 returns-2 c =
     let s = c .before .before .before .before in

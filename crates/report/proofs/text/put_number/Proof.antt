@@ -9,22 +9,18 @@ use Rattle.report.proofs.text.put_number.Lts as lts
 use Rattle.report.proofs.text.put_rest.Reads as put-rest-reads
 use Rattle.report.proofs.text.spell.Reads as spell-reads
 
--- src/text.rt:57:9
 spell-requires : tie.Need-spell-requires
 spell-requires c κs = search needs
 
--- src/text.rt:58:5
 put-rest-requires : tie.Need-put-rest-requires
 put-rest-requires c κs =
     let s = c .before .before .spell in
     let p = c .before .before .before .before .before .pre in
     (s .ensures .1, s .ensures .0, rw (s .ensures .2) p)
 
--- src/text.rt:52:1
 same-length : tie.Need-same-length
 same-length c = search needs
 
--- src/text.rt:52:1
 returns : tie.Need-returns
 returns c = put-same (c .before .before .put-rest .ensures) (c .before .before .before .before .before .spell .ensures .2)
 

@@ -16,47 +16,36 @@ use Rattle.model.proofs.number_of.Reads as number-of-reads
 use Rattle.model.proofs.place_of.Reads as place-of-reads
 use Rattle.report.proofs.text.put_count.Reads as put-count-reads
 
--- src/text.rt:92:18
 number-of-requires : tie.Need-number-of-requires
 number-of-requires c κs = search needs
 
--- src/text.rt:92:18
 cast-number : tie.Need-cast-number
 cast-number c = search needs
 
--- src/text.rt:93:17
 place-of-requires : tie.Need-place-of-requires
 place-of-requires c κs = search needs
 
--- src/text.rt:93:17
 cast-place : tie.Need-cast-place
 cast-place c = search needs
 
--- src/text.rt:94:5
 slice-write-out : tie.Need-slice-write-out
 slice-write-out c = search needs
 
--- src/text.rt:95:9
 add-out : tie.Need-add-out
 add-out c = search needs
 
--- src/text.rt:95:5
 slice-write-out-2 : tie.Need-slice-write-out-2
 slice-write-out-2 c = simp length-set (omega (arith, c .before .before .before .pre))
 
--- src/text.rt:96:35
 add-put-count : tie.Need-add-put-count
 add-put-count c = search needs
 
--- src/text.rt:96:5
 put-count-requires : tie.Need-put-count-requires
 put-count-requires c κs = simp length-set (omega (arith, c .before .before .before .before .pre))
 
--- src/text.rt:88:1
 same-length : tie.Need-same-length
 same-length c = put-long (c .before .before .put-count .ensures) ∙ simp length-set
 
--- src/text.rt:88:1
 returns : tie.Need-returns
 returns c =
     let s = c .before .before .before .before .before .before .before in

@@ -19,33 +19,26 @@ Inv-loop text from out₀ at i₀ p₀ out i p = (i ≤ 20) × (length out ≡ l
 abbrev μ-loop : tie.MeasureT-loop
 μ-loop text from out₀ at i₀ p₀ out i p = 20 - i
 
--- src/text.rt:43:5
 loop-holds : tie.Need-loop-holds Inv-loop μ-loop
 loop-holds c = search needs
 
--- src/text.rt:44:18
 element-copy-out-out : tie.Need-element-copy-out-out Inv-loop μ-loop
 element-copy-out-out c = search needs
 
--- src/text.rt:44:9
 slice-write-out : tie.Need-slice-write-out Inv-loop μ-loop
 slice-write-out c =
     let a = c .before .before .before .args in
     omega (arith, length-drop (a .from) (a .text .now))
 
--- src/text.rt:45:9
 add-p : tie.Need-add-p Inv-loop μ-loop
 add-p c = search needs
 
--- src/text.rt:46:9
 add-i : tie.Need-add-i Inv-loop μ-loop
 add-i c = search needs
 
--- src/text.rt:43:5
 loop-less : tie.Need-loop-less Inv-loop μ-loop
 loop-less c = search needs
 
--- src/text.rt:43:5
 loop-again : tie.Need-loop-again Inv-loop μ-loop
 loop-again c =
     let i = c .before .before .loop in
@@ -53,11 +46,9 @@ loop-again c =
     let p = c .before .before .before .pre in
     (omega arith, length-set (i .out) (i .p) _ ∙ i .inv .1, omega arith, i .inv .3 ∙ rest-more (a .text .now) (i .out) (i .i) (i .p) (omega (arith, p .0)))
 
--- src/text.rt:37:1
 same-length : tie.Need-same-length Inv-loop μ-loop
 same-length c = search needs
 
--- src/text.rt:37:1
 returns : tie.Need-returns Inv-loop μ-loop
 returns c =
     let i = c .before .loop in

@@ -19,41 +19,33 @@ Inv-loop n text₀ i₀ rest₀ text i rest = (i ≤ 20) × (length text ≡ 20)
 abbrev μ-loop : tie.MeasureT-loop
 μ-loop n text₀ i₀ rest₀ text i rest = i
 
--- src/text.rt:25:5
 loop-holds : tie.Need-loop-holds Inv-loop μ-loop
 loop-holds c = (omega arith, c .pre, begun (c .args .n) (c .args .text .now) (c .pre))
 
--- src/text.rt:26:9
 sub-i : tie.Need-sub-i Inv-loop μ-loop
 sub-i c = search needs
 
--- src/text.rt:27:19
 digit-requires : tie.Need-digit-requires Inv-loop μ-loop
 digit-requires c κs = search needs
 
--- src/text.rt:27:9
 element-write-text : tie.Need-element-write-text Inv-loop μ-loop
 element-write-text c = search needs
 
--- src/text.rt:29:13
 returns : tie.Need-returns Inv-loop μ-loop
 returns c =
     let i = c .before .before .before .loop in
     let a = c .before .before .before .before .args in
     (omega arith, length-set (i .text) (i .i - 1) (c .before .digit .result) ∙ i .inv .1, all-there (a .n) (i .i) (i .rest) (i .text) (c .before .digit .result) (omega arith) (omega arith) (i .inv .2) (c .before .digit .ensures) (c .if1 .taken))
 
--- src/text.rt:25:5
 loop-less : tie.Need-loop-less Inv-loop μ-loop
 loop-less c = search needs
 
--- src/text.rt:25:5
 loop-again : tie.Need-loop-again Inv-loop μ-loop
 loop-again c =
     let i = c .before .before .before .loop in
     let a = c .before .before .before .before .args in
     (omega arith, length-set (i .text) (i .i - 1) (c .before .digit .result) ∙ i .inv .1, one-more (a .n) (i .i) (i .rest) (i .text) (c .before .digit .result) (omega arith) (omega arith) (i .inv .2) (c .before .digit .ensures) (c .if1 .left))
 
--- src/text.rt:19:1
 returns-2 : tie.Need-returns-2 Inv-loop μ-loop
 returns-2 c =
     let i = c .before .loop in

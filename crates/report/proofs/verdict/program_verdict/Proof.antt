@@ -12,15 +12,12 @@ use Rattle.report.proofs.verdict.program_verdict.Lts as lts
 use Rattle.analyses.proofs.count.Reads as count-reads
 use Rattle.reader.proofs.read_grammar.Reads as read-grammar-reads
 
--- src/verdict.rt:14:9
 read-grammar-requires : tie.Need-read-grammar-requires
 read-grammar-requires c κs = search needs
 
--- src/verdict.rt:15:29
 enum-known-read : tie.Need-enum-known-read
 enum-known-read c = search needs
 
--- src/verdict.rt:16:9
 returns : tie.Need-returns
 returns c =
     let s = c .before .before .before .before .before .before in
@@ -31,7 +28,6 @@ returns c =
 enum-told : tie.Need-enum-told
 enum-told c = search needs
 
--- src/verdict.rt:19:9
 returns-2 : tie.Need-returns-2
 returns-2 c =
     let s = c .before .before .before .before .before .before in
@@ -39,11 +35,9 @@ returns-2 c =
     let v = c .before .before .before .read-grammar in
     by-length (a .file .now) (a .sentence .now) (a .n) (a .even) (passed (grammarRefusal (a .file .now)) (rulesOf (a .file .now)) (v .result) (v .ensures) (c .before .enum-told .given .1)) (c .if1 .taken)
 
--- src/verdict.rt:21:5
 count-requires : tie.Need-count-requires
 count-requires c κs = search needs
 
--- src/verdict.rt:11:1
 returns-3 : tie.Need-returns-3
 returns-3 c =
     let s = c .before .before .before .before .before .before .before in

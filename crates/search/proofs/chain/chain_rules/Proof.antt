@@ -24,11 +24,9 @@ Inv-loop file chain₀ r₀ chain r =
 abbrev μ-loop : tie.MeasureT-loop
 μ-loop file chain₀ r₀ chain r = r
 
--- src/chain.rt:24:9
 rule-count-requires : tie.Need-rule-count-requires Inv-loop μ-loop
 rule-count-requires c κs = search needs
 
--- src/chain.rt:25:5
 loop-holds : tie.Need-loop-holds Inv-loop μ-loop
 loop-holds c =
     let f = c .before .before .args .file .now in (
@@ -42,55 +40,42 @@ loop-holds c =
           ),
     )
 
--- src/chain.rt:26:9
 sub-r : tie.Need-sub-r Inv-loop μ-loop
 sub-r c = search needs
 
--- src/chain.rt:27:17
 category-of-requires : tie.Need-category-of-requires Inv-loop μ-loop
 category-of-requires c κs = search needs
 
--- src/chain.rt:27:17
 cast-a : tie.Need-cast-a Inv-loop μ-loop
 cast-a c = search needs
 
--- src/chain.rt:28:17
 cast-i : tie.Need-cast-i Inv-loop μ-loop
 cast-i c = search needs
 
--- src/chain.rt:29:25
 mul-chain : tie.Need-mul-chain Inv-loop μ-loop
 mul-chain c = search needs
 
--- src/chain.rt:29:25
 array-read-chain : tie.Need-array-read-chain Inv-loop μ-loop
 array-read-chain c = search needs
 
--- src/chain.rt:29:15
 add-chain : tie.Need-add-chain Inv-loop μ-loop
 add-chain c = search needs
 
--- src/chain.rt:29:9
 mul-chain-2 : tie.Need-mul-chain-2 Inv-loop μ-loop
 mul-chain-2 c = search needs
 
--- src/chain.rt:29:9
 array-write-chain : tie.Need-array-write-chain Inv-loop μ-loop
 array-write-chain c = search needs
 
--- src/chain.rt:30:9
 mul-chain-3 : tie.Need-mul-chain-3 Inv-loop μ-loop
 mul-chain-3 c = search needs
 
--- src/chain.rt:30:9
 array-write-chain-2 : tie.Need-array-write-chain-2 Inv-loop μ-loop
 array-write-chain-2 c = search needs
 
--- src/chain.rt:25:5
 loop-less : tie.Need-loop-less Inv-loop μ-loop
 loop-less c = search needs
 
--- src/chain.rt:25:5
 loop-again : tie.Need-loop-again Inv-loop μ-loop
 loop-again c =
     let t = c .before .before .before in
@@ -102,7 +87,6 @@ loop-again c =
           file-link f accepted (t .loop .r) (c .before .category-of .result .0) (t .loop .chain) (omega arith) (i .0) (c .before .category-of .ensures) (i .1),
     )
 
--- src/chain.rt:20:1
 returns : tie.Need-returns Inv-loop μ-loop
 returns c =
     let f = c .before .before .before .before .args .file .now in

@@ -78,11 +78,9 @@ search-claims t = (complete-reads.Asked, complete-reads.Learnt, category-reads.A
 abbrev stepped-claims : ℕ → stepped-lts.Claims
 stepped-claims t = (daughters-reads.Asked, daughters-reads.Learnt, word-reads.Asked, word-reads.Learnt, search-below t, search′.Post, fits-reads.Asked, fits-reads.Learnt, expanded-below t, expanded.Post)
 
--- src/prefixes.rt:195:46
 expanded-mul-expand : (t : ℕ) → expanded-lts.Need-mul-expand (expanded-claims t) (expanded-at t) expanded.Post
 expanded-mul-expand t c = search needs
 
--- src/prefixes.rt:195:9
 expanded-expand-requires : (t : ℕ) → expanded-lts.Need-expand-requires (expanded-claims t) (expanded-at t) expanded.Post
 expanded-expand-requires t c κs =
     let s = c .before .before in
@@ -95,31 +93,26 @@ expanded-expand-requires t c κs =
     let l : a .pending + getD (a .t .now) (32 * a .r) 0 ≤ a .fuel = omega (arith, p .1, p .3) in
     (fit rd fr, rd .stood .held, head-here rd fr, made-small rd fr h l, refl, row-room rd fr h l)
 
--- src/prefixes.rt:205:9
 expanded-sub-search : (t : ℕ) → expanded-lts.Need-sub-search (expanded-claims t) (expanded-at t) expanded.Post
 expanded-sub-search t c =
     let s = c .before .before .before .before .before in
     omega (arith, s .pre .1 .0 .fronted .predicted)
 
--- src/prefixes.rt:205:9
 expanded-add-search : (t : ℕ) → expanded-lts.Need-add-search (expanded-claims t) (expanded-at t) expanded.Post
 expanded-add-search t c =
     let s = c .before .before .before .before .before in
     omega (arith, s .pre .1 .0 .ready .short, s .pre .1 .3)
 
--- src/prefixes.rt:206:9
 expanded-add-search-2 : (t : ℕ) → expanded-lts.Need-add-search-2 (expanded-claims t) (expanded-at t) expanded.Post
 expanded-add-search-2 t c =
     let s = c .before .before .before .before .before in
     omega (arith, s .pre .1 .0 .ready .short, s .pre .1 .0 .ready .stood .numbered, s .pre .1 .0 .ready .stood .fits, s .pre .1 .3)
 
--- src/prefixes.rt:207:9
 expanded-sub-search-2 : (t : ℕ) → expanded-lts.Need-sub-search-2 (expanded-claims t) (expanded-at t) expanded.Post
 expanded-sub-search-2 t c =
     let s = c .before .before .before .before .before in
     omega (arith, s .pre .1 .0 .ready .stood .fits, s .pre .1 .0 .fronted .predicted)
 
--- src/prefixes.rt:196:5
 expanded-search-requires : (t : ℕ) → expanded-lts.Need-search-requires (expanded-claims t) (expanded-at t) expanded.Post
 expanded-search-requires t c κs =
     let s = c .before .before .before .before .before in
@@ -131,7 +124,6 @@ expanded-search-requires t c κs =
     let x = c .before .before .expand in
     (omega (arith, s .pre .0, rd .stood .fits, fr .predicted), record { file = f; ready = row-ready-by rd fr (a .d) (p .1) (p .2) (p .3) _ _ (x .result) (x .ensures) (x .ensures .kept) })
 
--- src/prefixes.rt:176:1
 expanded-returns : (t : ℕ) → expanded-lts.Need-returns (expanded-claims t) (expanded-at t) expanded.Post
 expanded-returns t c =
     let s = c .before .before .before .before .before .before in
@@ -149,15 +141,12 @@ search-Inv-loop sheet₀ t chain q from to s read pending made fuel place budget
 abbrev search-μ-loop : search-lts.MeasureT-loop
 search-μ-loop sheet₀ t chain q from to s read pending made fuel place budget a r₀ sheet r = 256 - r
 
--- src/prefixes.rt:57:17
 search-sub-place : (t : ℕ) → search-lts.Need-sub-place (search-claims t) (search-at t) search′.Post search-Inv-loop search-μ-loop
 search-sub-place t c = omega (arith, c .before .pre .1 .ready .short)
 
--- src/prefixes.rt:58:18
 search-element-copy-out-budget : (t : ℕ) → search-lts.Need-element-copy-out-budget (search-claims t) (search-at t) search′.Post search-Inv-loop search-μ-loop
 search-element-copy-out-budget t c = search needs
 
--- src/prefixes.rt:60:9
 search-returns : (t : ℕ) → search-lts.Need-returns (search-claims t) (search-at t) search′.Post search-Inv-loop search-μ-loop
 search-returns t c =
     let s = c .before .before .before in
@@ -165,15 +154,12 @@ search-returns t c =
     λ f p.
     no-budget p (c .if1 .taken)
 
--- src/prefixes.rt:62:16
 search-sub-sheet : (t : ℕ) → search-lts.Need-sub-sheet (search-claims t) (search-at t) search′.Post search-Inv-loop search-μ-loop
 search-sub-sheet t c = search needs
 
--- src/prefixes.rt:62:5
 search-element-write-sheet : (t : ℕ) → search-lts.Need-element-write-sheet (search-claims t) (search-at t) search′.Post search-Inv-loop search-μ-loop
 search-element-write-sheet t c = search needs
 
--- src/prefixes.rt:65:13
 search-complete-requires : (t : ℕ) → search-lts.Need-complete-requires (search-claims t) (search-at t) search′.Post search-Inv-loop search-μ-loop
 search-complete-requires t c κs =
     let s = c .before .before .before .before .before .before in
@@ -181,7 +167,6 @@ search-complete-requires t c κs =
     let p = s .pre .1 .ready in
     (length-set (a .sheet .now) 1 _ ∙ p .long, omega (arith, getD-set-other (a .sheet .now) 1 0 (getD (a .sheet .now) 1 0 - 1) 0 (λ z. omega arith), p .bounded))
 
--- src/prefixes.rt:67:9
 search-returns-2 : (t : ℕ) → search-lts.Need-returns-2 (search-claims t) (search-at t) search′.Post search-Inv-loop search-μ-loop
 search-returns-2 t c =
     let s = c .before .before .before .before .before .before .before in
@@ -189,7 +174,6 @@ search-returns-2 t c =
     λ f p.
     subst (λ (x : List ℕ). SearchedAt (grammarOf f) (a .fuel) (standing (a .s .now) (a .read) (a .q .now) (a .from) (a .to) (a .pending) (a .made)) (a .sheet .now) true x) (sym (c .complete .ensures)) (all-read p (c .before .before .before .before .if1 .left) (none-left (p .stood) (c .before .before .before .if2 .taken)) (c .before .before .if3 .taken))
 
--- src/prefixes.rt:67:9
 search-returns-3 : (t : ℕ) → search-lts.Need-returns-3 (search-claims t) (search-at t) search′.Post search-Inv-loop search-μ-loop
 search-returns-3 t c =
     let s = c .before .before .before .before .before in
@@ -197,11 +181,9 @@ search-returns-3 t c =
     λ f p.
     words-left p (c .before .before .if1 .left) (none-left (p .stood) (c .before .if2 .taken)) (c .if3 .left)
 
--- src/prefixes.rt:69:22
 search-mul-category : (t : ℕ) → search-lts.Need-mul-category (search-claims t) (search-at t) search′.Post search-Inv-loop search-μ-loop
 search-mul-category t c = search needs
 
--- src/prefixes.rt:69:22
 search-element-copy-out-category : (t : ℕ) → search-lts.Need-element-copy-out-category (search-claims t) (search-at t) search′.Post search-Inv-loop search-μ-loop
 search-element-copy-out-category t c =
     let s = c .before .before .before .before in
@@ -210,23 +192,18 @@ search-element-copy-out-category t c =
     let p = s .pre .1 .ready in
     omega (arith, row-some (p .stood) (some-left (s .pre .1 .ready .stood) (c .if2 .left)), p .stood .held .within)
 
--- src/prefixes.rt:69:13
 search-category-requires : (t : ℕ) → search-lts.Need-category-requires (search-claims t) (search-at t) search′.Post search-Inv-loop search-μ-loop
 search-category-requires t c κs = search needs
 
--- src/prefixes.rt:69:13
 search-cast-a : (t : ℕ) → search-lts.Need-cast-a (search-claims t) (search-at t) search′.Post search-Inv-loop search-μ-loop
 search-cast-a t c = search needs
 
--- src/prefixes.rt:70:17
 search-mul-r : (t : ℕ) → search-lts.Need-mul-r (search-claims t) (search-at t) search′.Post search-Inv-loop search-μ-loop
 search-mul-r t c = search needs
 
--- src/prefixes.rt:70:17
 search-element-copy-out-r : (t : ℕ) → search-lts.Need-element-copy-out-r (search-claims t) (search-at t) search′.Post search-Inv-loop search-μ-loop
 search-element-copy-out-r t c = omega (arith, c .before .category .ensures)
 
--- src/prefixes.rt:71:5
 search-loop-holds : (t : ℕ) → search-lts.Need-loop-holds (search-claims t) (search-at t) search′.Post search-Inv-loop search-μ-loop
 search-loop-holds t c =
     let s = c .before .before .before .before .before .before .before .before in
@@ -234,11 +211,9 @@ search-loop-holds t c =
     let h = some-left (s .pre .1 .ready .stood) (c .before .before .before .before .if2 .left) in
     (length-set (a .sheet .now) 1 _ ∙ s .pre .1 .ready .long, λ f ready. came-first ready h _ (ap (λ (k : ℕ). getD (a .chain .now) k 0) (c .before .before .category .ensures)))
 
--- src/prefixes.rt:72:21
 search-element-copy-out-first : (t : ℕ) → search-lts.Need-element-copy-out-first (search-claims t) (search-at t) search′.Post search-Inv-loop search-μ-loop
 search-element-copy-out-first t c = search needs
 
--- src/prefixes.rt:73:13
 search-stepped-requires : (t : ℕ) → search-lts.Need-stepped-requires (search-claims t) (search-at t) search′.Post search-Inv-loop search-μ-loop
 search-stepped-requires t c κs =
     let u = c .before .before .before in
@@ -252,7 +227,6 @@ search-stepped-requires t c κs =
     let test : u .loop .r < 256 = omega (arith, c .before .before .loop-test .taken) in
     (omega (arith, s .pre .0), record { file = f; ready = ready-now ready h (u .loop .inv .1 f ready) test; fronted = fronted ready h (u .loop .inv .1 f ready) test })
 
--- src/prefixes.rt:87:9
 search-note-requires : (t : ℕ) → search-lts.Need-note-requires (search-claims t) (search-at t) search′.Post search-Inv-loop search-μ-loop
 search-note-requires t c κs =
     let u = c .before .before .before .before .before in
@@ -266,23 +240,18 @@ search-note-requires t c κs =
     let test : u .loop .r < 256 = omega (arith, c .before .before .before .before .loop-test .taken) in
     (c .before .stepped .ensures f (ready-now ready h (u .loop .inv .1 f ready) test) (fronted ready h (u .loop .inv .1 f ready) test) .long ∙ u .loop .inv .0, omega (arith, p .short))
 
--- src/prefixes.rt:89:21
 search-cast-i : (t : ℕ) → search-lts.Need-cast-i (search-claims t) (search-at t) search′.Post search-Inv-loop search-μ-loop
 search-cast-i t c = search needs
 
--- src/prefixes.rt:90:23
 search-add-r : (t : ℕ) → search-lts.Need-add-r (search-claims t) (search-at t) search′.Post search-Inv-loop search-μ-loop
 search-add-r t c = search needs
 
--- src/prefixes.rt:90:17
 search-mul-r-2 : (t : ℕ) → search-lts.Need-mul-r-2 (search-claims t) (search-at t) search′.Post search-Inv-loop search-μ-loop
 search-mul-r-2 t c = search needs
 
--- src/prefixes.rt:90:17
 search-element-copy-out-r-2 : (t : ℕ) → search-lts.Need-element-copy-out-r-2 (search-claims t) (search-at t) search′.Post search-Inv-loop search-μ-loop
 search-element-copy-out-r-2 t c = search needs
 
--- src/prefixes.rt:71:5
 search-loop-less : (t : ℕ) → search-lts.Need-loop-less (search-claims t) (search-at t) search′.Post search-Inv-loop search-μ-loop
 search-loop-less t c =
     let u = c .before .before .before .before .before .before .before .before in
@@ -295,7 +264,6 @@ search-loop-less t c =
     let ready = rules-ready p b h in
     later ready h (u .loop .inv .1 f ready) (omega (arith, c .before .before .before .before .before .before .before .loop-test .taken)) _ refl
 
--- src/prefixes.rt:71:5
 search-loop-again : (t : ℕ) → search-lts.Need-loop-again (search-claims t) (search-at t) search′.Post search-Inv-loop search-μ-loop
 search-loop-again t c =
     let u = c .before .before .before .before .before .before .before .before in
@@ -314,7 +282,6 @@ search-loop-again t c =
     let f₀ = s .pre .1 .file in
     (w f₀ (rules-ready (s .pre .1 .ready) b h) .long ∙ u .loop .inv .0, λ f ready. came-next ready h (u .loop .inv .1 f ready) test _ _ (w f ready) refl)
 
--- src/prefixes.rt:92:13
 search-returns-4 : (t : ℕ) → search-lts.Need-returns-4 (search-claims t) (search-at t) search′.Post search-Inv-loop search-μ-loop
 search-returns-4 t c =
     let u = c .before .before .before .before .before .before .before in
@@ -333,7 +300,6 @@ search-returns-4 t c =
     (noted-rule now fr false _ (rw (c .if4 .left) at (k .ensures f now fr))) in
     below-rules p b h false _ (over-budget ready h (u .loop .inv .1 f ready) test _ w)
 
--- src/prefixes.rt:41:1
 search-returns-5 : (t : ℕ) → search-lts.Need-returns-5 (search-claims t) (search-at t) search′.Post search-Inv-loop search-μ-loop
 search-returns-5 t c =
     let u = c .before in
@@ -345,11 +311,9 @@ search-returns-5 t c =
     let ready = rules-ready p b h in
     below-rules p b h true _ (came-last ready h (u .loop .inv .1 f ready) (omega (arith, c .loop-test .left)))
 
--- src/prefixes.rt:116:14
 stepped-mul-at : (t : ℕ) → stepped-lts.Need-mul-at (stepped-claims t) (stepped-at t) stepped.Post
 stepped-mul-at t c = search needs
 
--- src/prefixes.rt:117:9
 stepped-daughters-requires : (t : ℕ) → stepped-lts.Need-daughters-requires (stepped-claims t) (stepped-at t) stepped.Post
 stepped-daughters-requires t c κs =
     let s = c .before in
@@ -360,7 +324,6 @@ stepped-daughters-requires t c κs =
     let fr = p .fronted in
     omega (arith, rule-small rd fr)
 
--- src/prefixes.rt:119:13
 stepped-word-requires : (t : ℕ) → stepped-lts.Need-word-requires (stepped-claims t) (stepped-at t) stepped.Post
 stepped-word-requires t c κs =
     let s = c .before .before .before in
@@ -371,7 +334,6 @@ stepped-word-requires t c κs =
     let fr = p .fronted in
     omega (arith, rule-small rd fr)
 
--- src/prefixes.rt:126:17
 stepped-add-search : (t : ℕ) → stepped-lts.Need-add-search (stepped-claims t) (stepped-at t) stepped.Post
 stepped-add-search t c =
     let s = c .before .before .before .before .before .before .before in
@@ -382,7 +344,6 @@ stepped-add-search t c =
     let fr = p .fronted in
     omega (arith, rd .stood .held .ordered, rd .stood .held .within)
 
--- src/prefixes.rt:130:17
 stepped-sub-search : (t : ℕ) → stepped-lts.Need-sub-search (stepped-claims t) (stepped-at t) stepped.Post
 stepped-sub-search t c =
     let s = c .before .before .before .before .before .before .before in
@@ -393,7 +354,6 @@ stepped-sub-search t c =
     let fr = p .fronted in
     omega (arith, fr .predicted)
 
--- src/prefixes.rt:132:17
 stepped-sub-search-2 : (t : ℕ) → stepped-lts.Need-sub-search-2 (stepped-claims t) (stepped-at t) stepped.Post
 stepped-sub-search-2 t c =
     let s = c .before .before .before .before .before .before .before in
@@ -404,7 +364,6 @@ stepped-sub-search-2 t c =
     let fr = p .fronted in
     omega (arith, fr .predicted, rd .stood .fits)
 
--- src/prefixes.rt:121:13
 stepped-search-requires : (t : ℕ) → stepped-lts.Need-search-requires (stepped-claims t) (stepped-at t) stepped.Post
 stepped-search-requires t c κs =
     let s = c .before .before .before .before .before .before .before in
@@ -415,7 +374,6 @@ stepped-search-requires t c κs =
     let fr = p .fronted in
     (omega (arith, s .pre .0, fr .predicted, rd .stood .fits), record { file = f; ready = empty-ready rd fr (sym (c .before .before .before .before .before .daughters .ensures) ∙ (c .before .before .before .before .if1 .taken)) (sym (c .before .before .before .word .ensures) ∙ (c .before .if2 .taken)) })
 
--- src/prefixes.rt:121:13
 stepped-returns : (t : ℕ) → stepped-lts.Need-returns (stepped-claims t) (stepped-at t) stepped.Post
 stepped-returns t c =
     let s = c .before .before .before .before .before .before .before .before in
@@ -426,7 +384,6 @@ stepped-returns t c =
     let empty = sym (c .before .before .before .before .word .ensures) ∙ (c .before .before .if2 .taken) in
     empty-word rd fr lexical empty (k .result) _ (k .ensures f (empty-ready rd fr lexical empty))
 
--- src/prefixes.rt:136:13
 stepped-returns-2 : (t : ℕ) → stepped-lts.Need-returns-2 (stepped-claims t) (stepped-at t) stepped.Post
 stepped-returns-2 t c =
     let s = c .before .before .before .before .before .before .before in
@@ -434,19 +391,15 @@ stepped-returns-2 t c =
     λ f rd fr.
     no-words rd fr (sym (c .before .before .before .before .before .daughters .ensures) ∙ (c .before .before .before .before .if1 .taken)) (λ z. (c .before .if2 .left) ((c .before .before .before .word .ensures) ∙ z)) (c .if3 .taken)
 
--- src/prefixes.rt:138:20
 stepped-mul-fits : (t : ℕ) → stepped-lts.Need-mul-fits (stepped-claims t) (stepped-at t) stepped.Post
 stepped-mul-fits t c = search needs
 
--- src/prefixes.rt:138:20
 stepped-shared-slice-read-fits : (t : ℕ) → stepped-lts.Need-shared-slice-read-fits (stepped-claims t) (stepped-at t) stepped.Post
 stepped-shared-slice-read-fits t c = search needs
 
--- src/prefixes.rt:138:12
 stepped-fits-requires : (t : ℕ) → stepped-lts.Need-fits-requires (stepped-claims t) (stepped-at t) stepped.Post
 stepped-fits-requires t c κs = search needs
 
--- src/prefixes.rt:144:17
 stepped-add-search-2 : (t : ℕ) → stepped-lts.Need-add-search-2 (stepped-claims t) (stepped-at t) stepped.Post
 stepped-add-search-2 t c =
     let s = c .before .before .before .before .before .before .before .before .before .before .before in
@@ -457,7 +410,6 @@ stepped-add-search-2 t c =
     let fr = p .fronted in
     omega (arith, (c .before .before .before .before .if3 .left))
 
--- src/prefixes.rt:147:17
 stepped-add-search-3 : (t : ℕ) → stepped-lts.Need-add-search-3 (stepped-claims t) (stepped-at t) stepped.Post
 stepped-add-search-3 t c =
     let s = c .before .before .before .before .before .before .before .before .before .before .before in
@@ -468,7 +420,6 @@ stepped-add-search-3 t c =
     let fr = p .fronted in
     omega (arith, rd .stood .held .ordered, rd .stood .held .within)
 
--- src/prefixes.rt:148:17
 stepped-sub-search-3 : (t : ℕ) → stepped-lts.Need-sub-search-3 (stepped-claims t) (stepped-at t) stepped.Post
 stepped-sub-search-3 t c =
     let s = c .before .before .before .before .before .before .before .before .before .before .before in
@@ -479,7 +430,6 @@ stepped-sub-search-3 t c =
     let fr = p .fronted in
     omega (arith, fr .predicted)
 
--- src/prefixes.rt:150:17
 stepped-sub-search-4 : (t : ℕ) → stepped-lts.Need-sub-search-4 (stepped-claims t) (stepped-at t) stepped.Post
 stepped-sub-search-4 t c =
     let s = c .before .before .before .before .before .before .before .before .before .before .before in
@@ -490,7 +440,6 @@ stepped-sub-search-4 t c =
     let fr = p .fronted in
     omega (arith, fr .predicted, rd .stood .fits)
 
--- src/prefixes.rt:139:13
 stepped-search-requires-2 : (t : ℕ) → stepped-lts.Need-search-requires-2 (stepped-claims t) (stepped-at t) stepped.Post
 stepped-search-requires-2 t c κs =
     let s = c .before .before .before .before .before .before .before .before .before .before .before in
@@ -501,7 +450,6 @@ stepped-search-requires-2 t c κs =
     let fr = p .fronted in
     (omega (arith, s .pre .0, fr .predicted, rd .stood .fits), record { file = f; ready = word-ready rd fr (sym (c .before .before .before .before .before .before .before .before .before .daughters .ensures) ∙ (c .before .before .before .before .before .before .before .before .if1 .taken)) (λ z. (c .before .before .before .before .before .if2 .left) ((c .before .before .before .before .before .before .before .word .ensures) ∙ z)) (c .before .before .before .before .if3 .left) (ap (λ (w : ℕ). wordFits w (getD (a .s .now) (a .read) 0)) (sym (c .before .before .before .before .before .before .before .word .ensures)) ∙ sym (c .before .before .fits2 .ensures) ∙ (c .before .if4 .taken)) })
 
--- src/prefixes.rt:139:13
 stepped-returns-3 : (t : ℕ) → stepped-lts.Need-returns-3 (stepped-claims t) (stepped-at t) stepped.Post
 stepped-returns-3 t c =
     let s = c .before .before .before .before .before .before .before .before .before .before .before .before in
@@ -513,7 +461,6 @@ stepped-returns-3 t c =
     let same = ap (λ (w : ℕ). wordFits w (getD (a .s .now) (a .read) 0)) (sym (c .before .before .before .before .before .before .before .before .word .ensures)) ∙ sym (c .before .before .before .fits2 .ensures) ∙ (c .before .before .if4 .taken) in
     next-word rd fr lexical full (c .before .before .before .before .before .if3 .left) same (k .result) _ (k .ensures f (word-ready rd fr lexical full (c .before .before .before .before .before .if3 .left) same))
 
--- src/prefixes.rt:153:9
 stepped-returns-4 : (t : ℕ) → stepped-lts.Need-returns-4 (stepped-claims t) (stepped-at t) stepped.Post
 stepped-returns-4 t c =
     let s = c .before .before .before .before .before .before .before .before .before .before in
@@ -521,11 +468,9 @@ stepped-returns-4 t c =
     λ f rd fr.
     other-word rd fr (sym (c .before .before .before .before .before .before .before .before .daughters .ensures) ∙ (c .before .before .before .before .before .before .before .if1 .taken)) (λ z. (c .before .before .before .before .if2 .left) ((c .before .before .before .before .before .before .word .ensures) ∙ z)) (c .before .before .before .if3 .left) (ap (λ (w : ℕ). wordFits w (getD (a .s .now) (a .read) 0)) (sym (c .before .before .before .before .before .before .word .ensures)) ∙ sym (c .before .fits2 .ensures) ∙ c .if4 .left)
 
--- src/prefixes.rt:155:25
 stepped-cast-if5 : (t : ℕ) → stepped-lts.Need-cast-if5 (stepped-claims t) (stepped-at t) stepped.Post
 stepped-cast-if5 t c = search needs
 
--- src/prefixes.rt:155:15
 stepped-add-if5 : (t : ℕ) → stepped-lts.Need-add-if5 (stepped-claims t) (stepped-at t) stepped.Post
 stepped-add-if5 t c =
     let s = c .before .before .before in
@@ -536,7 +481,6 @@ stepped-add-if5 t c =
     let fr = p .fronted in
     omega (arith, rd .stood .fits, rd .short, fit rd fr .few, (c .before .daughters .ensures))
 
--- src/prefixes.rt:156:9
 stepped-returns-5 : (t : ℕ) → stepped-lts.Need-returns-5 (stepped-claims t) (stepped-at t) stepped.Post
 stepped-returns-5 t c =
     let s = c .before .before .before .before in
@@ -544,7 +488,6 @@ stepped-returns-5 t c =
     λ f rd fr.
     queue-long rd fr (not-none (getD (a .t .now) (32 * a .r) 0) (λ z. (c .before .if1 .left) ((c .before .before .daughters .ensures) ∙ z))) (omega (arith, c .if5 .taken, (c .before .before .daughters .ensures)))
 
--- src/prefixes.rt:158:5
 stepped-expanded-requires : (t : ℕ) → stepped-lts.Need-expanded-requires (stepped-claims t) (stepped-at t) stepped.Post
 stepped-expanded-requires t c κs =
     let s = c .before .before .before .before .before in
@@ -556,7 +499,6 @@ stepped-expanded-requires t c κs =
     let e = (c .before .before .before .daughters .ensures) in
     (omega (arith, s .pre .0), (p, e, omega (arith, e, (not-none (getD (a .t .now) (32 * a .r) 0) (λ z. (c .before .before .if1 .left) ((c .before .before .before .daughters .ensures) ∙ z)))), omega (arith, (c .before .if5 .left))))
 
--- src/prefixes.rt:99:1
 stepped-returns-6 : (t : ℕ) → stepped-lts.Need-returns-6 (stepped-claims t) (stepped-at t) stepped.Post
 stepped-returns-6 t c = c .expanded .ensures
 

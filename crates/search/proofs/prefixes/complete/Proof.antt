@@ -8,27 +8,21 @@ use Rattle.search.proofs.prefixes.complete.Tie as tie
 use Rattle.search.proofs.prefixes.complete.Reads as reads
 use Rattle.search.proofs.prefixes.complete.Lts as lts
 
--- src/prefixes.rt:20:17
 element-copy-out-count : tie.Need-element-copy-out-count
 element-copy-out-count c = search needs
 
--- src/prefixes.rt:21:17
 element-copy-out-if1 : tie.Need-element-copy-out-if1
 element-copy-out-if1 c = search needs
 
--- src/prefixes.rt:22:9
 element-write-sheet : tie.Need-element-write-sheet
 element-write-sheet c = search needs
 
--- src/prefixes.rt:24:16
 add-sheet : tie.Need-add-sheet
 add-sheet c = search needs
 
--- src/prefixes.rt:24:5
 element-write-sheet-2 : tie.Need-element-write-sheet-2
 element-write-sheet-2 c = search needs
 
--- src/prefixes.rt:16:1
 returns : tie.Need-returns
 returns c =
     let a = c .before .before .before .args in

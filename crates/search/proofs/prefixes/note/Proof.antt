@@ -7,39 +7,31 @@ use Rattle.search.proofs.prefixes.note.Tie as tie
 use Rattle.search.proofs.prefixes.note.Reads as reads
 use Rattle.search.proofs.prefixes.note.Lts as lts
 
--- src/prefixes.rt:32:17
 element-copy-out-asked : tie.Need-element-copy-out-asked
 element-copy-out-asked c = search needs
 
--- src/prefixes.rt:34:20
 element-copy-out-if2 : tie.Need-element-copy-out-if2
 element-copy-out-if2 c = search needs
 
--- src/prefixes.rt:35:19
 add-sheet : tie.Need-add-sheet
 add-sheet c = search needs
 
--- src/prefixes.rt:35:13
 mul-sheet : tie.Need-mul-sheet
 mul-sheet c = search needs
 
--- src/prefixes.rt:35:13
 element-write-sheet : tie.Need-element-write-sheet
 element-write-sheet c = search needs
 
--- src/prefixes.rt:28:1
 returns : tie.Need-returns
 returns c =
     let a = c .before .before .before .before .args in
     noted-in (a .sheet .now) (a .first) (a .place) (a .r) (c .before .before .if1 .taken) (c .if2 .taken)
 
--- src/prefixes.rt:28:1
 returns-2 : tie.Need-returns-2
 returns-2 c =
     let a = c .before .before .before .before .args in
     noted-after (a .sheet .now) (a .first) (a .place) (a .r) (c .before .before .if1 .taken) (c .if2 .left)
 
--- src/prefixes.rt:28:1
 returns-3 : tie.Need-returns-3
 returns-3 c =
     let a = c .before .before .args in
