@@ -19,10 +19,10 @@ use Rattle.model.specs.Trace.{sentenceRefusal}
 use Rattle.model.specs.Counting.{limitsRefusal, effortRefusal, listing, count, effort}
 use Rattle.model.specs.Calls.{countCall}
 use Rattle.model.proofs.Tests.{first-of, rest-of, last-apart}
-use Rattle.analyses.specs.Tests.{beforeSearch}
+use Rattle.analyses.specs.Tests.{beforeSearch, SheetFor}
 use Rattle.search.specs.Tally.{Searched}
 
-module _ (g : Grammar) (sentence : List ℕ) (n limit : ℕ) (before after : List ℕ) (zero-count : getD before 0 0 ≡ 0) (budget : getD before 1 0 ≡ limit) where
+module _ (g : Grammar) (sentence : List ℕ) (n : ℕ) {limit m : ℕ} {before after : List ℕ} (sheet : SheetFor limit m before) where
   pub within-budget : Searched before (listing g sentence n) (effort g sentence n) (96 - n) true after
       → CountVerdict.Counted (getD after 0 0) (limit - getD after 1 0) ≡ countVerdict (effortRefusal g sentence n limit) (count g sentence n) (effort g sentence n)
   within-budget h =

@@ -9,7 +9,7 @@ ghost use Rattle.model.specs.Calls.{countCall, entryVerdict, entryOutput, writt
 ghost use Rattle.model.specs.Counting.{limitsRefusal, effortRefusal, listing, count, effort, entry};
 ghost use Rattle.model.specs.GrammarFile.{grammarRefusal, grammarOf};
 ghost use Rattle.model.specs.Verdict.{verdict, countVerdict};
-ghost use Rattle.analyses.specs.Tests.{beforeSearch, beforeEntry, afterSearch, lowWords};
+ghost use Rattle.analyses.specs.Tests.{beforeSearch, beforeEntry, afterSearch, SheetFor, lowWords};
 ghost use Rattle.search.specs.Tally.{Searched};
 use buffers::room_refusal;
 use grammar::start;
@@ -55,7 +55,7 @@ fn search_all(file: &[u8], sentence: &[u16], n: usize, sheet: &mut [u64; 100]) -
 
 // A sheet with a budget and the entry that is asked for.
 fn sheet_for(budget: u64, m: u64) -> [u64; 100]
-    ensures { λ s. ⌜ (length s ≡ 100) × (getD s 0 0 ≡ 0) × (getD s 1 0 ≡ budget) × (getD s 2 0 ≡ m) ⌝ }
+    ensures { λ s. ⌜ SheetFor budget m s ⌝ }
 {
     let mut sheet = [0u64; 100];
     sheet[1] = budget;

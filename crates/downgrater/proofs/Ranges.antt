@@ -141,4 +141,4 @@ module _ (file sentence : List ℕ) where
             let r = ranges n limit (first-of L (W orElse E orElse M) f) in
             let t = rest-of E M (rest-of W (E orElse M) (rest-of L (W orElse E orElse M) f)) in
             let b = leb-false (count g sentence n) m (no-refusal (leb (count g sentence n) m) (Refusal.Desk 26 0) t) in
-            omega (arith, is-entry file a sentence n limit m (r .nodes-some) (r .nodes-few) b .short, r .nodes-few)
+            omega (arith, is-entry file a sentence r m b .short, r .nodes-few)

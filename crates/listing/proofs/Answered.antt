@@ -65,7 +65,7 @@ module _ (file : List ℕ) (accepted : grammarRefusal file ≡ none) (sentence :
   in-range = limits.ranges n limit ranges
 
   entry-short : (m : ℕ) → m < length L → length (getD L m []) ≤ 96
-  entry-short m h = omega (arith, is-entry file accepted sentence n limit m (in-range .nodes-some) (in-range .nodes-few) h .short, in-range .nodes-few)
+  entry-short m h = omega (arith, is-entry file accepted sentence in-range m h .short, in-range .nodes-few)
 
   -- a limit that suffices for the live prefixes is no less than the effort
   enough : (d : Demand3 file sentence n limit) → length (d .prefixes) ≤ limit → effort g sentence n ≤ limit

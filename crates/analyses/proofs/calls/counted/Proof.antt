@@ -20,7 +20,7 @@ search-all-requires c κs =
     let s = c .before .before .before .before in
     let k = c .before .sheet-for in
     let r = ranges (s .args .n) (s .args .limit) (s .pre .1) in
-    (s .pre .0, r .nodes-some, r .nodes-few, k .ensures .0, omega (arith, k .ensures .1, k .ensures .2, r .limit-few))
+    (s .pre .0, r .nodes-some, r .nodes-few, k .ensures .long, omega (arith, k .ensures .none-counted, k .ensures .budget-is, r .limit-few))
 
 array-read-t13 : tie.Need-array-read-t13
 array-read-t13 c = search needs
@@ -33,21 +33,21 @@ sub-t17 c =
     let s = c .before .before .before .before .before .before in
     let a = s .args in
     let k = c .before .before .before .sheet-for in
-    budget-left (grammarOf (a .file .now)) (a .sentence .now) (a .n) (a .limit) (k .result) _ (k .ensures .1) (k .ensures .2) (rw (c .if1 .taken) at (c .before .search-all .ensures))
+    budget-left (grammarOf (a .file .now)) (a .sentence .now) (a .n) (k .ensures) (rw (c .if1 .taken) at (c .before .search-all .ensures))
 
 returns : tie.Need-returns
 returns c =
     let s = c .before .before .before .before .before .before in
     let a = s .args in
     let k = c .before .before .before .sheet-for in
-    within-budget (grammarOf (a .file .now)) (a .sentence .now) (a .n) (a .limit) (k .result) _ (k .ensures .1) (k .ensures .2) (rw (c .if1 .taken) at (c .before .search-all .ensures))
+    within-budget (grammarOf (a .file .now)) (a .sentence .now) (a .n) (k .ensures) (rw (c .if1 .taken) at (c .before .search-all .ensures))
 
 returns-2 : tie.Need-returns-2
 returns-2 c =
     let s = c .before .before .before .before .before .before in
     let a = s .args in
     let k = c .before .before .before .sheet-for in
-    over-limit (grammarOf (a .file .now)) (a .sentence .now) (a .n) (a .limit) (k .result) _ (k .ensures .1) (k .ensures .2) (rw (c .if1 .left) at (c .before .search-all .ensures))
+    over-limit (grammarOf (a .file .now)) (a .sentence .now) (a .n) (k .ensures) (rw (c .if1 .left) at (c .before .search-all .ensures))
 
 pub counted-spec : {M : Type 1} → statement M
 counted-spec =

@@ -21,7 +21,7 @@ search-all-requires c κs =
     let a = s .args in
     let k = c .before .sheet-for in
     let r = ranges (a .n) (a .limit) (s .pre .1) in
-    (s .pre .0, r .nodes-some, r .nodes-few, k .ensures .0, omega (arith, k .ensures .1, k .ensures .2, r .limit-few))
+    (s .pre .0, r .nodes-some, r .nodes-few, k .ensures .long, omega (arith, k .ensures .none-counted, k .ensures .budget-is, r .limit-few))
 
 array-read-if2 : tie.Need-array-read-if2
 array-read-if2 c = search needs
@@ -32,7 +32,7 @@ returns c =
     let a = s .args in
     let k = c .before .before .before .before .sheet-for in
     let r = ranges (a .n) (a .limit) (s .pre .1) in
-    none-such (a .file .now) (s .pre .0) (a .sentence .now) (a .n) (a .limit) (a .m) (r .nodes-some) (r .nodes-few) (k .result) _ (a .out .now) (k .ensures .0) (k .ensures .1) (k .ensures .2) (k .ensures .3)
+    none-such (a .file .now) (s .pre .0) (a .sentence .now) (a .out .now) r (k .ensures)
     (rw (c .before .if1 .taken) at (c .before .before .search-all .ensures)) (c .if2 .taken)
 
 sub-place : tie.Need-sub-place
@@ -52,7 +52,7 @@ sub-steps c =
     let a = s .args in
     let k = c .before .before .before .before .sheet-for in
     let r = ranges (a .n) (a .limit) (s .pre .1) in
-    ends-after (a .file .now) (s .pre .0) (a .sentence .now) (a .n) (a .limit) (a .m) (r .nodes-some) (r .nodes-few) (k .result) _ (a .out .now) (k .ensures .0) (k .ensures .1) (k .ensures .2) (k .ensures .3)
+    ends-after (a .file .now) (s .pre .0) (a .sentence .now) (a .out .now) r (k .ensures)
     (rw (c .before .if1 .taken) at (c .before .before .search-all .ensures)) (c .if2 .left)
 
 add-copy-entry : tie.Need-add-copy-entry
@@ -66,7 +66,7 @@ copy-entry-requires c κs =
     let r = ranges (a .n) (a .limit) (s .pre .1) in
     let h = (rw (c .before .before .before .if1 .taken) at (c .before .before .before .before .search-all .ensures)) in
     let l = (c .before .before .if2 .left) in
-    (steps-within (a .file .now) (s .pre .0) (a .sentence .now) (a .n) (a .limit) (a .m) (r .nodes-some) (r .nodes-few) (k .result) _ (a .out .now) (k .ensures .0) (k .ensures .1) (k .ensures .2) (k .ensures .3) h l, steps-room (a .file .now) (s .pre .0) (a .sentence .now) (a .n) (a .limit) (a .m) (r .nodes-some) (r .nodes-few) (k .result) _ (a .out .now) (k .ensures .0) (k .ensures .1) (k .ensures .2) (k .ensures .3) h l (s .pre .2), after-long (a .file .now) (s .pre .0) (a .sentence .now) (a .n) (a .limit) (a .m) (r .nodes-some) (r .nodes-few) (k .result) _ (a .out .now) (k .ensures .0) (k .ensures .1) (k .ensures .2) (k .ensures .3) h l)
+    (steps-within (a .file .now) (s .pre .0) (a .sentence .now) (a .out .now) r (k .ensures) h l, steps-room (a .file .now) (s .pre .0) (a .sentence .now) (a .out .now) r (k .ensures) h l (s .pre .2), after-long (a .file .now) (s .pre .0) (a .sentence .now) (a .out .now) r (k .ensures) h l)
 
 same-length : tie.Need-same-length
 same-length c = search needs
@@ -79,7 +79,7 @@ returns-2 c =
     let r = ranges (a .n) (a .limit) (s .pre .1) in
     let h = (rw (c .before .before .before .before .before .before .if1 .taken) at (c .before .before .before .before .before .before .before .search-all .ensures)) in
     let l = (c .before .before .before .before .before .if2 .left) in
-    found (a .file .now) (s .pre .0) (a .sentence .now) (a .n) (a .limit) (a .m) (r .nodes-some) (r .nodes-few) (k .result) _ (a .out .now) (k .ensures .0) (k .ensures .1) (k .ensures .2) (k .ensures .3) h l _ (steps-are (a .file .now) (s .pre .0) (a .sentence .now) (a .n) (a .limit) (a .m) (r .nodes-some) (r .nodes-few) (k .result) _ (a .out .now) (k .ensures .0) (k .ensures .1) (k .ensures .2) (k .ensures .3) h l) _ (c .before .before .copy-entry .ensures)
+    found (a .file .now) (s .pre .0) (a .sentence .now) (a .out .now) r (k .ensures) h l _ (steps-are (a .file .now) (s .pre .0) (a .sentence .now) (a .out .now) r (k .ensures) h l) _ (c .before .before .copy-entry .ensures)
 
 returns-3 : tie.Need-returns-3
 returns-3 c =
@@ -87,7 +87,7 @@ returns-3 c =
     let a = s .args in
     let k = c .before .before .before .sheet-for in
     let r = ranges (a .n) (a .limit) (s .pre .1) in
-    over-limit (a .file .now) (s .pre .0) (a .sentence .now) (a .n) (a .limit) (a .m) (r .nodes-some) (r .nodes-few) (k .result) _ (a .out .now) (k .ensures .0) (k .ensures .1) (k .ensures .2) (k .ensures .3)
+    over-limit (a .file .now) (s .pre .0) (a .sentence .now) (a .out .now) r (k .ensures)
     (rw (c .if1 .left) at (c .before .search-all .ensures))
 
 pub found-entry-spec : {M : Type 1} → statement M
