@@ -1,7 +1,7 @@
-// Prints the reader's verdict of each grammar file of data/: of two that it accepts, and of one for each refusal 1 to 10.
+// The reader's verdict of two files that it accepts, and of one for each refusal 1 to 10.
+use crate::show::load;
+use crate::show::print_verdict;
 use libc::STDOUT_FILENO;
-use showing::load;
-use showing::print_verdict;
 
 // A file's name and its verdict; a file that can't be opened has length 0.
 fn show(path: &[u8]) {
@@ -32,7 +32,7 @@ fn wrong_rules() {
     show(b"repeated_rule");
 }
 
-fn main() {
+pub fn run() {
     show(b"copy");
     show(b"pair");
     wrong_blocks();

@@ -1,11 +1,11 @@
--- `writer_demo::gather` meets its contract.
+-- `worked_examples::writing::gather` meets its contract.
 -- Assumes nothing.
 use mathlib.Core.Path.{_≡_}
 use Prim.Native.Nat.{_≤_, _-_}
 use lib.ListN.{length}
 use borrow.Author.Needs.{needs}
-use Rattle.writer_demo.proofs.gather.Statement.{statement}
-use Rattle.writer_demo.proofs.gather.Tie as tie
+use Rattle.worked_examples.proofs.writing.gather.Statement.{statement}
+use Rattle.worked_examples.proofs.writing.gather.Tie as tie
 
 abbrev Inv-loop : tie.InvT-loop
 Inv-loop file records₀ n i₀ records i = (n ≡ length records₀) × (i ≤ n) × (length records ≡ length records₀)

@@ -1,7 +1,8 @@
 #!/usr/bin/env python3
-"""Writes the grammar files of crates/grammar_demo/data: the copy grammar, the pair grammar, and one damaged file for each refusal 1 to 10.
+"""Writes the grammar files of crates/worked_examples/data: the copy grammar, the pair grammar, one with
+categories that have no tree, and one damaged file for each refusal 1 to 10.
 
-Usage: tools/demo_grammars.py (at the repository's root)
+Usage: tools/example_grammars.py (at the repository's root)
 """
 import os
 
@@ -49,6 +50,13 @@ PAIR = [
     record(S, [S, S], components=[[(0, 0), (1, 0)]]),
     record(S, word=0),
 ]
+# categories 1 and 2 have no tree
+BARREN = [
+    record(0, word=0),
+    record(1, [1], components=[[(0, 0)]]),
+    record(2, [0, 1], components=[[(0, 0), (1, 0)]]),
+    record(3, [0], components=[[(0, 0)]]),
+]
 
 
 def copy(records=COPY):
@@ -79,6 +87,7 @@ def wrong_check():
 FILES = {
     "copy": copy(),
     "pair": blocks([1], S, 1, PAIR),
+    "barren": blocks([1, 1, 1, 1], 0, 1, BARREN),
     "wrong_length": copy()[:1] + [copy()[1][:511]],
     "wrong_check": wrong_check(),
     "wrong_kind": set_byte(1, 2, 1),
@@ -93,7 +102,7 @@ FILES = {
     "repeated_rule": copy(COPY + [COPY[5]]),
 }
 
-folder = "crates/grammar_demo/data"
+folder = "crates/worked_examples/data"
 os.makedirs(folder, exist_ok=True)
 for name, file in FILES.items():
     with open(os.path.join(folder, name), "wb") as f:

@@ -1,11 +1,11 @@
--- `showing::print_numbers` meets its contract.
+-- `worked_examples::show::print_numbers` meets its contract.
 -- Assumes nothing.
 use Prim.Native.Nat.{_≤_, _-_}
 use borrow.Author.Needs.{needs}
-use Rattle.showing.proofs.print_numbers.Statement.{statement}
-use Rattle.showing.proofs.print_numbers.Tie as tie
-use Rattle.showing.proofs.print_numbers.Reads as reads
-use Rattle.showing.proofs.print_numbers.Lts as lts
+use Rattle.worked_examples.proofs.show.print_numbers.Statement.{statement}
+use Rattle.worked_examples.proofs.show.print_numbers.Tie as tie
+use Rattle.worked_examples.proofs.show.print_numbers.Reads as reads
+use Rattle.worked_examples.proofs.show.print_numbers.Lts as lts
 use Rattle.buffers.proofs.number_at.Reads as number-at-reads
 use Rattle.io.proofs.print_decimal.Reads as print-decimal-reads
 use Rattle.io.proofs.write_all.Reads as write-all-reads

@@ -1,8 +1,6 @@
-// Runs the tree checker and both conversions on the copy grammar (document 01, K4, K9, and 22), and prints each answer on a line: the number of nodes, or
-// the numbers of the trace or tree, or R with the refusal's number and place.
-use showing::load;
-use showing::print_verdict;
-use showing::print_written;
+// The tree checker and both conversions on the copy grammar: K4, K9, and 22.
+use crate::show::print_verdict;
+use crate::show::print_written;
 
 // The tree checker's verdict.
 fn check(file: &[u8], sentence: &[u16], tree: &[u16]) {
@@ -23,8 +21,8 @@ fn tree_of(file: &[u8], sentence: &[u16], trace: &[u16]) {
     print_written(v, &out);
 }
 
-// K4, with the copy grammar's file.
-fn conversions(copy: &[u8]) {
+// K4.
+fn both_ways(copy: &[u8]) {
     check(copy, &[0, 1, 0, 1], &[0, 1, 5, 4, 6, 6, 5]);
     trace_of(copy, &[0, 1, 0, 1], &[0, 1, 5, 4, 6, 6, 5]);
     tree_of(copy, &[0, 1, 0, 1], &[0, 1, 5, 4, 6, 5, 6]);
@@ -47,11 +45,8 @@ fn refused_trees(copy: &[u8]) {
     trace_of(copy, &[0, 1], &[0, 3, 5, 5]);
 }
 
-fn main() {
-    let mut file = [0u8; 1024];
-    let n = load(b"grammar", &mut file);
-    let copy = &file[0..n];
-    conversions(copy);
+pub fn run(copy: &[u8]) {
+    both_ways(copy);
     refused_lists(copy);
     refused_trees(copy);
 }

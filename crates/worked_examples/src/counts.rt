@@ -1,10 +1,8 @@
-// Counts analyses, asks for entries and goes from entry to entry (document 01, K5, K6 and K10), and prints each answer on a line: count and effort, or the
-// steps of an entry, or R with the refusal's number and place.
+// Counts, entries, and the way from entry to entry: K5, K6 and K10.
+use crate::show::print_refusal;
+use crate::show::print_written;
 use libc::STDOUT_FILENO;
 use model::CountVerdict;
-use showing::load;
-use showing::print_refusal;
-use showing::print_written;
 
 fn show_count(file: &[u8], sentence: &[u16], n: u64, limit: u64) {
     let v = analyses::count(file, sentence, n, limit);
@@ -51,10 +49,7 @@ fn pair_cases(file: &[u8]) {
     show_next(file, &[0, 0, 0], 5, &[0, 1, 0, 1, 1]);
 }
 
-fn main() {
-    let mut file = [0u8; 1024];
-    let n = load(b"copy", &mut file);
-    copy_cases(&file[0..n]);
-    let k = load(b"pair", &mut file);
-    pair_cases(&file[0..k]);
+pub fn run(copy: &[u8], pair: &[u8]) {
+    copy_cases(copy);
+    pair_cases(pair);
 }

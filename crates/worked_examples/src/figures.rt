@@ -1,6 +1,6 @@
 // The survey of the copy grammar, and of a grammar with categories that have no tree: the figures.
-use showing::load;
-use showing::print_written;
+use crate::show::load;
+use crate::show::print_written;
 
 // The figures on a line, one a category; or the refusal.
 fn show(path: &[u8]) {
@@ -11,7 +11,7 @@ fn show(path: &[u8]) {
     print_written(v, &figures);
 }
 
-fn main() {
+pub fn run() {
     show(b"copy");
     show(b"barren");
 }

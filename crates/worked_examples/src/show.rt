@@ -1,4 +1,4 @@
-// What the demonstration programs share: a file read, and answers printed on the standard output.
+// A file read, and titles and answers printed on the standard output.
 ghost use Rattle.io.specs.Counts.{Counts};
 use buffers::number_at;
 use libc::STDOUT_FILENO;
@@ -16,6 +16,12 @@ pub fn load(path: &[u8], buf: &mut [u8]) -> usize
     let n = io::read_full(fd, buf);
     libc::close(fd);
     n
+}
+
+// The title of a part on a line.
+pub fn title(text: &[u8]) {
+    io::write_all(STDOUT_FILENO, text);
+    io::write_all(STDOUT_FILENO, b"\n");
 }
 
 // R, the refusal's number and its place, on a line.

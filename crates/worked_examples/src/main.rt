@@ -1,0 +1,32 @@
+// Runs the calls on the grammar files of data/: the worked examples of document 01 (K3 to K10), and a damaged file for each refusal 1 to 10. Each answer is
+// on a line: its numbers, or R with the refusal's number and place.
+mod conversions;
+mod counts;
+mod figures;
+mod reading;
+mod show;
+mod traces;
+mod writing;
+
+use crate::show::load;
+use crate::show::title;
+
+fn main() {
+    title(b"reader");
+    reading::run();
+    let mut copy_file = [0u8; 1024];
+    let n = load(b"copy", &mut copy_file);
+    let copy = &copy_file[0..n];
+    title(b"the copy grammar written again");
+    writing::run(copy);
+    title(b"trace checker");
+    traces::run(copy);
+    title(b"trees");
+    conversions::run(copy);
+    title(b"survey");
+    figures::run();
+    let mut pair_file = [0u8; 1024];
+    let k = load(b"pair", &mut pair_file);
+    title(b"counts and entries");
+    counts::run(copy, &pair_file[0..k]);
+}
