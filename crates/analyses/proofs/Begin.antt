@@ -3,7 +3,7 @@
 use mathlib.Core.Path.{_≡_, ap, _∙_}
 use mathlib.Core.Bool.{Bool}
 use mathlib.Core.Option.{none}
-use mathlib.Core.List.{List, [], _∷_}
+use mathlib.Core.List.{List}
 use Prim.Native.Nat.{ℕ, zero, suc, _+_, _-_, _≤_}
 use native.Mathlib.Omega.{arith}
 use lib.ListN.{length, getD}
@@ -12,7 +12,7 @@ use Rattle.model.specs.GrammarFile.{grammarRefusal, grammarOf, startOf}
 use Rattle.model.specs.Counting.{listing, effort}
 use Rattle.model.specs.Rows.{beginRow, foundFromRow}
 use Rattle.model.proofs.RowsAgree.{rows-agree}
-use Rattle.rows.specs.Row.{rowOf, Held}
+use Rattle.rows.specs.Row.{FirstRow}
 use Rattle.rows.specs.Table.{Compiled}
 use Rattle.recognizer.proofs.Checked as checked
 use Rattle.search.specs.Chain.{Chained}
@@ -21,13 +21,13 @@ use Rattle.search.specs.Search.{standing, Ready, SearchedAt}
 use Rattle.search.proofs.Standing.{start-stood}
 use Rattle.search.proofs.Searches.{searched-as}
 
-module _ (file : List ℕ) (accepted : grammarRefusal file ≡ none) (sentence table chain q : List ℕ) (a n : ℕ)
-    (start : a ≡ startOf file) (first : rowOf q 0 1 ≡ record { owner = 0; category = a; component = 0 } ∷ []) (some : 1 ≤ n) (few : n ≤ 96) where
+module _ (file : List ℕ) (accepted : grammarRefusal file ≡ none) (sentence : List ℕ) (n : ℕ) {a : ℕ} {q : List ℕ} (start : a ≡ startOf file) (first : FirstRow a q)
+    (some : 1 ≤ n) (few : n ≤ 96) where
   abbrev g : Grammar
   g = grammarOf file
 
   begins : standing sentence 0 q 0 1 1 1 ≡ beginRow g sentence
-  begins = checked.begins file sentence q a start first
+  begins = checked.begins file sentence start first
 
   found-all : (k : ℕ) → 1 ≤ k → foundFromRow g k (beginRow g sentence) ≡ listing g sentence k
   found-all zero h = let z : ⊥ = omega arith in absurd z
@@ -38,11 +38,11 @@ module _ (file : List ℕ) (accepted : grammarRefusal file ≡ none) (sentence t
   effort-all (suc k) h = rows-agree file accepted sentence .efforts (suc k)
 
   module _ (sheet : List ℕ) where
-    pub start-ready : Compiled g table → Chained g chain → Held q 0 1 → length sheet ≡ 100 → getD sheet 0 0 + getD sheet 1 0 ≤ 1000000000
+    pub start-ready : {table chain : List ℕ} → Compiled g table → Chained g chain → length sheet ≡ 100 → getD sheet 0 0 + getD sheet 1 0 ≤ 1000000000
         → Ready file table chain sentence 0 q 0 1 1 1 n sheet
-    start-ready compiled chained held long bounded =
+    start-ready compiled chained long bounded =
         record {
-          stood = start-stood file accepted sentence table chain q a n start first some few compiled chained held;
+          stood = start-stood file accepted sentence n start first some few compiled chained;
           short = few;
           long = long;
           bounded = bounded;

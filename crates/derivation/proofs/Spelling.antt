@@ -26,7 +26,7 @@ use Rattle.model.proofs.Analyses.{at, trace-derives}
 use Rattle.model.proofs.Checker.{tree-accepted}
 use Rattle.model.proofs.Demands.{belongs, trace-only}
 use Rattle.model.proofs.RowsAgree.{rows-agree}
-use Rattle.rows.specs.Row.{rowOf, stateOf}
+use Rattle.rows.specs.Row.{stateOf, FirstRow}
 use Rattle.recognizer.proofs.Checked.{begins, trace-by-rows}
 use Rattle.trees.specs.Places.{Ended}
 use Rattle.derivation.specs.TreeRun.{Traced, Stood, RunSays, TreeRun, Spelled}
@@ -146,13 +146,13 @@ module _ (file sentence list : List ℕ) (accepted : grammarRefusal file ≡ non
   spelled-by before after l false h false e = record { spelled = sym e; stored = λ z. let y : _≡_ {A = ℕ} 0 1 = cc in absurd (omega arith) }
 
   -- from the first row, with prediction 0 at place 0
-  module _ (q : List ℕ) (c : ℕ) (start : c ≡ startOf file) (first : rowOf q 0 1 ≡ record { owner = 0; category = c; component = 0 } ∷ []) where
+  module _ {q : List ℕ} {c : ℕ} (start : c ≡ startOf file) (first : FirstRow c q) where
     pub run-spelled : (places before after : List ℕ) → getD places 0 0 ≡ 0 → length before ≡ 96 → (b : Bool) → TreeRun (grammarOf file) sentence list 0 (stateOf q 0 1 1 1 (drop 0 sentence)) places before after b
         → Spelled (grammarOf file) sentence list after b
     run-spelled places before after zero-is l b h =
         let n : length list - 0 ≡ length list = omega arith in
         let s : RunSays g sentence 0 (length list - 0) names (stateOf q 0 1 1 1 sentence) before after b = h names (λ p k. let e : p ≡ 0 = omega arith in sym (ap (λ (x : ℕ). treeOfList g (drop x list)) (ap (λ (x : ℕ). getD places x 0) e ∙ zero-is))) in
-        spelled-by before after l b (subst (λ (x : RowState). RunSays g sentence 0 (length list) names x before after b) (begins file sentence q c start first) (subst (λ (m : ℕ). RunSays g sentence 0 m names (stateOf q 0 1 1 1 sentence) before after b) n s)) (spells g sentence tree) refl
+        spelled-by before after l b (subst (λ (x : RowState). RunSays g sentence 0 (length list) names x before after b) (begins file sentence start first) (subst (λ (m : ℕ). RunSays g sentence 0 m names (stateOf q 0 1 1 1 sentence) before after b) n s)) (spells g sentence tree) refl
 
   pub first-stood : (ends places : List ℕ) → length ends ≡ 96 → Ended (grammarOf file) list ends 0 (length list) → length places ≡ 96 → getD places 0 0 ≡ 0 → Stood (grammarOf file) list ends places 1
   first-stood ends places l e k z =

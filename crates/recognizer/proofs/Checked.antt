@@ -23,15 +23,15 @@ use Rattle.model.proofs.FromFile.{start-in, categories-in, accepted-right}
 use Rattle.model.proofs.RowsNamed.{frontOwner}
 use Rattle.model.proofs.RowsBounds.{Reached, reached-begin}
 use Rattle.model.proofs.RowsAgree.{rows-agree}
-use Rattle.rows.specs.Row.{rowOf, stateOf}
+use Rattle.rows.specs.Row.{stateOf, FirstRow}
 use Rattle.recognizer.specs.Traces.{Runs, takenRow}
 
 -- every step of an accepted trace takes a prediction
 -- the first row is that of the beginning
-pub begins : (file sentence q : List ℕ) (c : ℕ) → c ≡ startOf file → rowOf q 0 1 ≡ record { owner = 0; category = c; component = 0 } ∷ [] → stateOf q 0 1 1 1 sentence ≡ beginRow (grammarOf file) sentence
-begins file sentence q c start first =
+pub begins : (file sentence : List ℕ) {q : List ℕ} {c : ℕ} → c ≡ startOf file → FirstRow c q → stateOf q 0 1 1 1 sentence ≡ beginRow (grammarOf file) sentence
+begins file sentence start first =
     ap (λ (row : List Slot). record { row = row; made = 1; pending = 1; words = sentence })
-    (first ∙ ap (λ (x : ℕ). record { owner = 0; category = x; component = 0 } ∷ []) start)
+    (first .row ∙ ap (λ (x : ℕ). record { owner = 0; category = x; component = 0 } ∷ []) start)
 
 module _ (g : Grammar) (sentence : List ℕ) where
   pub taken-length : (k : ℕ) (s : RowState) (rs : List ℕ) → stepsRefusalRow g sentence k s rs ≡ none → length (takenRow g s rs) ≡ length rs
@@ -74,18 +74,18 @@ module _ (file sentence trace : List ℕ) (accepted : grammarRefusal file ≡ no
         (le-ltb 96 (length trace) few) (ne-eqb (length trace) 0 some-steps)
 
     -- from the first row
-    module _ (q : List ℕ) (c : ℕ) (start : c ≡ startOf file) (first : rowOf q 0 1 ≡ record { owner = 0; category = c; component = 0 } ∷ []) where
+    module _ {q : List ℕ} {c : ℕ} (start : c ≡ startOf file) (first : FirstRow c q) where
       pub begin-runs : Runs g (stateOf q 0 1 1 1 sentence) 0 (length trace)
       begin-runs =
           record {
-            reached = subst (Reached g) (sym (begins file sentence q c start first)) (reached-begin g (accepted-right file accepted) sentence);
+            reached = subst (Reached g) (sym (begins file sentence start first)) (reached-begin g (accepted-right file accepted) sentence);
             counted = omega arith;
             short = omega arith;
             few = few;
           }
 
       begin-refusal : stepsRefusalRow g sentence 0 (stateOf q 0 1 1 1 sentence) trace ≡ traceRefusal g sentence trace
-      begin-refusal = ap (λ (s : RowState). stepsRefusalRow g sentence 0 s trace) (begins file sentence q c start first) ∙ sym trace-by-rows
+      begin-refusal = ap (λ (s : RowState). stepsRefusalRow g sentence 0 s trace) (begins file sentence start first) ∙ sym trace-by-rows
 
       pub begin-verdict : (v : Verdict) → v ≡ verdict (stepsRefusalRow g sentence 0 (stateOf q 0 1 1 1 sentence) trace) (length trace) → v ≡ verdict (traceRefusal g sentence trace) (length trace)
       begin-verdict v e = e ∙ ap (λ (o : Option Refusal). verdict o (length trace)) begin-refusal
@@ -97,4 +97,4 @@ module _ (file sentence trace : List ℕ) (accepted : grammarRefusal file ≡ no
           let s = stateOf q 0 1 1 1 sentence in
           let e = begin-refusal ∙ a in
           ap (take (length trace)) (h e) ∙ stored-front before (takenRow g s trace) (length trace) (taken-length g sentence 0 s trace e) (omega arith)
-          ∙ ap (λ (x : RowState). takenRow g x trace) (begins file sentence q c start first)
+          ∙ ap (λ (x : RowState). takenRow g x trace) (begins file sentence start first)

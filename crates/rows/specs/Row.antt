@@ -1,7 +1,7 @@
 -- The queue as code holds it: a row of slots, each slot one number. Only this file and src/row.rt know how a slot is packed.
 -- Assumes nothing.
 use mathlib.Core.Path.{_≡_}
-use mathlib.Core.List.{List, map}
+use mathlib.Core.List.{List, [], _∷_, map}
 use Prim.Native.Nat.{ℕ, _+_, _*_, _/_, _%_, _≤_}
 use lib.ListN.{length}
 use lib.Seq.{slice}
@@ -28,3 +28,8 @@ pub record Held (q : List ℕ) (from to : ℕ) : Type 0 where
   pub long : length q ≡ 384
   pub ordered : from ≤ to
   pub within : to ≤ 384
+
+-- q holds the first row: the only component of prediction 0, which is of category c
+pub record FirstRow (c : ℕ) (q : List ℕ) : Type 0 where
+  pub held : Held q 0 1
+  pub row : rowOf q 0 1 ≡ record { owner = 0; category = c; component = 0 } ∷ []

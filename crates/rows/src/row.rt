@@ -1,11 +1,10 @@
 // The queue as a row of slots in sentence order, each slot one number. How a slot is packed is known in this file alone.
 // A row is the part from..to of an array.
-ghost use mathlib.Core.List.{[], _∷_};
 ghost use mathlib.Core.Path.{_≡_};
 ghost use Prim.Native.Nat.{_+_, _<_, _≤_};
 ghost use lib.ListN.{length};
 ghost use Rattle.model.specs.Rows.{packed};
-ghost use Rattle.rows.specs.Row.{unpacked, raised, rowOf, Held};
+ghost use Rattle.rows.specs.Row.{unpacked, raised, Held, FirstRow};
 ghost use Rattle.rows.specs.Table.{CellsFit};
 ghost use Rattle.rows.specs.Expand.{blockAt, nextSlots, nextRow, Appended};
 use crate::rules::begins;
@@ -51,7 +50,7 @@ fn raised(made: u16, x: u16) -> u16
 // The first row, q[0..1]: the only component of prediction 0, which is of category a.
 pub fn first_row(a: Category) -> [u16; 384]
     requires { ⌜ a .0 < 64 ⌝ }
-    ensures { λ q. ⌜ Held q 0 1 × (rowOf q 0 1 ≡ record { owner = 0; category = a .0; component = 0 } ∷ []) ⌝ }
+    ensures { λ q. ⌜ FirstRow (a .0) q ⌝ }
 {
     let mut q = [0u16; 384];
     q[0] = slot(0, a, 0);

@@ -16,7 +16,7 @@ use Rattle.model.specs.Rows.{Slot, RowState, moves, stepRow}
 use Rattle.model.proofs.FromFile.{ruleRead, rule-read, rules-in, accepted-right}
 use Rattle.model.proofs.RowsBounds.{Reached, reached-begin, reached-step, file-row}
 use Rattle.model.proofs.WellFormed.{rules-length}
-use Rattle.rows.specs.Row.{unpacked, rowOf, Held}
+use Rattle.rows.specs.Row.{unpacked, rowOf, Held, FirstRow}
 use Rattle.rows.specs.Table.{Compiled}
 use Rattle.recognizer.specs.Steps.{Stands}
 use Rattle.recognizer.proofs.Checked.{begins}
@@ -134,17 +134,17 @@ module _ {file table chain sentence : List ℕ} {read : ℕ} {q : List ℕ} {fro
         omega (arith, here .0, rules-few, stood .chained .next r (ruleRead file r) known, first-later g (ruleRead file r .category) (suc r) (R - suc r) (omega (arith, here .0, rules-few)))
 
 -- the search stands at the beginning
-module _ (file : List ℕ) (accepted : grammarRefusal file ≡ none) (sentence table chain q : List ℕ) (a n : ℕ)
-    (start : a ≡ startOf file) (first : rowOf q 0 1 ≡ record { owner = 0; category = a; component = 0 } ∷ []) (some-nodes : 1 ≤ n) (few : n ≤ 96) where
-  pub start-stood : Compiled (grammarOf file) table → Chained (grammarOf file) chain → Held q 0 1 → Stood file table chain sentence 0 q 0 1 1 1 n
-  start-stood compiled chained held =
+module _ (file : List ℕ) (accepted : grammarRefusal file ≡ none) (sentence : List ℕ) (n : ℕ) {a : ℕ} {q : List ℕ} (start : a ≡ startOf file) (first : FirstRow a q)
+    (some-nodes : 1 ≤ n) (few : n ≤ 96) where
+  pub start-stood : {table chain : List ℕ} → Compiled (grammarOf file) table → Chained (grammarOf file) chain → Stood file table chain sentence 0 q 0 1 1 1 n
+  start-stood compiled chained =
       record {
         accepted = accepted;
         compiled = compiled;
         chained = chained;
-        held = held;
+        held = first .held;
         known = omega arith;
-        reached = subst (Reached (grammarOf file)) (sym (begins file sentence q a start first)) (reached-begin (grammarOf file) (accepted-right file accepted) sentence);
+        reached = subst (Reached (grammarOf file)) (sym (begins file sentence start first)) (reached-begin (grammarOf file) (accepted-right file accepted) sentence);
         fits = some-nodes;
         numbered = omega arith;
       }

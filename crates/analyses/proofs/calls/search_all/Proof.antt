@@ -36,8 +36,8 @@ search-requires c κs =
     let r = c .before .before .before .before .first-row in
     record {
       file = a .file .now;
-      ready = (start-ready (a .file .now) (p .0) (a .sentence .now) (c .before .before .before .before .before .before .before .compile .result) (c .before .before .before .before .before .before .chain-rules .result) (r .result) (c .before .before .before .before .before .start .result .0) (a .n) (c .before .before .before .before .before .start .ensures) (r .ensures .1) (p .1) (p .2) (a .sheet .now)
-          (c .before .before .before .before .before .before .before .compile .ensures (p .0)) (c .before .before .before .before .before .before .chain-rules .ensures (p .0)) (r .ensures .0) (p .3) (p .4));
+      ready = (start-ready (a .file .now) (p .0) (a .sentence .now) (a .n) (c .before .before .before .before .before .start .ensures) (r .ensures) (p .1) (p .2) (a .sheet .now)
+          (c .before .before .before .before .before .before .before .compile .ensures (p .0)) (c .before .before .before .before .before .before .chain-rules .ensures (p .0)) (p .3) (p .4));
     }
 
 returns : tie.Need-returns
@@ -46,9 +46,9 @@ returns c =
     let a = s .args in
     let p = s .pre in
     let r = c .before .before .before .before .before .first-row in
-    start-searched (a .file .now) (p .0) (a .sentence .now) (c .before .before .before .before .before .before .before .before .compile .result) (c .before .before .before .before .before .before .before .chain-rules .result) (r .result) (c .before .before .before .before .before .before .start .result .0) (a .n) (c .before .before .before .before .before .before .start .ensures) (r .ensures .1) (p .1) (p .2) (a .sheet .now)
-    (c .search .result) _ (c .search .ensures (a .file .now) (start-ready (a .file .now) (p .0) (a .sentence .now) (c .before .before .before .before .before .before .before .before .compile .result) (c .before .before .before .before .before .before .before .chain-rules .result) (r .result) (c .before .before .before .before .before .before .start .result .0) (a .n) (c .before .before .before .before .before .before .start .ensures) (r .ensures .1) (p .1) (p .2) (a .sheet .now)
-    (c .before .before .before .before .before .before .before .before .compile .ensures (p .0)) (c .before .before .before .before .before .before .before .chain-rules .ensures (p .0)) (r .ensures .0) (p .3) (p .4)))
+    start-searched (a .file .now) (p .0) (a .sentence .now) (a .n) (c .before .before .before .before .before .before .start .ensures) (r .ensures) (p .1) (p .2) (a .sheet .now)
+    (c .search .result) _ (c .search .ensures (a .file .now) (start-ready (a .file .now) (p .0) (a .sentence .now) (a .n) (c .before .before .before .before .before .before .start .ensures) (r .ensures) (p .1) (p .2) (a .sheet .now)
+    (c .before .before .before .before .before .before .before .before .compile .ensures (p .0)) (c .before .before .before .before .before .before .before .chain-rules .ensures (p .0)) (p .3) (p .4)))
 
 pub search-all-spec : {M : Type 1} → statement M
 search-all-spec =

@@ -31,10 +31,10 @@ run-tree-requires c κs =
     record {
       accepted = p .0;
       compiled = c .before .before .before .before .before .before .compile .ensures (p .0);
-      held = q .ensures .0;
+      held = q .ensures .held;
       room = p .5;
       known = omega arith;
-      runs = begin-runs (a .file .now) (a .sentence .now) (a .list .now) (p .0) (p .1) (λ z. omega (arith, n)) (q .result) (first .result .0) (first .ensures) (q .ensures .1);
+      runs = begin-runs (a .file .now) (a .sentence .now) (a .list .now) (p .0) (p .1) (λ z. omega (arith, n)) (first .ensures) (q .ensures);
       stood = first-stood (a .file .now) (a .sentence .now) (a .list .now) (p .0) (p .1) (p .2) (a .ends .now) _ (p .3) (p .4) (refl {a = 96}) (refl {a = 0});
     }
 
@@ -44,7 +44,7 @@ returns c =
     let p = c .before .before .before .before .before .before .before .before .before .before .before .pre in
     let q = c .before .before .before .before .before .first-row in
     let first = c .before .before .before .before .before .before .start in
-    run-spelled (a .file .now) (a .sentence .now) (a .list .now) (p .0) (p .1) (p .2) (q .result) (first .result .0) (first .ensures) (q .ensures .1) (replicate 96 0) (a .trace .now) _ (refl {a = 0}) (p .5) (c .run-tree .result) (c .run-tree .ensures)
+    run-spelled (a .file .now) (a .sentence .now) (a .list .now) (p .0) (p .1) (p .2) (first .ensures) (q .ensures) (replicate 96 0) (a .trace .now) _ (refl {a = 0}) (p .5) (c .run-tree .result) (c .run-tree .ensures)
 
 pub spells-spec : {M : Type 1} → statement M
 spells-spec =

@@ -30,14 +30,14 @@ look-requires c κs =
     let s = c .before .before .before .before .before .before .before in
     let a = s .args in
     let p = s .pre in
-    (start-stood (a .file .now) (p .0) (a .sentence .now) (a .t .now) (a .chain .now) (c .before .before .before .first-row .result) (c .before .before .before .before .start .result .0) (a .n) (c .before .before .before .before .start .ensures) (c .before .before .before .first-row .ensures .1) (p .3) (p .4) (p .1) (p .2) (c .before .before .before .first-row .ensures .0), record { desk-long = refl; path-long = p .6; going = omega arith; until = p .5; ahead = λ z. omega arith }, omega (arith, p .4))
+    (start-stood (a .file .now) (p .0) (a .sentence .now) (a .n) (c .before .before .before .before .start .ensures) (c .before .before .before .first-row .ensures) (p .3) (p .4) (p .1) (p .2), record { desk-long = refl; path-long = p .6; going = omega arith; until = p .5; ahead = λ z. omega arith }, omega (arith, p .4))
 
 returns : tie.Need-returns
 returns c =
     let s = c .before .before .before .before .before .before .before .before .before in
     let a = s .args in
     let p = s .pre in
-    follows-last (a .file .now) (p .0) (a .sentence .now) (a .n) (a .limit) (a .len) (p .3) (a .path .now) _ (begins (a .file .now) (a .sentence .now) (c .before .before .before .before .before .first-row .result) (c .before .before .before .before .before .before .start .result .0) (c .before .before .before .before .before .before .start .ensures) (c .before .before .before .before .before .first-row .ensures .1)) (c .before .look .result) _ _ (c .before .look .ensures) (c .if1 .taken)
+    follows-last (a .file .now) (p .0) (a .sentence .now) (a .n) (a .limit) (a .len) (p .3) (a .path .now) _ (begins (a .file .now) (a .sentence .now) (c .before .before .before .before .before .before .start .ensures) (c .before .before .before .before .before .first-row .ensures)) (c .before .look .result) _ _ (c .before .look .ensures) (c .if1 .taken)
 
 array-read-if2 : tie.Need-array-read-if2
 array-read-if2 c = search needs
@@ -50,14 +50,14 @@ returns-2 c =
     let s = c .before .before .before .before .before .before .before .before .before .before in
     let a = s .args in
     let p = s .pre in
-    follows-next (a .file .now) (p .0) (a .sentence .now) (a .n) (a .limit) (a .len) (p .3) (a .path .now) _ (begins (a .file .now) (a .sentence .now) (c .before .before .before .before .before .before .first-row .result) (c .before .before .before .before .before .before .before .start .result .0) (c .before .before .before .before .before .before .before .start .ensures) (c .before .before .before .before .before .before .first-row .ensures .1)) (c .before .before .look .result) _ _ (c .before .before .look .ensures) (c .before .if1 .left) (c .if2 .taken)
+    follows-next (a .file .now) (p .0) (a .sentence .now) (a .n) (a .limit) (a .len) (p .3) (a .path .now) _ (begins (a .file .now) (a .sentence .now) (c .before .before .before .before .before .before .before .start .ensures) (c .before .before .before .before .before .before .first-row .ensures)) (c .before .before .look .result) _ _ (c .before .before .look .ensures) (c .before .if1 .left) (c .if2 .taken)
 
 returns-3 : tie.Need-returns-3
 returns-3 c =
     let s = c .before .before .before .before .before .before .before .before .before .before in
     let a = s .args in
     let p = s .pre in
-    follows-over (a .file .now) (p .0) (a .sentence .now) (a .n) (a .limit) (a .len) (p .3) (a .path .now) _ (begins (a .file .now) (a .sentence .now) (c .before .before .before .before .before .before .first-row .result) (c .before .before .before .before .before .before .before .start .result .0) (c .before .before .before .before .before .before .before .start .ensures) (c .before .before .before .before .before .before .first-row .ensures .1)) (c .before .before .look .result) _ _ (c .before .before .look .ensures) (c .before .if1 .left) (c .if2 .left)
+    follows-over (a .file .now) (p .0) (a .sentence .now) (a .n) (a .limit) (a .len) (p .3) (a .path .now) _ (begins (a .file .now) (a .sentence .now) (c .before .before .before .before .before .before .before .start .ensures) (c .before .before .before .before .before .before .first-row .ensures)) (c .before .before .look .result) _ _ (c .before .before .look .ensures) (c .before .if1 .left) (c .if2 .left)
 
 pub follow-spec : {M : Type 1} → statement M
 follow-spec =

@@ -44,11 +44,11 @@ run-requires c κs =
     let q = c .before .before .before .first-row in (
       p .0,
       c .before .before .before .before .before .compile .ensures (p .0),
-      q .ensures .0,
+      q .ensures .held,
       p .2,
       omega arith,
       p .1,
-      begin-runs (a .file .now) (a .sentence .now) (a .trace .now) (p .0) (c .before .before .before .before .before .before .before .if1 .left) (c .before .before .before .before .before .before .if2 .left) (q .result) (c .before .before .before .before .start .result .0) (c .before .before .before .before .start .ensures) (q .ensures .1),
+      begin-runs (a .file .now) (a .sentence .now) (a .trace .now) (p .0) (c .before .before .before .before .before .before .before .if1 .left) (c .before .before .before .before .before .before .if2 .left) (c .before .before .before .before .start .ensures) (q .ensures),
     )
 
 returns-3 : tie.Need-returns-3
@@ -58,8 +58,8 @@ returns-3 c =
     let q = c .before .before .before .before .first-row in
     let first = c .before .before .before .before .before .start in
     record {
-      answer = begin-verdict (a .file .now) (a .sentence .now) (a .trace .now) (p .0) (c .before .before .before .before .before .before .before .before .if1 .left) (c .before .before .before .before .before .before .before .if2 .left) (q .result) (first .result .0) (first .ensures) (q .ensures .1) (c .run .result) (c .run .ensures .answer);
-      taken = begin-taken (a .file .now) (a .sentence .now) (a .trace .now) (p .0) (c .before .before .before .before .before .before .before .before .if1 .left) (c .before .before .before .before .before .before .before .if2 .left) (q .result) (first .result .0) (first .ensures) (q .ensures .1) (a .taken .now) (c .run .last .1 .1 .1 .1 .1 .1 .1 .1 .1 .1 .1 .0) (p .2) (c .run .ensures .taken);
+      answer = begin-verdict (a .file .now) (a .sentence .now) (a .trace .now) (p .0) (c .before .before .before .before .before .before .before .before .if1 .left) (c .before .before .before .before .before .before .before .if2 .left) (first .ensures) (q .ensures) (c .run .result) (c .run .ensures .answer);
+      taken = begin-taken (a .file .now) (a .sentence .now) (a .trace .now) (p .0) (c .before .before .before .before .before .before .before .before .if1 .left) (c .before .before .before .before .before .before .before .if2 .left) (first .ensures) (q .ensures) (a .taken .now) (c .run .last .1 .1 .1 .1 .1 .1 .1 .1 .1 .1 .1 .0) (p .2) (c .run .ensures .taken);
     }
 
 pub run-trace-spec : {M : Type 1} → statement M

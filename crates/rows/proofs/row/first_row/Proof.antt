@@ -20,7 +20,7 @@ returns : tie.Need-returns
 returns c =
     let a = c .before .args .a .0 in
     let e : unpacked (c .slot .result) ≡ record { owner = 0; category = a; component = 0 } = ap unpacked (c .slot .ensures) ∙ unpacked-packed (record { owner = 0; category = a; component = 0 }) (c .before .pre, omega arith) in
-    (record { long = refl {a = 384}; ordered = omega arith; within = omega arith }, ap (λ (x : Slot). x ∷ []) e)
+    record { held = record { long = refl {a = 384}; ordered = omega arith; within = omega arith }; row = ap (λ (x : Slot). x ∷ []) e }
 
 pub first-row-spec : {M : Type 1} → statement M
 first-row-spec = tie.close (tie.spec slot-requires array-write-q returns)
