@@ -9,7 +9,7 @@ ghost use Rattle.model.specs.GrammarFile.{grammarRefusal, grammarOf};
 ghost use Rattle.model.specs.Program.{programLimit};
 ghost use Rattle.report.specs.Page.{Lists};
 ghost use Rattle.io.specs.Counts.{Counts};
-ghost use Rattle.count_analyses.specs.Loads.{NextSays};
+ghost use Rattle.count_analyses.specs.Paths.{NextSays};
 use libc::STDOUT_FILENO;
 use model::CountVerdict;
 use model::Refusal;

@@ -1,6 +1,6 @@
--- The fields of a record are the parts of the rule that it holds: what the accessors give. Rule r below R is `ruleRead` of the file (`rule-read`, model/proofs/FromFile),
--- its category and its word are the fields as they stand, and it has as many daughters as the field says (`daughters-length`, model/proofs/RuleFromRecord).
--- Here: its daughters; its components, of which those that it lacks have length 0; and that a variable names a daughter of the rule.
+-- The fields of a record are the parts of the rule that it holds: what the accessors give. Rule r below R is `ruleRead` of the file (`rule-read`,
+-- model/proofs/FromFile), its category and its word are the fields as they stand, and it has as many daughters as the field says (`daughters-length`,
+-- model/proofs/RuleFromRecord). Here: its daughters; its components, of which those that it lacks have length 0; and that a variable names a daughter.
 -- Assumes nothing.
 use mathlib.Core.Path.{_≡_, refl, sym, ap, ap₂, subst, _∙_}
 use mathlib.Core.Bool.{Bool, true, false}
@@ -45,7 +45,7 @@ sequence-at (n ∷ ls) vs (suc k) =
     ∙ ap (λ (l : List ℕ). map decoded (take (getD ls k 0) l))
     (drop-drop (sumBelow (λ j. getD ls j 0) k) n vs ∙ ap (λ (i : ℕ). drop i vs) (sym (sum-first (λ j. getD (n ∷ ls) j 0) k)))
 
--- refusal 9 of record r
+-- record r of a file that the reader accepts
 module _ (file : List ℕ) (accepted : grammarRefusal file ≡ none) (r : ℕ) (here : r < rulesOf file) where
   abbrev e : List ℕ
   e = recordOf file r

@@ -66,12 +66,12 @@ module _ (g : Grammar) (e : List ℕ) (tested : Tested g e) where
 
   daughter-mem : (d : ℕ) → List·Memᴰ d (daughtersOf e) → d < length dimensions
   daughter-mem d m =
-      let (k, h, f) = mem-getD m in
+      let (k, h, f) = place-in m in
       omega (arith, daughter-in k (omega (arith, daughters-length)), f, field-at 2 n k (omega (arith, daughters-length)))
     where
-      mem-getD : {x : ℕ} {l : List ℕ} → List·Memᴰ x l → (k : ℕ) × (k < length l) × (x ≡ getD l k 0)
-      mem-getD (List·Memᴰ·head f) = (0, omega arith, f)
-      mem-getD (List·Memᴰ·tail i) = let (k, h, f) = mem-getD i in (suc k, omega arith, f)
+      place-in : {x : ℕ} {l : List ℕ} → List·Memᴰ x l → (k : ℕ) × (k < length l) × (x ≡ getD l k 0)
+      place-in (List·Memᴰ·head f) = (0, omega arith, f)
+      place-in (List·Memᴰ·tail i) = let (k, h, f) = place-in i in (suc k, omega arith, f)
 
   -- with or without daughters
   lexical-none : isLexical rule ≡ true → n ≡ 0
