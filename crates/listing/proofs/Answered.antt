@@ -96,10 +96,17 @@ module _ (file : List ℕ) (accepted : grammarRefusal file ≡ none) (sentence :
         ordered = d .ordered;
         too-much = (λ e. d .too-much .0 (sym (answers .count-promised) ∙ e), λ h. answers .count-promised ∙ d .too-much .1 h);
         counted = λ h. answers .count-promised ∙ d .counted h;
+        entry-too-much = λ out room m.
+            let e = answers .entry-promised m out .0 in
+            let t = d .entry-too-much out room m in
+            (λ f. t .0 (sym e ∙ f), λ h. e ∙ t .1 h);
+        entry-unwritten = λ h out room m. answers .entry-promised m out .1 ∙ d .entry-unwritten h out room m;
         entries = λ h out room m k.
             let e = d .entry-is h out room m k in
             (answers .entry-promised m out .0 ∙ e .0, answers .entry-promised m out .1 ∙ e .1);
-        no-entry = λ h out room m k. answers .entry-promised m out .0 ∙ d .no-entry h out room m k;
+        no-entry = λ h out room m k.
+            let e = d .no-entry h out room m k in
+            (answers .entry-promised m out .0 ∙ e .0, answers .entry-promised m out .1 ∙ e .1);
         first = λ h out room k.
             let l : 0 < length L = omega (arith, d .listing-counts) in
             let e = next-is (enough d h) [] out room (omega arith) (getD L 0 []) (drop 1 L) (after-nothing g sentence n ∙ drop-cons L 0 [] l) in

@@ -48,9 +48,13 @@ module _ (file sentence : List ℕ) (n limit : ℕ) where
     -- the count is refused for effort exactly when there are more live prefixes than the limit; else it says how many trees and live prefixes there are
     pub too-much : (answers .count ≡ CountVerdict.NotCounted (Refusal.Desk 25 0)) ⇔ limit < length prefixes
     pub counted : length prefixes ≤ limit → answers .count ≡ CountVerdict.Counted (length trees) (length prefixes)
-    -- and then entry m is the m-th of the traces, and there is none after the last
+    -- so is the call for an entry, with room in the output, and the output is then as it was
+    pub entry-too-much : (out : List ℕ) → 96 ≤ length out → (m : ℕ) → (answers .entry m out .0 ≡ Verdict.Refused (Refusal.Desk 25 0)) ⇔ limit < length prefixes
+    pub entry-unwritten : limit < length prefixes → (out : List ℕ) → 96 ≤ length out → (m : ℕ) → answers .entry m out .1 ≡ out
+    -- where the limit suffices, entry m is the m-th of the traces, and there is none after the last: 26, and the output is as it was
     pub entries : length prefixes ≤ limit → (out : List ℕ) → 96 ≤ length out → (m : ℕ) → m < length trees → Writes (getD traces m []) out (answers .entry m out)
-    pub no-entry : length prefixes ≤ limit → (out : List ℕ) → 96 ≤ length out → (m : ℕ) → length trees ≤ m → answers .entry m out .0 ≡ Verdict.Refused (Refusal.Desk 26 0)
+    pub no-entry : length prefixes ≤ limit → (out : List ℕ) → 96 ≤ length out → (m : ℕ) → length trees ≤ m
+        → (answers .entry m out .0 ≡ Verdict.Refused (Refusal.Desk 26 0)) × (answers .entry m out .1 ≡ out)
     -- the stream: after the empty list comes the first, after each the next, after the last none; and where there is no trace, none comes after the empty list
     pub first : length prefixes ≤ limit → (out : List ℕ) → 96 ≤ length out → 0 < length trees → Writes (getD traces 0 []) out (answers .next [] out)
     pub no-first : length prefixes ≤ limit → (out : List ℕ) → 96 ≤ length out → length trees ≡ 0 → answers .next [] out .0 ≡ Verdict.Refused (Refusal.Desk 26 0)

@@ -183,6 +183,38 @@ module _ (file : List ℕ) (accepted : grammarRefusal file ≡ none) (sentence :
         let k : ltb limit (effort g sentence n) ≡ false = le-ltb limit (effort g sentence n) h in
         (rw (accepted, r, ranges, spoken, k, e), rw (accepted, r, ranges, spoken, k, e))
 
+    -- the call for an entry that there is room for, by the two tests that are left
+    entry-tests : (out : List ℕ) → 96 ≤ length out → (m : ℕ) (b d : Bool) → ltb limit (effort g sentence n) ≡ b → leb (count g sentence n) m ≡ d
+        → entryVerdict file sentence n limit m out
+        ≡ verdict (refuseIf b (Refusal.Desk 25 0) orElse refuseIf d (Refusal.Desk 26 0)) (length (entry g sentence n m))
+    entry-tests out room m b d e f =
+        let r : ltb (length out) 96 ≡ false = le-ltb (length out) 96 room in
+        rw (accepted, r, ranges, spoken, e, f)
+
+    no-effort : (d : Bool) (k : ℕ) → verdict (refuseIf d (Refusal.Desk 26 0)) k ≡ Verdict.Refused (Refusal.Desk 25 0) → ⊥
+    no-effort true k h = let z : _≡_ {A = ℕ} 26 25 = cc in absurd (omega arith)
+    no-effort false k h = let z : _≡_ {A = ℕ} 0 1 = cc in absurd (omega arith)
+
+    entry-too-much : (out : List ℕ) → 96 ≤ length out → (m : ℕ)
+        → (entryVerdict file sentence n limit m out ≡ Verdict.Refused (Refusal.Desk 25 0)) ⇔ limit < effort g sentence n
+    entry-too-much out room m = (
+      λ e. over (ltb limit (effort g sentence n)) refl e,
+      λ h. entry-tests out room m true (leb (count g sentence n) m) (lt-ltb limit (effort g sentence n) h) refl,
+    )
+      where
+        over : (b : Bool) → ltb limit (effort g sentence n) ≡ b → entryVerdict file sentence n limit m out ≡ Verdict.Refused (Refusal.Desk 25 0)
+            → limit < effort g sentence n
+        over true e f = ltb-true limit (effort g sentence n) e
+        over false e f =
+            absurd (no-effort (leb (count g sentence n) m) (length (entry g sentence n m))
+            (sym (entry-tests out room m false (leb (count g sentence n) m) e refl) ∙ f))
+
+    entry-unwritten : limit < effort g sentence n → (out : List ℕ) → 96 ≤ length out → (m : ℕ) → entryOutput file sentence n limit m out ≡ out
+    entry-unwritten h out room m =
+        let r : ltb (length out) 96 ≡ false = le-ltb (length out) 96 room in
+        let e : ltb limit (effort g sentence n) ≡ true = lt-ltb limit (effort g sentence n) h in
+        rw (accepted, r, ranges, spoken, e)
+
     pub demand-3 : Demand3 file sentence n limit
     demand-3 =
         let a = analyses g right sentence n in
@@ -202,6 +234,8 @@ module _ (file : List ℕ) (accepted : grammarRefusal file ≡ none) (sentence :
           listing-counts = a .counted;
           too-much = too-much;
           counted = λ h. count-by false (le-ltb limit (effort g sentence n) h) ∙ ap (λ (c : ℕ). CountVerdict.Counted c (effort g sentence n)) (a .counted);
+          entry-too-much = entry-too-much;
+          entry-unwritten = entry-unwritten;
           entry-is = λ h out room m k. entry-by h out room m false (lt-leb (count g sentence n) m (omega (arith, a .counted)));
-          no-entry = λ h out room m k. entry-by h out room m true (le-leb (count g sentence n) m (omega (arith, a .counted))) .0;
+          no-entry = λ h out room m k. entry-by h out room m true (le-leb (count g sentence n) m (omega (arith, a .counted)));
         }

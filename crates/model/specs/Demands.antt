@@ -102,10 +102,14 @@ pub record Demand3 (file sentence : List ℕ) (n limit : ℕ) : Type 0 where
   -- the count call: refused for effort exactly when there are more live prefixes than the limit, else count and effort
   pub too-much : (countCall file sentence n limit ≡ CountVerdict.NotCounted (Refusal.Desk 25 0)) ⇔ limit < length prefixes
   pub counted : length prefixes ≤ limit → countCall file sentence n limit ≡ CountVerdict.Counted (length trees) (length prefixes)
-  -- the call for entry m: the m-th of the listing, or 26
+  -- the call for an entry, with room in the output: refused for effort exactly when the count is, and the output is then as it was
+  pub entry-too-much : (out : List ℕ) → 96 ≤ length out → (m : ℕ)
+      → (entryVerdict file sentence n limit m out ≡ Verdict.Refused (Refusal.Desk 25 0)) ⇔ limit < length prefixes
+  pub entry-unwritten : limit < length prefixes → (out : List ℕ) → 96 ≤ length out → (m : ℕ) → entryOutput file sentence n limit m out ≡ out
+  -- the call for entry m: the m-th of the listing, or 26 and the output is as it was
   pub entry-is : length prefixes ≤ limit → (out : List ℕ) → 96 ≤ length out → (m : ℕ) → m < length trees
       → (entryVerdict file sentence n limit m out ≡ Verdict.Accepted (length (getD (listing (grammarOf file) sentence n) m [])))
       × (entryOutput file sentence n limit m out
       ≡ getD (listing (grammarOf file) sentence n) m [] ++ drop (length (getD (listing (grammarOf file) sentence n) m [])) out)
   pub no-entry : length prefixes ≤ limit → (out : List ℕ) → 96 ≤ length out → (m : ℕ) → length trees ≤ m
-      → entryVerdict file sentence n limit m out ≡ Verdict.Refused (Refusal.Desk 26 0)
+      → (entryVerdict file sentence n limit m out ≡ Verdict.Refused (Refusal.Desk 26 0)) × (entryOutput file sentence n limit m out ≡ out)
