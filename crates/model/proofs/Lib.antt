@@ -50,3 +50,4 @@ pub mod WriterAgain
 pub mod WriterBack
 pub mod WriterHeading
 pub mod Verdicts
+pub mod Refusals

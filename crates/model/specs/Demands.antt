@@ -1,10 +1,11 @@
--- Demands 2 and 3, as statements about the calls. They hold for every grammar file that the reader accepts and every sentence of at most 96 of its
--- words (proofs/Demands.antt).
+-- The three demands, as statements about the calls. Demand 1 holds for every input (proofs/Refusals.antt), demands 2 and 3 for every grammar file that the
+-- reader accepts and every sentence of at most 96 of its words (proofs/Demands.antt). Each is quoted before its record.
 -- Assumes nothing.
 use mathlib.Core.Path.{_≡_}
 use Prim.Native.Nat.{ℕ, _<_, _≤_}
 use mathlib.Core.Option.{some}
-use mathlib.Core.List.{List, [], _++_, map, List·Memᴰ}
+use mathlib.Core.Bool.{true, false}
+use mathlib.Core.List.{List, [], _∷_, _++_, map, List·Memᴰ}
 use lib.Dec.{T}
 use lib.ListN.{length, getD, drop}
 use Rattle.model.specs.declared.Refusal.{Refusal}
@@ -18,12 +19,76 @@ use Rattle.model.specs.Tree.{Tree, preorder, derives}
 use Rattle.model.specs.Conversions.{BelongsTo, treeOf, traceOf}
 use Rattle.model.specs.Counting.{start, listing}
 use Rattle.model.specs.LivePrefixes.{Live, InOrder, Different}
-use Rattle.model.specs.Calls.{checkTraceVerdict, checkTreeVerdict, countCall, entryVerdict, entryOutput}
+use Rattle.model.specs.Verdict.{Author, Answer, values, refusal, verdictAnswer, countAnswer}
+use Rattle.model.specs.GrammarFile.{rulesOf, categoriesOf}
+use Rattle.model.specs.Writer.{Heading, fileOf}
+use Rattle.model.specs.Counting.{count, effort, entry}
+use Rattle.model.specs.Survey.{Surveyed}
+use Rattle.model.specs.Calls.{readVerdict, writeVerdict, writeOutput, checkTraceVerdict, checkTreeVerdict, traceToTreeVerdict, traceToTreeOutput, treeToTraceVerdict, treeToTraceOutput, countCall, entryVerdict, entryOutput, SurveyOutcome}
+use Rattle.model.specs.Refusals.{Test, fileTests, writeTests, checkTraceTests, checkTreeTests, traceToTreeTests, treeToTraceTests, countTests, entryTests, surveyTests}
 
 -- each follows from the other
 infix 5 _⇔_
 abbrev pub _⇔_ : Type 0 → Type 0 → Type 0
 A ⇔ B = (A → B) × (B → A)
+
+-- no test of the list meets the call
+abbrev pub NoneMeets : List Test → Type 0
+NoneMeets tests = (t : Test) → List·Memᴰ t tests → t .meets ≡ false
+
+-- the first test of the list that meets the call, and whose refusal it is, with which number and place
+pub record First (tests : List Test) (author : Author) (number place : ℕ) : Type 0 where
+  pub earlier : List Test
+  pub test : Test
+  pub later : List Test
+  pub in-order : tests ≡ earlier ++ test ∷ later
+  pub passed : NoneMeets earlier
+  pub met : test .meets ≡ true
+  pub author-is : test .author ≡ author
+  pub number-is : test .number ≡ number
+  pub place-is : test .place ≡ place
+
+-- an answer goes by the tests alone: it is a refusal exactly when a test meets the call, and then that of the first; it has values exactly when none does,
+-- and then these
+pub record Decided (tests : List Test) (result : List ℕ) (answer : Answer) : Type 0 where
+  pub refused : (author : Author) (number place : ℕ) → (answer ≡ refusal author number place) ⇔ First tests author number place
+  pub accepted : (given : List ℕ) → (answer ≡ values given) ⇔ (NoneMeets tests × (given ≡ result))
+
+-- an output goes by them too: after a refusal it is as it was, else `list` stands at its front and the rest is as it was
+pub record Wrote (tests : List Test) (list out after : List ℕ) : Type 0 where
+  pub as-it-was : (author : Author) (number place : ℕ) → First tests author number place → after ≡ out
+  pub written : NoneMeets tests → after ≡ list ++ drop (length list) out
+
+-- Demand 1: "A malformed grammar, an overlong sentence or an unknown word in it, a broken trace or tree, a limit out of range, an effort limit that doesn't
+-- suffice, an entry past the count, a short buffer or what a later paper turns away is refused with the number and place in document 01 or that paper, and
+-- the refusal changes no buffer. Everything else is accepted, and every call comes to an end on every input."
+-- The tests of each call are in specs/Refusals.antt. That every call comes to an end on every input is part of what the toolchain proves of a function.
+pub record Demand1 : Type 0 where
+  pub reader : (file : List ℕ) → Decided (fileTests file) (rulesOf file ∷ []) (verdictAnswer (readVerdict file))
+  pub writer : (h : Heading) (records out : List ℕ)
+      → Decided (writeTests h records out) (length (fileOf h records) ∷ []) (verdictAnswer (writeVerdict h records out))
+      × Wrote (writeTests h records out) (fileOf h records) out (writeOutput h records out)
+  pub trace-checker : (file sentence trace : List ℕ)
+      → Decided (checkTraceTests file sentence trace) (length trace ∷ []) (verdictAnswer (checkTraceVerdict file sentence trace))
+  pub tree-checker : (file sentence tree : List ℕ)
+      → Decided (checkTreeTests file sentence tree) (length tree ∷ []) (verdictAnswer (checkTreeVerdict file sentence tree))
+  pub trace-to-tree : (file sentence trace out : List ℕ)
+      → Decided (traceToTreeTests file sentence trace out) (length trace ∷ []) (verdictAnswer (traceToTreeVerdict file sentence trace out))
+      × Wrote (traceToTreeTests file sentence trace out) (treeOf (grammarOf file) sentence trace) out (traceToTreeOutput file sentence trace out)
+  pub tree-to-trace : (file sentence tree out : List ℕ)
+      → Decided (treeToTraceTests file sentence tree out) (length tree ∷ []) (verdictAnswer (treeToTraceVerdict file sentence tree out))
+      × Wrote (treeToTraceTests file sentence tree out) (traceOf (grammarOf file) sentence tree) out (treeToTraceOutput file sentence tree out)
+  pub counted : (file sentence : List ℕ) (n limit : ℕ)
+      → Decided (countTests file sentence n limit) (count (grammarOf file) sentence n ∷ effort (grammarOf file) sentence n ∷ [])
+      (countAnswer (countCall file sentence n limit))
+  pub entered : (file sentence : List ℕ) (n limit m : ℕ) (out : List ℕ)
+      → Decided (entryTests file sentence n limit m out) (length (entry (grammarOf file) sentence n m) ∷ []) (verdictAnswer (entryVerdict file sentence n limit m out))
+      × Wrote (entryTests file sentence n limit m out) (entry (grammarOf file) sentence n m) out (entryOutput file sentence n limit m out)
+  -- the survey's figures are free within their line, so the claim is of every right outcome
+  pub surveyed : (file out : List ℕ) (answer : Verdict) (after : List ℕ) (o : SurveyOutcome file out answer after)
+      → Decided (surveyTests file out) (categoriesOf file ∷ []) (verdictAnswer answer)
+      × Wrote (surveyTests file out) (o .figures) out after
+      × (NoneMeets (surveyTests file out) → Surveyed (grammarOf file) (o .figures))
 
 -- the steps apply, one after the other, and leave no words and no predictions
 pub record Ends (g : Grammar) (s : State (Unit {0})) (trace : List ℕ) : Type 0 where
@@ -59,8 +124,10 @@ module _ (file sentence : List ℕ) where
     pub accepted : checkTraceVerdict file sentence (traceOf (grammarOf file) sentence list) ≡ Verdict.Accepted (length list)
     pub back : treeOf (grammarOf file) sentence (traceOf (grammarOf file) sentence list) ≡ list
 
-  -- Demand 2: "verdicts agree with the normal form and the recognizer of W11-0605, and trace to tree to trace, tree to trace to tree are identities on
-  -- accepted ones"
+  -- Demand 2: "Verdicts agree with the normal form for multiple context-free grammars and the top-down recognizer in Stabler's W11-0605. A trace of at most
+  -- 96 steps is accepted exactly when its steps lead from the start prediction to no words and no predictions left. A tree of at most 96 nodes is accepted
+  -- exactly when the grammar derives the sentence by it. For accepted ones, trace to tree to trace gives back the trace; tree to trace to tree gives back
+  -- the tree."
   pub record Demand2 : Type 0 where
     pub traces : (trace : List ℕ) → length trace ≤ 96
         → (checkTraceVerdict file sentence trace ≡ Verdict.Accepted (length trace)) ⇔ Recognized (grammarOf file) sentence trace
@@ -82,8 +149,12 @@ pub record Belongs (g : Grammar) (sentence : List ℕ) (tree : Tree) : Type 0 wh
   pub traces : BelongsTo g sentence (traceOfTree g sentence tree) tree
   pub size : length (traceOfTree g sentence tree) ≡ length (preorder tree)
 
--- Demand 3, "one claim about the count and the whole listing": "count = number of derivation trees with at most N nodes, effort = number of live
--- prefixes, the listing is their traces, each once, in dictionary order"
+-- Demand 3, "one claim about the count and the whole listing" (document 01): "The number of analyses equals the number of derivation trees. All of this
+-- demand holds for every accepted grammar, every sentence of at most 96 of its words, every node limit N from 1 to 96 and every effort limit from 1 to
+-- 1,000,000,000. A call for the count or for an entry that meets no earlier refusal is refused for effort exactly when more live prefixes exist than the
+-- effort limit allows. Where that limit suffices, the count returned is the number of different trees with at most N nodes that derive the sentence from the
+-- start category, and the effort returned is the number of live prefixes. The listing then has exactly as many entries as the count says. They are the
+-- traces of those trees, each tree's exactly once, in dictionary order of rule numbers, and each has as many steps as its tree has nodes."
 pub record Demand3 (file sentence : List ℕ) (n limit : ℕ) : Type 0 where
   -- the live prefixes: those and no others, none twice
   pub prefixes : List (List ℕ)

@@ -12,6 +12,7 @@ pub mod Counting
 pub mod LivePrefixes
 pub mod Survey
 pub mod Calls
+pub mod Refusals
 pub mod Program
 pub mod Demands
 pub mod Rows
