@@ -11,11 +11,36 @@ use mathlib.Core.List.{List}
 use Rattle.model.specs.declared.Refusal.{Refusal}
 use Rattle.model.specs.declared.Verdict.{Verdict}
 use Rattle.model.specs.Base.{_orElse_}
-use Rattle.model.specs.Verdict.{refuseIf, verdict}
+use Rattle.model.specs.declared.CountVerdict.{CountVerdict}
+use Rattle.model.specs.Verdict.{author, number, place, refusalAnswer, verdictAnswer, countAnswer, refuseIf, verdict}
 use Rattle.model.specs.Grammar.{Grammar}
 use Rattle.model.specs.Trace.{firstUnknown, sentenceRefusal}
 use Rattle.model.specs.Calls.{roomRefusal}
 use Rattle.model.proofs.Tests.{no-refusal, first-of}
+
+-- an answer in the paper's terms says which value of the enum it is: different verdicts have different answers
+same-refusal : (r s : Refusal) → refusalAnswer r ≡ refusalAnswer s → r ≡ s
+same-refusal (Refusal.Grammar n p) (Refusal.Grammar m q) e = cc
+same-refusal (Refusal.Analysis n p) (Refusal.Analysis m q) e = cc
+same-refusal (Refusal.Desk n p) (Refusal.Desk m q) e = cc
+same-refusal (Refusal.Grammar n p) (Refusal.Analysis m q) e = let z : _≡_ {A = ℕ} 0 1 = cc in absurd (omega arith)
+same-refusal (Refusal.Grammar n p) (Refusal.Desk m q) e = let z : _≡_ {A = ℕ} 0 1 = cc in absurd (omega arith)
+same-refusal (Refusal.Analysis n p) (Refusal.Grammar m q) e = let z : _≡_ {A = ℕ} 0 1 = cc in absurd (omega arith)
+same-refusal (Refusal.Analysis n p) (Refusal.Desk m q) e = let z : _≡_ {A = ℕ} 0 1 = cc in absurd (omega arith)
+same-refusal (Refusal.Desk n p) (Refusal.Grammar m q) e = let z : _≡_ {A = ℕ} 0 1 = cc in absurd (omega arith)
+same-refusal (Refusal.Desk n p) (Refusal.Analysis m q) e = let z : _≡_ {A = ℕ} 0 1 = cc in absurd (omega arith)
+
+pub same-verdict : (v w : Verdict) → verdictAnswer v ≡ verdictAnswer w → v ≡ w
+same-verdict (Verdict.Accepted n) (Verdict.Accepted m) e = cc
+same-verdict (Verdict.Refused r) (Verdict.Refused s) e = ap Verdict.Refused (same-refusal r s e)
+same-verdict (Verdict.Accepted n) (Verdict.Refused s) e = let z : _≡_ {A = ℕ} 0 1 = cc in absurd (omega arith)
+same-verdict (Verdict.Refused r) (Verdict.Accepted m) e = let z : _≡_ {A = ℕ} 0 1 = cc in absurd (omega arith)
+
+pub same-count : (v w : CountVerdict) → countAnswer v ≡ countAnswer w → v ≡ w
+same-count (CountVerdict.Counted c x) (CountVerdict.Counted d y) e = cc
+same-count (CountVerdict.NotCounted r) (CountVerdict.NotCounted s) e = ap CountVerdict.NotCounted (same-refusal r s e)
+same-count (CountVerdict.Counted c x) (CountVerdict.NotCounted s) e = let z : _≡_ {A = ℕ} 0 1 = cc in absurd (omega arith)
+same-count (CountVerdict.NotCounted r) (CountVerdict.Counted d y) e = let z : _≡_ {A = ℕ} 0 1 = cc in absurd (omega arith)
 
 pub refused : (o : Option Refusal) (n : ℕ) (x : Refusal) → o ≡ some x → Verdict.Refused x ≡ verdict o n
 refused o n x e = sym (ap (λ (p : Option Refusal). verdict p n) e)
