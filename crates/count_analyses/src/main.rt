@@ -2,7 +2,7 @@
 // number and place (document 01, "Counting and listing").
 ghost use mathlib.Core.Option.{none};
 ghost use mathlib.Core.Path.{_≡_};
-ghost use Prim.Native.Nat.{_≤_};
+ghost use Prim.Native.Nat.{_<_, _≤_, min};
 ghost use lib.ListN.{length};
 ghost use Rattle.model.specs.Counting.{effort as effortOf};
 ghost use Rattle.model.specs.GrammarFile.{grammarRefusal, grammarOf};
@@ -10,6 +10,7 @@ ghost use Rattle.model.specs.Program.{programLimit};
 ghost use Rattle.report.specs.Page.{Lists};
 ghost use Rattle.io.specs.Counts.{Counts};
 ghost use Rattle.count_analyses.specs.Paths.{NextSays};
+ghost use Rattle.count_analyses.specs.Pieces.{PieceSays, Appended, TurnSays};
 use libc::STDOUT_FILENO;
 use model::CountVerdict;
 use model::Refusal;
@@ -24,87 +25,141 @@ struct Loaded {
     even: bool,
 }
 
-// What one more read of a file finds: so many bytes, its end, or that it cannot be read.
+// What one read of a file finds: so many bytes, its end, that a signal interrupted it before a byte came, or that the file cannot be read.
 enum Piece {
     Bytes(usize),
     End,
+    Interrupted,
     Failed,
 }
 
-// Whether a file's length is even; or that the file cannot be read to its end.
-enum Parity {
-    Even,
-    Odd,
-    Unknown,
+// A file that cannot be opened or read counts as empty.
+fn unreadable() -> Loaded
+    ensures { λ r. ⌜ r .bytes ≡ 0 ⌝ }
+{
+    Loaded {
+        bytes: 0,
+        even: true,
+    }
 }
 
-// Reads once.
-fn read_piece(fd: i32) -> Piece {
-    let mut space = io::large_buffer();
-    let got = libc::read(fd, &mut space);
+// Reads once into the chunk.
+fn read_piece(fd: i32, chunk: &mut [u8]) -> Piece
+    ensures { λ p. ⌜ PieceSays (now (chunk .exit)) p ⌝ }
+{
+    let got = libc::read(fd, chunk);
     if got < 0 {
+        if os::errno() == libc::EINTR {
+            return Piece::Interrupted;
+        }
         return Piece::Failed;
     }
-    let n = io::count(got, &space);
+    let n = io::count(got, chunk);
     if n == 0 {
         return Piece::End;
     }
     Piece::Bytes(n)
 }
 
-// The parity of a file of which n bytes are read: reads on to its end. The loop counts its turns down from a number that no run uses up.
-fn read_rest(fd: i32, n: usize) -> Parity {
-    let mut odd = n % 2;
+// Puts the first n bytes of the chunk behind the first `done` of the buffer, as many as there is room for: how many then stand in it.
+fn append(chunk: &[u8], n: usize, buf: &mut [u8], done: usize) -> usize
+    requires { ⌜ (n ≤ length (now chunk)) × (done ≤ length (now buf)) ⌝ }
+    ensures { λ r. ⌜ Appended (now (chunk .entry)) n (now (buf .entry)) done (now (buf .exit)) r ⌝ }
+{
+    let room = buf.len() - done;
+    let most = least(n, room);
+    let mut i: usize = 0;
+    while i < most {
+        buf[done + i] = chunk[i];
+        i += 1;
+    }
+    done + most
+}
+
+fn least(a: usize, b: usize) -> usize
+    ensures { λ r. ⌜ r ≤ a ⌝ }
+    ensures { λ r. ⌜ r ≤ b ⌝ }
+    ensures { λ r. ⌜ r ≡ min a b ⌝ }
+{
+    if a < b { a } else { b }
+}
+
+// What stands in the buffer after one more read, with the parity of all bytes read; or the file has ended; or it cannot be read.
+enum Turn {
+    More(usize, usize),
+    End,
+    Failed,
+}
+
+// Reads once more, where `done` bytes stand in the buffer and the bytes read so far leave `odd` when halved. A read that a signal interrupts changes nothing, and
+// is tried again.
+fn read_on(fd: i32, chunk: &mut [u8], buf: &mut [u8], done: usize, odd: usize) -> Turn
+    requires { ⌜ (done ≤ length (now buf)) × (odd < 2) ⌝ }
+    ensures { λ t. ⌜ TurnSays (now (buf .exit)) t ⌝ }
+{
+    let piece = read_piece(fd, chunk);
+    match piece {
+        Piece::Bytes(n) => Turn::More(append(chunk, n, buf, done), (odd + n % 2) % 2),
+        Piece::Interrupted => Turn::More(done, odd),
+        Piece::End => Turn::End,
+        Piece::Failed => Turn::Failed,
+    }
+}
+
+// Reads a file into the buffer, as much of it as the buffer holds, and then on to its end where `whole` is asked for. The loop counts its turns down from a
+// number that no run uses up.
+fn read_file(fd: i32, buf: &mut [u8], whole: bool) -> Loaded
+    ensures { λ r. ⌜ Counts (r .bytes) (now (buf .exit)) ⌝ }
+{
+    let mut space = io::large_buffer();
+    let chunk: &mut [u8] = &mut space;
+    let mut done: usize = 0;
+    let mut odd: usize = 0;
     let mut turns = u64::MAX;
     while 0 < turns {
-        let piece = read_piece(fd);
-        match piece {
-            Piece::Bytes(more) => {
-                odd = (odd + more % 2) % 2;
+        if !whole {
+            if done == buf.len() {
+                return Loaded {
+                    bytes: done,
+                    even: odd == 0,
+                };
             }
-            Piece::End => {
-                return if odd == 0 { Parity::Even } else { Parity::Odd };
+        }
+        let turn = read_on(fd, chunk, buf, done, odd);
+        match turn {
+            Turn::More(d, o) => {
+                done = d;
+                odd = o;
             }
-            Piece::Failed => {
-                return Parity::Unknown;
+            Turn::End => {
+                return Loaded {
+                    bytes: done,
+                    even: odd == 0,
+                };
+            }
+            Turn::Failed => {
+                return unreadable();
             }
         }
         turns -= 1;
     }
-    Parity::Unknown
+    unreadable()
 }
 
-// The sentence file: as much of it as the buffer holds, and its parity. A file that cannot be opened or read counts as empty.
+// The sentence file: as much of it as the buffer holds, and its parity.
 fn load_sentence(buf: &mut [u8]) -> Loaded
     ensures { λ r. ⌜ Counts (r .bytes) (now (buf .exit)) ⌝ }
 {
     let fd = os::open_read(b"sentence");
     if fd < 0 {
-        return Loaded {
-            bytes: 0,
-            even: true,
-        };
+        return unreadable();
     }
-    let n = io::read_full(fd, buf);
-    let parity = read_rest(fd, n);
+    let loaded = read_file(fd, buf, true);
     libc::close(fd);
-    match parity {
-        Parity::Even => Loaded {
-            bytes: n,
-            even: true,
-        },
-        Parity::Odd => Loaded {
-            bytes: n,
-            even: false,
-        },
-        Parity::Unknown => Loaded {
-            bytes: 0,
-            even: true,
-        },
-    }
+    loaded
 }
 
-// The grammar file, or as much of it as the buffer holds: how many bytes. A file that cannot be opened or read counts as empty.
+// The grammar file, or as much of it as the buffer holds: how many bytes.
 fn load_grammar(buf: &mut [u8]) -> usize
     ensures { λ n. ⌜ Counts n (now (buf .exit)) ⌝ }
 {
@@ -112,14 +167,9 @@ fn load_grammar(buf: &mut [u8]) -> usize
     if fd < 0 {
         return 0;
     }
-    let n = io::read_full(fd, buf);
-    let piece = read_piece(fd);
+    let loaded = read_file(fd, buf, false);
     libc::close(fd);
-    match piece {
-        Piece::Bytes(_) => n,
-        Piece::End => n,
-        Piece::Failed => 0,
-    }
+    loaded.bytes
 }
 
 // Prints the line of a refusal.
