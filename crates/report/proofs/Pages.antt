@@ -144,5 +144,5 @@ module _ (g : Grammar) (sentence : List ℕ) (n : ℕ) (list before : List ℕ) 
     pub last-long : LineSays g sentence n (take k path) path′ after p after′ Line.Last → length after′ ≡ length before
     last-long v = ap length (v .0) ∙ filled-long
 
-  pub filled-page : PageSays g sentence n list path before at after (Page.More p k)
-  filled-page = (w .text, w .put, w .listed, w .path-long, w .lines)
+  pub filled-page : length after ≤ p + 576 → PageSays g sentence n list path before at after (Page.More p k)
+  filled-page h = (w .text, w .put, w .listed, w .path-long, w .lines, h)

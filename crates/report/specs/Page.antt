@@ -3,7 +3,7 @@
 use mathlib.Core.Path.{_≡_}
 use mathlib.Core.Option.{none}
 use mathlib.Core.List.{List, [], _∷_, _++_}
-use Prim.Native.Nat.{ℕ, _≤_}
+use Prim.Native.Nat.{ℕ, _+_, _≤_}
 use lib.ListN.{length, take}
 use Rattle.model.specs.Base.{each}
 use Rattle.model.specs.Grammar.{Grammar}
@@ -44,7 +44,7 @@ LineSays g sentence n list path before at after LineLast = (after ≡ before) ×
 -- the lines after the list are those that the page has from its place on and, where the page is not the last, those after the last entry written
 abbrev pub PageSays : Grammar → List ℕ → ℕ → List ℕ → List ℕ → List ℕ → ℕ → List ℕ → Page → Type 0
 PageSays g sentence n list path before at after (More p k) =
-    (l : List ℕ) × Put before after at l p × (k ≤ 96) × (length path ≡ 96) × (linesAfter g sentence n list ≡ l ++ linesAfter g sentence n (take k path))
+    (l : List ℕ) × Put before after at l p × (k ≤ 96) × (length path ≡ 96) × (linesAfter g sentence n list ≡ l ++ linesAfter g sentence n (take k path)) × (length after ≤ p + 576)
 PageSays g sentence n list path before at after (Last p) = (l : List ℕ) × Put before after at l p × (linesAfter g sentence n list ≡ l)
 
 -- the texts of the pages that follow each other from the entries after a list on

@@ -83,7 +83,7 @@ returns-2 c =
     let s = c .before .before .before .before .before in
     let a = s .args in
     let i = c .before .loop in
-    filled-page (grammarOf (a .file .now)) (a .sentence .now) (a .n) (take (a .len) (a .path .now)) (a .out .now) (a .at) (i .path) (i .out) (i .p) (i .k) (i .inv)
+    filled-page (grammarOf (a .file .now)) (a .sentence .now) (a .n) (take (a .len) (a .path .now)) (a .out .now) (a .at) (i .path) (i .out) (i .p) (i .k) (i .inv) (omega (arith, c .loop-test .left, i .inv .put .within))
 
 pub fill-spec : {M : Type 1} → statement M
 fill-spec =
