@@ -3,10 +3,10 @@ ghost use mathlib.Core.Path.{_≡_};
 ghost use mathlib.Core.List.{_++_};
 ghost use Prim.Native.Nat.{_≤_};
 ghost use lib.ListN.{getD, length, take, drop};
-ghost use Rattle.model.specs.Verdict.{verdict};
+ghost use Rattle.model.specs.Verdict.{tested};
 ghost use Rattle.model.specs.Calls.{roomRefusal};
 use model::Refusal;
-use model::Verdict;
+use model::Tested;
 
 // Number i of the list, 0 past its end.
 pub fn number_at(list: &[u16], i: usize) -> u16
@@ -15,14 +15,14 @@ pub fn number_at(list: &[u16], i: usize) -> u16
     if i < list.len() { list[i] } else { 0 }
 }
 
-// Refusal 23: an output of fewer than 96 numbers. Accepted(0) where there is room.
-pub fn room_refusal(out: &[u16]) -> Verdict
-    ensures { λ r. ⌜ r ≡ verdict (roomRefusal (now (out .entry))) 0 ⌝ }
+// Refusal 23: an output of fewer than 96 numbers.
+pub fn room_refusal(out: &[u16]) -> Tested
+    ensures { λ t. ⌜ t ≡ tested (roomRefusal (now (out .entry))) ⌝ }
 {
     if out.len() < 96 {
-        Verdict::Refused(Refusal::Desk(23, 0))
+        Tested::Met(Refusal::Desk(23, 0))
     } else {
-        Verdict::Accepted(0)
+        Tested::Passed
     }
 }
 

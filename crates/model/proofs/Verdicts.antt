@@ -10,9 +10,10 @@ use lib.ListN.{length}
 use mathlib.Core.List.{List}
 use Rattle.model.specs.declared.Refusal.{Refusal}
 use Rattle.model.specs.declared.Verdict.{Verdict}
+use Rattle.model.specs.declared.Tested.{Tested}
 use Rattle.model.specs.Base.{_orElse_}
 use Rattle.model.specs.declared.CountVerdict.{CountVerdict}
-use Rattle.model.specs.Verdict.{author, number, place, refusalAnswer, verdictAnswer, countAnswer, refuseIf, verdict}
+use Rattle.model.specs.Verdict.{author, number, place, refusalAnswer, verdictAnswer, countAnswer, refuseIf, tested, verdict}
 use Rattle.model.specs.Grammar.{Grammar}
 use Rattle.model.specs.Trace.{firstUnknown, sentenceRefusal}
 use Rattle.model.specs.Calls.{roomRefusal}
@@ -50,6 +51,43 @@ accepted o n m e d = ap Verdict.Accepted d ∙ sym (ap (λ (p : Option Refusal).
 
 pub none-accepted : {o : Option Refusal} (n : ℕ) → o ≡ none → verdict o n ≡ Verdict.Accepted n
 none-accepted n e = rw e
+
+pub met-is : (o : Option Refusal) (x : Refusal) → o ≡ some x → Tested.Met x ≡ tested o
+met-is o x e = sym (ap tested e)
+
+pub passed-is : (o : Option Refusal) → o ≡ none → Tested.Passed ≡ tested o
+passed-is o e = sym (ap tested e)
+
+-- t is the answer of the tests o: what it says of them, and the verdict that a call makes of it
+module _ (o : Option Refusal) (t : Tested) (is : t ≡ tested o) where
+  pub tests-pass : t ≡ Tested.Passed → o ≡ none
+  tests-pass e = go o (sym is ∙ e)
+    where
+      go : (o : Option Refusal) → tested o ≡ Tested.Passed → o ≡ none
+      go none f = refl
+      go (some x) f = let z : _≡_ {A = ℕ} 0 1 = cc in absurd (omega arith)
+
+  pub tests-met : {x : Refusal} → t ≡ Tested.Met x → o ≡ some x
+  tests-met {x} e = go o (sym is ∙ e)
+    where
+      go : (o : Option Refusal) → tested o ≡ Tested.Met x → o ≡ some x
+      go none f = let z : _≡_ {A = ℕ} 0 1 = cc in absurd (omega arith)
+      go (some y) f = cc
+
+  -- a refusal stands whatever is tested after it
+  pub tests-stop : (p : Option Refusal) {x : Refusal} → t ≡ Tested.Met x → t ≡ tested (o orElse p)
+  tests-stop p {x} e = is ∙ go o (sym is ∙ e)
+    where
+      go : (o : Option Refusal) → tested o ≡ Tested.Met x → tested o ≡ tested (o orElse p)
+      go none f = let z : _≡_ {A = ℕ} 0 1 = cc in absurd (omega arith)
+      go (some y) f = refl
+
+pub refused-first : (o p : Option Refusal) (n : ℕ) {x : Refusal} → o ≡ some x → Verdict.Refused x ≡ verdict (o orElse p) n
+refused-first o p n e = rw e
+
+-- after tests that passed
+pub tests-after : (o p : Option Refusal) (t : Tested) → o ≡ none → t ≡ tested p → t ≡ tested (o orElse p)
+tests-after o p t e f = f ∙ sym (ap (λ (q : Option Refusal). tested (q orElse p)) e)
 
 -- v is the verdict of the tests o
 module _ (o : Option Refusal) (n : ℕ) (v : Verdict) (is : v ≡ verdict o n) where

@@ -8,6 +8,8 @@ use Rattle.model.specs.declared.Refusal.{Refusal}
 use Rattle.model.specs.declared.Refusal.the-variants.{Grammar, Analysis, Desk}
 use Rattle.model.specs.declared.Verdict.{Verdict}
 use Rattle.model.specs.declared.Verdict.the-variants.{Accepted, Refused}
+use Rattle.model.specs.declared.Tested.{Tested}
+use Rattle.model.specs.declared.Tested.the-variants.{Passed, Met}
 use Rattle.model.specs.declared.CountVerdict.{CountVerdict}
 use Rattle.model.specs.declared.CountVerdict.the-variants.{Counted, NotCounted}
 
@@ -52,6 +54,11 @@ countAnswer (NotCounted r) = refusalAnswer r
 abbrev pub refuseIf : Bool → Refusal → Option Refusal
 refuseIf true r = some r
 refuseIf false r = none
+
+-- the answer of tests joined: they pass, or the first refusal there is
+abbrev pub tested : Option Refusal → Tested
+tested none = Passed
+tested (some r) = Met r
 
 -- "a verdict is a node count or a refusal": the first refusal there is, or else the count
 abbrev pub verdict : Option Refusal → ℕ → Verdict

@@ -16,6 +16,12 @@ pub enum Verdict {
     Refused(Refusal),
 }
 
+// What a row of tests answers: none of them meets the input, or the refusal of the first that does.
+pub enum Tested {
+    Passed,
+    Met(Refusal),
+}
+
 // The verdict of the count: count and effort, or a refusal.
 pub enum CountVerdict {
     Counted(u64, u64),

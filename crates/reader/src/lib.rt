@@ -9,5 +9,6 @@ pub use blocks::blocks_for;
 pub use blocks::records_in;
 pub use heading::dimensions_right;
 pub use heading::within;
+pub use reader::grammar_refusal;
 pub use reader::read_grammar;
 pub use rule_tests::record_refusal;

@@ -1,6 +1,6 @@
 // The reader: all tests of a grammar file in their order.
 ghost use mathlib.Core.Path.{_≡_};
-ghost use Rattle.model.specs.Verdict.{verdict};
+ghost use Rattle.model.specs.Verdict.{verdict, tested};
 ghost use Rattle.model.specs.GrammarFile.{blocks, rulesOf, grammarRefusal};
 ghost use Rattle.reader.specs.Reading.{fromRules, fromCounts, fromBlocks};
 use crate::blocks::block_refusal;
@@ -13,6 +13,7 @@ use crate::heading::wrong_heading;
 use crate::rule_tests::rules_refusal;
 use grammar::rules;
 use model::Refusal;
+use model::Tested;
 use model::Verdict;
 
 // The tests of the rules, and of the rest of the last block.
@@ -72,4 +73,15 @@ pub fn read_grammar(file: &[u8]) -> Verdict
         return Verdict::Refused(Refusal::Grammar(1, 0));
     }
     read_blocks(file, (file.len() / 512) as u16)
+}
+
+// The tests of a grammar file: refusals 1 to 10.
+pub fn grammar_refusal(file: &[u8]) -> Tested
+    ensures { λ t. ⌜ t ≡ tested (grammarRefusal (now (file .entry))) ⌝ }
+{
+    let read = read_grammar(file);
+    match read {
+        Verdict::Accepted(_) => Tested::Passed,
+        Verdict::Refused(r) => Tested::Met(r),
+    }
 }

@@ -2,25 +2,25 @@
 ghost use mathlib.Core.Path.{_≡_};
 ghost use Rattle.model.specs.GrammarFile.{grammarOf};
 ghost use Rattle.model.specs.Trace.{sentenceRefusal};
-ghost use Rattle.model.specs.Verdict.{verdict};
+ghost use Rattle.model.specs.Verdict.{tested};
 use grammar::words;
 use model::Refusal;
-use model::Verdict;
+use model::Tested;
 
-// The refusal, or Accepted(0).
-pub fn sentence_refusal(file: &[u8], sentence: &[u16]) -> Verdict
-    ensures { λ v. ⌜ v ≡ verdict (sentenceRefusal (grammarOf (now (file .entry))) (now (sentence .entry))) 0 ⌝ }
+// Tests the sentence.
+pub fn sentence_refusal(file: &[u8], sentence: &[u16]) -> Tested
+    ensures { λ t. ⌜ t ≡ tested (sentenceRefusal (grammarOf (now (file .entry))) (now (sentence .entry))) ⌝ }
 {
     if 96 < sentence.len() {
-        return Verdict::Refused(Refusal::Analysis(11, 96));
+        return Tested::Met(Refusal::Analysis(11, 96));
     }
     let w = words(file);
     let mut k: usize = 0;
     while k < sentence.len() {
         if w <= sentence[k] {
-            return Verdict::Refused(Refusal::Analysis(11, k as u16));
+            return Tested::Met(Refusal::Analysis(11, k as u16));
         }
         k += 1;
     }
-    Verdict::Accepted(0)
+    Tested::Passed
 }

@@ -14,8 +14,9 @@ use crate::step::step;
 use grammar::start;
 use model::Refusal;
 use model::RuleNumber;
+use model::Tested;
 use model::Verdict;
-use reader::read_grammar;
+use reader::grammar_refusal;
 use rows::row::first_row;
 use rows::row::owner;
 use rows::rules::compile;
@@ -122,14 +123,14 @@ pub fn run_trace(file: &[u8], sentence: &[u16], trace: &[u16], taken: &mut [u16;
 pub fn check_trace(file: &[u8], sentence: &[u16], trace: &[u16]) -> Verdict
     ensures { λ v. ⌜ v ≡ checkTraceVerdict (now (file .entry)) (now (sentence .entry)) (now (trace .entry)) ⌝ }
 {
-    let read = read_grammar(file);
-    let Verdict::Accepted(_) = read else {
-        return read;
-    };
-    let known = sentence_refusal(file, sentence);
-    let Verdict::Accepted(_) = known else {
-        return known;
-    };
+    let grammar = grammar_refusal(file);
+    if let Tested::Met(r) = grammar {
+        return Verdict::Refused(r);
+    }
+    let words = sentence_refusal(file, sentence);
+    if let Tested::Met(r) = words {
+        return Verdict::Refused(r);
+    }
     let mut taken = [0u16; 96];
     run_trace(file, sentence, trace, &mut taken)
 }

@@ -8,7 +8,7 @@ use borrow.Author.Needs.{needs}
 use Rattle.model.specs.declared.Refusal.{Refusal}
 use Rattle.model.specs.GrammarFile.{grammarOf, wordsOf}
 use Rattle.model.specs.Trace.{firstUnknown}
-use Rattle.model.proofs.Verdicts.{refused, accepted}
+use Rattle.model.proofs.Verdicts.{met-is, passed-is}
 use Rattle.recognizer.proofs.Words.{too-many, not-too-many, word-unknown, word-known, words-end}
 use Rattle.recognizer.proofs.sentence.sentence_refusal.Statement.{statement}
 use Rattle.recognizer.proofs.sentence.sentence_refusal.Tie as tie
@@ -22,7 +22,7 @@ abbrev μ-loop : tie.MeasureT-loop
 returns : tie.Need-returns Inv-loop μ-loop
 returns c =
     let a = c .before .before .before .args in
-    refused _ 0 (Refusal.Analysis 11 96) (too-many (grammarOf (a .file .now)) (a .sentence .now) (c .if1 .taken))
+    met-is _ (Refusal.Analysis 11 96) (too-many (grammarOf (a .file .now)) (a .sentence .now) (c .if1 .taken))
 
 words-requires : tie.Need-words-requires Inv-loop μ-loop
 words-requires c κs = search needs
@@ -43,7 +43,7 @@ returns-2 : tie.Need-returns-2 Inv-loop μ-loop
 returns-2 c =
     let i = c .before .before .before .loop in
     let a = c .before .before .before .before .before .before .before .before .args in
-    refused _ 0 (Refusal.Analysis 11 (i .k))
+    met-is _ (Refusal.Analysis 11 (i .k))
     (not-too-many (grammarOf (a .file .now)) (a .sentence .now) (i .inv .1) ∙ i .inv .2
     ∙ word-unknown (wordsOf (a .file .now)) (i .k) (a .sentence .now) (omega arith) (omega (arith, c .before .before .before .before .words .ensures, c .if2 .taken)))
 
@@ -63,8 +63,8 @@ returns-3 : tie.Need-returns-3 Inv-loop μ-loop
 returns-3 c =
     let i = c .before .loop in
     let a = c .before .before .before .before .before .before .args in
-    accepted _ 0 0
-    (not-too-many (grammarOf (a .file .now)) (a .sentence .now) (i .inv .1) ∙ i .inv .2 ∙ words-end (wordsOf (a .file .now)) (i .k) (a .sentence .now) (omega arith)) refl
+    passed-is _
+    (not-too-many (grammarOf (a .file .now)) (a .sentence .now) (i .inv .1) ∙ i .inv .2 ∙ words-end (wordsOf (a .file .now)) (i .k) (a .sentence .now) (omega arith))
 
 pub sentence-refusal-spec : {M : Type 1} → statement M
 sentence-refusal-spec =
