@@ -14,7 +14,7 @@ use Rattle.model.specs.Trace.{sentenceRefusal}
 use Rattle.model.specs.Counting.{limitsRefusal, entry}
 use Rattle.model.specs.Calls.{written, roomRefusal, entryCallRefusal, entryVerdict, entryOutput}
 use Rattle.model.proofs.Tests.{first-of, rest-of}
-use Rattle.model.proofs.Verdicts.{met, stopped, room-long}
+use Rattle.model.proofs.Verdicts.{refused-first, room-long}
 use Rattle.analyses.specs.Tests.{beforeEntry, afterSearch}
 
 module _ (file sentence : List ℕ) (n limit m : ℕ) (out : List ℕ) where
@@ -60,8 +60,8 @@ module _ (file sentence : List ℕ) (n limit m : ℕ) (out : List ℕ) where
       let a : A ≡ entryCallRefusal file sentence n limit m out = sym (call-is ∙ ap (λ (o : Option Refusal). o orElse A) e) in
       (f .0 ∙ ap (λ (o : Option Refusal). verdict o (length p)) a, f .1 ∙ ap (λ (o : Option Refusal). written o p out) a)
 
-  pub refused-call : (v : Verdict) → v ≡ verdict B 0 → {x : Refusal} → v ≡ Verdict.Refused x
-      → (v ≡ entryVerdict file sentence n limit m out) × (out ≡ entryOutput file sentence n limit m out)
-  refused-call v e {x} f =
-      let b : (B orElse A) ≡ some x = ap (λ (o : Option Refusal). o orElse A) (met B 0 v e f) in
-      (stopped B 0 v e A (length p) f ∙ ap (λ (o : Option Refusal). verdict o (length p)) (sym call-is), sym (ap (λ (o : Option Refusal). written o p out) (call-is ∙ b)))
+  pub refused-call : {x : Refusal} → B ≡ some x
+      → (Verdict.Refused x ≡ entryVerdict file sentence n limit m out) × (out ≡ entryOutput file sentence n limit m out)
+  refused-call {x} e =
+      let b : (B orElse A) ≡ some x = ap (λ (o : Option Refusal). o orElse A) e in
+      (refused-first B A (length p) e ∙ ap (λ (o : Option Refusal). verdict o (length p)) (sym call-is), sym (ap (λ (o : Option Refusal). written o p out) (call-is ∙ b)))

@@ -7,29 +7,29 @@ use Prim.Native.Nat.{ℕ, _<_, _≤_}
 use borrow.Author.Tests.{le-leb, lt-leb, leb-true}
 use lib.Dec.{leb}
 use Rattle.model.specs.declared.Refusal.{Refusal}
-use Rattle.model.specs.declared.Verdict.{Verdict}
-use Rattle.model.specs.Verdict.{refuseIf, verdict}
+use Rattle.model.specs.declared.Tested.{Tested}
+use Rattle.model.specs.Verdict.{refuseIf, tested}
 use Rattle.model.specs.Counting.{limitsRefusal}
 use Rattle.model.proofs.Tests.{passes, no-refusal, not-off, and-l, and-r}
 
 module _ (n limit : ℕ) where
   by : (a b c d : Bool) → leb 1 n ≡ a → leb n 96 ≡ b → leb 1 limit ≡ c → leb limit 1000000000 ≡ d
-      → verdict (limitsRefusal n limit) 0 ≡ verdict (refuseIf (not (a && b && c && d)) (Refusal.Desk 24 0)) 0
+      → tested (limitsRefusal n limit) ≡ tested (refuseIf (not (a && b && c && d)) (Refusal.Desk 24 0))
   by a b c d e f h k = rw (e, f, h, k)
 
-  pub few-nodes : n < 1 → Verdict.Refused (Refusal.Desk 24 0) ≡ verdict (limitsRefusal n limit) 0
+  pub few-nodes : n < 1 → Tested.Met (Refusal.Desk 24 0) ≡ tested (limitsRefusal n limit)
   few-nodes h = sym (by false (leb n 96) (leb 1 limit) (leb limit 1000000000) (lt-leb 1 n h) refl refl refl)
 
-  pub many-nodes : 1 ≤ n → 96 < n → Verdict.Refused (Refusal.Desk 24 0) ≡ verdict (limitsRefusal n limit) 0
+  pub many-nodes : 1 ≤ n → 96 < n → Tested.Met (Refusal.Desk 24 0) ≡ tested (limitsRefusal n limit)
   many-nodes h k = sym (by true false (leb 1 limit) (leb limit 1000000000) (le-leb 1 n h) (lt-leb n 96 k) refl refl)
 
-  pub no-effort : 1 ≤ n → n ≤ 96 → limit < 1 → Verdict.Refused (Refusal.Desk 24 0) ≡ verdict (limitsRefusal n limit) 0
+  pub no-effort : 1 ≤ n → n ≤ 96 → limit < 1 → Tested.Met (Refusal.Desk 24 0) ≡ tested (limitsRefusal n limit)
   no-effort h k l = sym (by true true false (leb limit 1000000000) (le-leb 1 n h) (le-leb n 96 k) (lt-leb 1 limit l) refl)
 
-  pub much-effort : 1 ≤ n → n ≤ 96 → 1 ≤ limit → 1000000000 < limit → Verdict.Refused (Refusal.Desk 24 0) ≡ verdict (limitsRefusal n limit) 0
+  pub much-effort : 1 ≤ n → n ≤ 96 → 1 ≤ limit → 1000000000 < limit → Tested.Met (Refusal.Desk 24 0) ≡ tested (limitsRefusal n limit)
   much-effort h k l m = sym (by true true true false (le-leb 1 n h) (le-leb n 96 k) (le-leb 1 limit l) (lt-leb limit 1000000000 m))
 
-  pub in-range : 1 ≤ n → n ≤ 96 → 1 ≤ limit → limit ≤ 1000000000 → Verdict.Accepted 0 ≡ verdict (limitsRefusal n limit) 0
+  pub in-range : 1 ≤ n → n ≤ 96 → 1 ≤ limit → limit ≤ 1000000000 → Tested.Passed ≡ tested (limitsRefusal n limit)
   in-range h k l m = sym (by true true true true (le-leb 1 n h) (le-leb n 96 k) (le-leb 1 limit l) (le-leb limit 1000000000 m))
 
   pub record Ranges : Type 0 where

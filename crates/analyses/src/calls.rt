@@ -8,15 +8,17 @@ ghost use mathlib.Core.List.{_++_};
 ghost use Rattle.model.specs.Calls.{countCall, entryVerdict, entryOutput, written};
 ghost use Rattle.model.specs.Counting.{limitsRefusal, effortRefusal, listing, count, effort, entry};
 ghost use Rattle.model.specs.GrammarFile.{grammarRefusal, grammarOf};
-ghost use Rattle.model.specs.Verdict.{verdict, countVerdict};
+ghost use Rattle.model.specs.declared.CountVerdict.{CountVerdict};
+ghost use Rattle.model.specs.Verdict.{tested, verdict, countVerdict};
 ghost use Rattle.analyses.specs.Tests.{beforeSearch, beforeEntry, afterSearch, SheetFor, lowWords};
 ghost use Rattle.search.specs.Tally.{Searched};
 use buffers::room_refusal;
 use grammar::start;
 use model::CountVerdict;
 use model::Refusal;
+use model::Tested;
 use model::Verdict;
-use reader::read_grammar;
+use reader::grammar_refusal;
 use recognizer::sentence_refusal;
 use rows::row::first_row;
 use rows::rules::compile;
@@ -24,22 +26,22 @@ use search::chain_rules;
 use search::search;
 
 // Refusal 24: the node limit is not 1 to 96, or the effort limit not 1 to 1,000,000,000.
-fn limits_refusal(n: u64, limit: u64) -> Verdict
-    ensures { λ v. ⌜ v ≡ verdict (limitsRefusal n limit) 0 ⌝ }
+fn limits_refusal(n: u64, limit: u64) -> Tested
+    ensures { λ t. ⌜ t ≡ tested (limitsRefusal n limit) ⌝ }
 {
     if n < 1 {
-        return Verdict::Refused(Refusal::Desk(24, 0));
+        return Tested::Met(Refusal::Desk(24, 0));
     }
     if 96 < n {
-        return Verdict::Refused(Refusal::Desk(24, 0));
+        return Tested::Met(Refusal::Desk(24, 0));
     }
     if limit < 1 {
-        return Verdict::Refused(Refusal::Desk(24, 0));
+        return Tested::Met(Refusal::Desk(24, 0));
     }
     if 1000000000 < limit {
-        return Verdict::Refused(Refusal::Desk(24, 0));
+        return Tested::Met(Refusal::Desk(24, 0));
     }
-    Verdict::Accepted(0)
+    Tested::Passed
 }
 
 // The search from the start, with n steps.
@@ -63,6 +65,14 @@ fn sheet_for(budget: u64, m: u64) -> [u64; 100]
     sheet
 }
 
+// Count and effort, where so much of the limit is left.
+fn figures(count: u64, left: u64, limit: u64) -> CountVerdict
+    requires { ⌜ left ≤ limit ⌝ }
+    ensures { λ v. ⌜ v ≡ CountVerdict.Counted count (limit - left) ⌝ }
+{
+    CountVerdict::Counted(count, limit - left)
+}
+
 // Count and effort of an accepted file and sentence, with limits in range: refusal 25, or both.
 fn counted(file: &[u8], sentence: &[u16], n: u64, limit: u64) -> CountVerdict
     requires { ⌜ (grammarRefusal (now file) ≡ none) × (limitsRefusal n limit ≡ none) ⌝ }
@@ -70,22 +80,22 @@ fn counted(file: &[u8], sentence: &[u16], n: u64, limit: u64) -> CountVerdict
 {
     let mut sheet = sheet_for(limit, 18446744073709551615);
     if search_all(file, sentence, n as usize, &mut sheet) {
-        CountVerdict::Counted(sheet[0], limit - sheet[1])
+        figures(sheet[0], sheet[1], limit)
     } else {
         CountVerdict::NotCounted(Refusal::Desk(25, 0))
     }
 }
 
 // What the count tests before it searches: the grammar, 24, 11.
-fn count_tests(file: &[u8], sentence: &[u16], n: u64, limit: u64) -> Verdict
-    ensures { λ v. ⌜ v ≡ verdict (beforeSearch (now (file .entry)) (now (sentence .entry)) n limit) 0 ⌝ }
+fn count_tests(file: &[u8], sentence: &[u16], n: u64, limit: u64) -> Tested
+    ensures { λ t. ⌜ t ≡ tested (beforeSearch (now (file .entry)) (now (sentence .entry)) n limit) ⌝ }
 {
-    let read = read_grammar(file);
-    let Verdict::Accepted(_) = read else {
-        return read;
+    let grammar = grammar_refusal(file);
+    let Tested::Passed = grammar else {
+        return grammar;
     };
     let limits = limits_refusal(n, limit);
-    let Verdict::Accepted(_) = limits else {
+    let Tested::Passed = limits else {
         return limits;
     };
     sentence_refusal(file, sentence)
@@ -97,8 +107,8 @@ pub fn count(file: &[u8], sentence: &[u16], n: u64, limit: u64) -> CountVerdict
 {
     let tests = count_tests(file, sentence, n, limit);
     match tests {
-        Verdict::Accepted(_) => counted(file, sentence, n, limit),
-        Verdict::Refused(r) => CountVerdict::NotCounted(r),
+        Tested::Passed => counted(file, sentence, n, limit),
+        Tested::Met(r) => CountVerdict::NotCounted(r),
     }
 }
 
@@ -146,25 +156,25 @@ pub fn entry(file: &[u8], sentence: &[u16], n: u64, limit: u64, m: u64, out: &mu
 {
     let tests = entry_tests(file, sentence, n, limit, out);
     match tests {
-        Verdict::Accepted(_) => found_entry(file, sentence, n, limit, m, out),
-        Verdict::Refused(_) => tests,
+        Tested::Passed => found_entry(file, sentence, n, limit, m, out),
+        Tested::Met(r) => Verdict::Refused(r),
     }
 }
 
 // What the call for an entry tests before it searches: the grammar, 23, 24, 11.
-pub fn entry_tests(file: &[u8], sentence: &[u16], n: u64, limit: u64, out: &[u16]) -> Verdict
-    ensures { λ v. ⌜ v ≡ verdict (beforeEntry (now (file .entry)) (now (sentence .entry)) n limit (now (out .entry))) 0 ⌝ }
+fn entry_tests(file: &[u8], sentence: &[u16], n: u64, limit: u64, out: &[u16]) -> Tested
+    ensures { λ t. ⌜ t ≡ tested (beforeEntry (now (file .entry)) (now (sentence .entry)) n limit (now (out .entry))) ⌝ }
 {
-    let read = read_grammar(file);
-    let Verdict::Accepted(_) = read else {
-        return read;
+    let grammar = grammar_refusal(file);
+    let Tested::Passed = grammar else {
+        return grammar;
     };
     let room = room_refusal(out);
-    let Verdict::Accepted(_) = room else {
+    let Tested::Passed = room else {
         return room;
     };
     let limits = limits_refusal(n, limit);
-    let Verdict::Accepted(_) = limits else {
+    let Tested::Passed = limits else {
         return limits;
     };
     sentence_refusal(file, sentence)

@@ -3,4 +3,3 @@ mod calls;
 
 pub use calls::count;
 pub use calls::entry;
-pub use calls::entry_tests;

@@ -1,6 +1,6 @@
 -- `analyses::calls::count` meets its contract.
 -- Assumes nothing.
-use Rattle.model.proofs.Verdicts.{passed, met}
+use Rattle.model.proofs.Verdicts.{tests-pass, tests-met}
 use Rattle.analyses.specs.Tests.{beforeSearch}
 use Rattle.analyses.proofs.Counted.{tests-passed, searched-call, refused-call}
 use borrow.Author.Needs.{needs}
@@ -22,7 +22,7 @@ counted-requires c κs =
     let a = c .before .before .before .before .before .args in
     let k = c .before .before .count-tests in
     let o = beforeSearch (a .file .now) (a .sentence .now) (a .n) (a .limit) in
-    let p = tests-passed (a .file .now) (a .sentence .now) (a .n) (a .limit) (passed o 0 (k .result) (k .ensures) (c .enum-told .given .1)) in
+    let p = tests-passed (a .file .now) (a .sentence .now) (a .n) (a .limit) (tests-pass o (k .result) (k .ensures) (c .enum-told .given .1)) in
     (p .0, p .1)
 
 enum-known-tests : tie.Need-enum-known-tests
@@ -33,14 +33,14 @@ returns c =
     let a = c .before .before .before .before .before .before .args in
     let k = c .before .before .before .count-tests in
     let o = beforeSearch (a .file .now) (a .sentence .now) (a .n) (a .limit) in
-    searched-call (a .file .now) (a .sentence .now) (a .n) (a .limit) (passed o 0 (k .result) (k .ensures) (c .before .enum-told .given .1)) (c .counted .result) (c .counted .ensures)
+    searched-call (a .file .now) (a .sentence .now) (a .n) (a .limit) (tests-pass o (k .result) (k .ensures) (c .before .enum-told .given .1)) (c .counted .result) (c .counted .ensures)
 
 returns-2 : tie.Need-returns-2
 returns-2 c =
     let a = c .before .before .before .before .before .before .args in
     let k = c .before .before .before .count-tests in
     let o = beforeSearch (a .file .now) (a .sentence .now) (a .n) (a .limit) in
-    refused-call (a .file .now) (a .sentence .now) (a .n) (a .limit) _ (met o 0 (k .result) (k .ensures) (c .before .tests .given .1))
+    refused-call (a .file .now) (a .sentence .now) (a .n) (a .limit) _ (tests-met o (k .result) (k .ensures) (c .before .tests .given .1))
 
 pub count-spec : {M : Type 1} → statement M
 count-spec =

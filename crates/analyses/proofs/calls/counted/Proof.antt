@@ -1,5 +1,6 @@
 -- `analyses::calls::counted` meets its contract.
 -- Assumes nothing.
+use mathlib.Core.Path.{_∙_}
 use native.Mathlib.Omega.{arith}
 use Rattle.model.specs.GrammarFile.{grammarOf}
 use Rattle.analyses.proofs.Limits.{ranges}
@@ -9,6 +10,7 @@ use Rattle.analyses.proofs.calls.counted.Statement.{statement}
 use Rattle.analyses.proofs.calls.counted.Tie as tie
 use Rattle.analyses.proofs.calls.counted.Reads as reads
 use Rattle.analyses.proofs.calls.counted.Lts as lts
+use Rattle.analyses.proofs.calls.figures.Reads as figures-reads
 use Rattle.analyses.proofs.calls.search_all.Reads as search-all-reads
 use Rattle.analyses.proofs.calls.sheet_for.Reads as sheet-for-reads
 
@@ -22,14 +24,14 @@ search-all-requires c κs =
     let r = ranges (s .args .n) (s .args .limit) (s .pre .1) in
     (s .pre .0, r .nodes-some, r .nodes-few, k .ensures .long, omega (arith, k .ensures .none-counted, k .ensures .budget-is, r .limit-few))
 
-array-read-t13 : tie.Need-array-read-t13
-array-read-t13 c = search needs
+array-read-figures : tie.Need-array-read-figures
+array-read-figures c = search needs
 
-array-read-t16 : tie.Need-array-read-t16
-array-read-t16 c = search needs
+array-read-figures-2 : tie.Need-array-read-figures-2
+array-read-figures-2 c = search needs
 
-sub-t17 : tie.Need-sub-t17
-sub-t17 c =
+figures-requires : tie.Need-figures-requires
+figures-requires c κs =
     let s = c .before .before .before .before .before .before in
     let a = s .args in
     let k = c .before .before .before .sheet-for in
@@ -37,10 +39,11 @@ sub-t17 c =
 
 returns : tie.Need-returns
 returns c =
-    let s = c .before .before .before .before .before .before in
+    let s = c .before .before .before .before .before .before .before in
     let a = s .args in
-    let k = c .before .before .before .sheet-for in
-    within-budget (grammarOf (a .file .now)) (a .sentence .now) (a .n) (k .ensures) (rw (c .if1 .taken) at (c .before .search-all .ensures))
+    let k = c .before .before .before .before .sheet-for in
+    c .figures .ensures
+    ∙ within-budget (grammarOf (a .file .now)) (a .sentence .now) (a .n) (k .ensures) (rw (c .before .if1 .taken) at (c .before .before .search-all .ensures))
 
 returns-2 : tie.Need-returns-2
 returns-2 c =
@@ -55,8 +58,8 @@ counted-spec =
     (tie.spec
     sheet-for-requires
     search-all-requires
-    array-read-t13
-    array-read-t16
-    sub-t17
+    array-read-figures
+    array-read-figures-2
+    figures-requires
     returns
     returns-2)
