@@ -5,6 +5,5 @@ pub mod LookLoop
 pub mod LookTurns
 pub mod LookDesk
 pub mod Following
-pub mod NextCall
 pub mod Streamed
 pub mod Answered

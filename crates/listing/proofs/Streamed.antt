@@ -1,4 +1,4 @@
--- From entry to entry, the calls for the next one go through the listing: the first comes after the empty list, and after entry m comes entry m + 1.
+-- From entry to entry, the search for the next one goes through the listing: the first comes after the empty list, and after entry m comes entry m + 1.
 -- Assumes nothing.
 use mathlib.Core.Path.{_≡_, refl, sym, ap, ap₂, _∙_}
 use mathlib.Core.Logic.{_⊎_, inl, inr}
@@ -7,19 +7,19 @@ use mathlib.Core.List.{List, [], _∷_, List·Memᴰ, List·Memᴰ·head, List·
 use Prim.Native.Nat.{ℕ, zero, suc, _+_, _<_, _≤_}
 use native.Mathlib.Omega.{arith}
 use lib.Dec.{T, eqb, ltb, eqb→eq, ltb→lt}
-use lib.ListN.{length, getD, drop, drop-of-length-le}
+use lib.ListN.{length, getD, drop, length-drop}
 use lib.Seq.{drop-cons}
 use Rattle.model.specs.Base.{if_then_else_, keep}
 use Rattle.model.specs.Grammar.{Grammar}
 use Rattle.model.specs.Step.{before}
-use Rattle.model.specs.Counting.{live, complete, listing, effort, count}
+use Rattle.model.specs.Counting.{live, complete, listing, effort}
 use Rattle.model.specs.LivePrefixes.{InOrder}
 use Rattle.model.proofs.Listing.{listing-lists}
 use Rattle.model.proofs.Lists.{mem-getD}
 use Rattle.model.proofs.Order.{before-irrefl, or-cases}
 use Rattle.model.proofs.Search.{keep-short}
 use Rattle.model.proofs.Tests.{passes, and-l, and-r}
-use Rattle.listing.specs.Stream.{upToFirst, liveAfter, lookedAt, entriesAfter, firstOf, nextOf, streamed}
+use Rattle.listing.specs.Stream.{upToFirst, liveAfter, lookedAt, entriesAfter, Streams}
 
 pub is-false : (b : Bool) → (T b → ⊥) → b ≡ false
 is-false true f = absurd (f tt)
@@ -73,21 +73,22 @@ module _ (g : Grammar) (sentence : List ℕ) (n : ℕ) where
       some [] t = t
       some (x ∷ p) t = tt
 
-  streams : (j m : ℕ) (list : List ℕ) → m + j ≡ length L → entriesAfter g sentence n list ≡ drop m L → streamed g sentence n j list ≡ drop m L
-  streams zero m list e h = sym (drop-of-length-le L {i = m} (omega arith))
-  streams (suc j) m list e h =
-      let k : m < length L = omega arith in
+  streams : (limit m : ℕ) (list : List ℕ) → entriesAfter g sentence n list ≡ drop m L → (entries : List (List ℕ)) → Streams g sentence n limit list entries → entries ≡ drop m L
+  streams limit m list e [] h = sym (h .1 .1) ∙ e
+  streams limit m list e (p ∷ entries) h =
+      let front = h .2 .4 in
+      let k : m < length L = omega (arith, ap length (sym e ∙ front), length-drop m L) in
       let c = drop-cons L m [] k in
-      let p : nextOf g sentence n list ≡ getD L m [] = ap firstOf (h ∙ c) in
-      ap (λ (x : List ℕ). x ∷ streamed g sentence n j x) p
-      ∙ ap (λ (l : List (List ℕ)). getD L m [] ∷ l) (streams j (suc m) (getD L m []) (omega arith) (after-entry m k))
+      let x : p ≡ getD L m [] = sym (h .3) ∙ ap (λ (l : List (List ℕ)). getD l 0 []) (sym front ∙ e ∙ c) in
+      ap₂ (λ (q : List ℕ) (l : List (List ℕ)). q ∷ l) x
+      (streams limit (suc m) p (ap (entriesAfter g sentence n) x ∙ after-entry m k) entries (h .4))
       ∙ sym c
 
   -- from the empty list on, what comes one after the other is the listing
-  pub stream-lists : streamed g sentence n (count g sentence n) [] ≡ L
-  stream-lists = streams (count g sentence n) 0 [] (omega arith) after-nothing
+  pub stream-lists : (limit : ℕ) (entries : List (List ℕ)) → Streams g sentence n limit [] entries → entries ≡ L
+  stream-lists limit entries h = streams limit 0 [] after-nothing entries h
 
-  -- the call looks at no more live prefixes than there are
+  -- it looks at no more live prefixes than there are
   first-few : (test : List ℕ → Bool) (l : List (List ℕ)) → length (upToFirst test l) ≤ length l
   first-few test [] = omega arith
   first-few test (x ∷ l) = go (test x) (first-few test l)

@@ -1,8 +1,8 @@
--- Demand 3 as a claim about what the calls answer: the count, the call for entry m and the call for the entry after a list, together, whatever program gives
--- the answers, as long as each is the one that the call promises.
+-- Demand 3 as a claim about what the calls answer: the count and the call for entry m, together, whatever program gives the answers, as long as each is the
+-- one that the call promises.
 -- Assumes nothing.
 use mathlib.Core.Path.{_≡_}
-use Prim.Native.Nat.{ℕ, suc, _<_, _≤_}
+use Prim.Native.Nat.{ℕ, _<_, _≤_}
 use mathlib.Core.List.{List, [], _++_, map, List·Memᴰ}
 use lib.ListN.{length, getD, drop}
 use Rattle.model.specs.declared.Refusal.{Refusal}
@@ -13,18 +13,15 @@ use Rattle.model.specs.Tree.{Tree, preorder}
 use Rattle.model.specs.LivePrefixes.{Live, InOrder, Different}
 use Rattle.model.specs.Calls.{countCall, entryVerdict, entryOutput}
 use Rattle.model.specs.Demands.{_⇔_, Analysis, Belongs, traceOfTree}
-use Rattle.listing.specs.Stream.{nextVerdict, nextOutput}
 
 module _ (file sentence : List ℕ) (n limit : ℕ) where
-  -- The answers of the three calls for a grammar file, a sentence and limits: of the count; for entry m, verdict and output after, by the output lent; and for
-  -- the entry after a list. They are as `count`, `entry` and `next_entry` promise.
+  -- The answers of the two calls for a grammar file, a sentence and limits: of the count; and for entry m, verdict and output after, by the output lent. They
+  -- are as `count` and `entry` promise.
   pub record Answers : Type 0 where
     pub count : CountVerdict
     pub entry : ℕ → List ℕ → Verdict × List ℕ
-    pub next : List ℕ → List ℕ → Verdict × List ℕ
     pub count-promised : count ≡ countCall file sentence n limit
     pub entry-promised : (m : ℕ) (out : List ℕ) → (entry m out .0 ≡ entryVerdict file sentence n limit m out) × (entry m out .1 ≡ entryOutput file sentence n limit m out)
-    pub next-promised : (list out : List ℕ) → (next list out .0 ≡ nextVerdict file sentence n limit list out) × (next list out .1 ≡ nextOutput file sentence n limit list out)
 
   -- an answer that writes a trace at the front of the output
   abbrev pub Writes : List ℕ → List ℕ → Verdict × List ℕ → Type 0
@@ -55,8 +52,3 @@ module _ (file sentence : List ℕ) (n limit : ℕ) where
     pub entries : length prefixes ≤ limit → (out : List ℕ) → 96 ≤ length out → (m : ℕ) → m < length trees → Writes (getD traces m []) out (answers .entry m out)
     pub no-entry : length prefixes ≤ limit → (out : List ℕ) → 96 ≤ length out → (m : ℕ) → length trees ≤ m
         → (answers .entry m out .0 ≡ Verdict.Refused (Refusal.Desk 26 0)) × (answers .entry m out .1 ≡ out)
-    -- the stream: after the empty list comes the first, after each the next, after the last none; and where there is no trace, none comes after the empty list
-    pub first : length prefixes ≤ limit → (out : List ℕ) → 96 ≤ length out → 0 < length trees → Writes (getD traces 0 []) out (answers .next [] out)
-    pub no-first : length prefixes ≤ limit → (out : List ℕ) → 96 ≤ length out → length trees ≡ 0 → answers .next [] out .0 ≡ Verdict.Refused (Refusal.Desk 26 0)
-    pub next : length prefixes ≤ limit → (out : List ℕ) → 96 ≤ length out → (m : ℕ) → suc m < length trees → Writes (getD traces (suc m) []) out (answers .next (getD traces m []) out)
-    pub no-next : length prefixes ≤ limit → (out : List ℕ) → 96 ≤ length out → (m : ℕ) → suc m ≡ length trees → answers .next (getD traces m []) out .0 ≡ Verdict.Refused (Refusal.Desk 26 0)

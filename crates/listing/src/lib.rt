@@ -4,4 +4,3 @@ mod stream;
 
 pub use stream::Followed;
 pub use stream::follow;
-pub use stream::next_entry;

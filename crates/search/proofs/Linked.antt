@@ -16,7 +16,7 @@ use Rattle.model.specs.GrammarFile.{grammarRefusal, grammarOf, rulesOf, recordO
 use Rattle.model.proofs.FromFile.{ruleRead, rule-read, rules-in, record-tested, categories-few}
 use Rattle.model.proofs.RuleFromRecord.{category-in}
 use Rattle.model.proofs.WellFormed.{rules-length}
-use Rattle.search.specs.Chain.{isBy, isOf, firstRule, Chained}
+use Rattle.search.specs.Chain.{isBy, isOf, noRule, firstRule, Chained}
 
 -- the table of the rules from r on, of n
 pub record Linked (g : Grammar) (n r : ℕ) (chain : List ℕ) : Type 0 where
@@ -73,7 +73,7 @@ module _ (g : Grammar) (n k : ℕ) (chain : List ℕ) (rule : Rule) (h : Linked 
         next = λ x other l m e. next-by x other l m e (ℕ-discrete x k);
       }
 
-pub link-none : (g : Grammar) (n : ℕ) (chain : List ℕ) → length chain ≡ 320 → ((a : ℕ) → a < 64 → getD chain a 0 ≡ 65535) → Linked g n n chain
+pub link-none : (g : Grammar) (n : ℕ) (chain : List ℕ) → length chain ≡ 320 → ((a : ℕ) → a < 64 → getD chain a 0 ≡ noRule) → Linked g n n chain
 link-none g n chain l e =
     let z : n - n ≡ 0 = omega arith in
     record {

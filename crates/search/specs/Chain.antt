@@ -18,9 +18,13 @@ isBy (some rule) a = eqb (rule .category) a
 abbrev pub isOf : Grammar → ℕ → ℕ → Bool
 isOf g a r = isBy (ruleAt g r) a
 
--- the first rule of category a among n rules from r on; 65,535 where there is none
+-- one past the last rule number: no rule
+abbrev pub noRule : ℕ
+noRule = 256
+
+-- the first rule of category a among n rules from r on
 abbrev pub firstRule : Grammar → ℕ → ℕ → ℕ → ℕ
-firstRule g a r zero = 65535
+firstRule g a r zero = noRule
 firstRule g a r (suc n) = if isOf g a r then r else firstRule g a (suc r) n
 
 -- cell a has the first rule of category a, cell 64 + r the next one of rule r's category

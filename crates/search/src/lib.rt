@@ -2,5 +2,8 @@
 mod chain;
 mod prefixes;
 
+pub use chain::NO_RULE;
 pub use chain::chain_rules;
+pub use chain::first_rule;
+pub use chain::next_rule;
 pub use prefixes::search;

@@ -1,4 +1,4 @@
-// Counts, entries, and the way from entry to entry: K5, K6 and K10.
+// Counts and entries: K5, K6 and K10.
 use crate::show::print_refusal;
 use crate::show::print_written;
 use libc::STDOUT_FILENO;
@@ -25,12 +25,6 @@ fn show_entry(file: &[u8], sentence: &[u16], n: u64, m: u64) {
     print_written(v, &out);
 }
 
-fn show_next(file: &[u8], sentence: &[u16], n: u64, previous: &[u16]) {
-    let mut out = [0u16; 96];
-    let v = listing::next_entry(file, sentence, n, 1000000, previous, &mut out);
-    print_written(v, &out);
-}
-
 // K5 and K6
 fn copy_cases(file: &[u8]) {
     show_count(file, &[0, 1, 0, 1], 7, 1000000);
@@ -44,9 +38,6 @@ fn pair_cases(file: &[u8]) {
     show_entry(file, &[0, 0, 0], 5, 0);
     show_entry(file, &[0, 0, 0], 5, 1);
     show_entry(file, &[0, 0, 0], 5, 2);
-    show_next(file, &[0, 0, 0], 5, &[]);
-    show_next(file, &[0, 0, 0], 5, &[0, 0, 1, 1, 1]);
-    show_next(file, &[0, 0, 0], 5, &[0, 1, 0, 1, 1]);
 }
 
 pub fn run(copy: &[u8], pair: &[u8]) {

@@ -30,7 +30,7 @@ look-requires c κs =
     let s = c .before .before .before .before .before .before .before in
     let a = s .args in
     let p = s .pre in
-    (start-stood (a .file .now) (p .0) (a .sentence .now) (a .n) (c .before .before .before .before .start .ensures) (c .before .before .before .first-row .ensures) (p .3) (p .4) (p .1) (p .2), record { desk-long = refl; path-long = p .6; going = omega arith; until = p .5; ahead = λ z. omega arith }, omega (arith, p .4))
+    (start-stood (a .file .now) (p .0) (a .sentence .now) (a .n) (c .before .before .before .before .start .ensures) (c .before .before .before .first-row .ensures) (p .3) (p .4) (p .1) (p .2), record { desk-long = refl; path-long = p .6; going = omega arith; until = omega (arith, p .5); ahead = λ z. omega arith }, omega (arith, p .4))
 
 returns : tie.Need-returns
 returns c =

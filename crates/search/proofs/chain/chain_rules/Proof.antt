@@ -8,6 +8,7 @@ use borrow.Author.Needs.{needs}
 use lib.ListN.{length, replicate, getD-replicate}
 use Rattle.model.specs.GrammarFile.{grammarRefusal, grammarOf, rulesOf}
 use Rattle.model.proofs.FromFile.{rules-in}
+use Rattle.search.specs.Chain.{noRule}
 use Rattle.search.proofs.Linked.{Linked, link-none, file-link, file-linked}
 use Rattle.search.proofs.chain.chain_rules.Statement.{statement}
 use Rattle.search.proofs.chain.chain_rules.Tie as tie
@@ -35,8 +36,8 @@ loop-holds c =
       λ accepted.
           let e = c .rule-count .ensures .1 (rules-in f accepted .1) in (
             omega (arith, e),
-            subst (λ (k : ℕ). Linked (grammarOf f) (rulesOf f) k (replicate 320 65535)) (sym e)
-                (link-none (grammarOf f) (rulesOf f) (replicate 320 65535) refl (λ a h. getD-replicate 320 a 65535 0 (omega arith))),
+            subst (λ (k : ℕ). Linked (grammarOf f) (rulesOf f) k (replicate 320 noRule)) (sym e)
+                (link-none (grammarOf f) (rulesOf f) (replicate 320 noRule) refl (λ a h. getD-replicate 320 a noRule 0 (omega arith))),
           ),
     )
 
