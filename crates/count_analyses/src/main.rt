@@ -2,8 +2,8 @@
 // number and place (document 01, "Counting and listing").
 ghost use mathlib.Core.Option.{none};
 ghost use mathlib.Core.Path.{_≡_};
-ghost use Prim.Native.Nat.{_<_, _≤_, min};
-ghost use lib.ListN.{length};
+ghost use Prim.Native.Nat.{_+_, _<_, _≤_, min};
+ghost use lib.ListN.{length, take};
 ghost use Rattle.model.specs.Counting.{effort as effortOf};
 ghost use Rattle.model.specs.GrammarFile.{grammarRefusal, grammarOf};
 ghost use Rattle.model.specs.Program.{programLimit};
@@ -146,11 +146,28 @@ fn read_file(fd: i32, buf: &mut [u8], whole: bool) -> Loaded
     unreadable()
 }
 
+// Opens a file for reading: its descriptor, below 0 where it cannot be opened. An open that a signal interrupts is tried again; the loop counts its turns down
+// from a number that no run uses up.
+fn open_file(name: &[u8]) -> i32 {
+    let mut turns = u64::MAX;
+    while 0 < turns {
+        let fd = os::open_read(name);
+        if 0 <= fd {
+            return fd;
+        }
+        if os::errno() != libc::EINTR {
+            return fd;
+        }
+        turns -= 1;
+    }
+    -1
+}
+
 // The sentence file: as much of it as the buffer holds, and its parity.
 fn load_sentence(buf: &mut [u8]) -> Loaded
     ensures { λ r. ⌜ Counts (r .bytes) (now (buf .exit)) ⌝ }
 {
-    let fd = os::open_read(b"sentence");
+    let fd = open_file(b"sentence");
     if fd < 0 {
         return unreadable();
     }
@@ -163,7 +180,7 @@ fn load_sentence(buf: &mut [u8]) -> Loaded
 fn load_grammar(buf: &mut [u8]) -> usize
     ensures { λ n. ⌜ Counts n (now (buf .exit)) ⌝ }
 {
-    let fd = os::open_read(b"grammar");
+    let fd = open_file(b"grammar");
     if fd < 0 {
         return 0;
     }
@@ -197,8 +214,8 @@ fn print_page(
     out: &mut [u8],
     at: usize,
 ) -> Next
-    requires { ⌜ Lists (now file) (now t) (now chain) (now sentence) n (now path) len × (at ≤ length (now out)) ⌝ }
-    ensures { λ r. ⌜ NextSays (now (path .exit)) r ⌝ }
+    requires { ⌜ Lists (now file) (now t) (now chain) (now sentence) n (now path) len × (at + 576 < length (now out)) ⌝ }
+    ensures { λ r. ⌜ NextSays (grammarOf (now (file .entry))) (now (sentence .entry)) n (take len (now (path .entry))) (now (path .exit)) r ⌝ }
 {
     let page = fill(file, t, chain, sentence, n, path, len, out, at);
     match page {
@@ -216,7 +233,7 @@ fn print_page(
     }
 }
 
-// Prints count and effort, and then the listing, page by page.
+// Prints count and effort, and then the listing, page by page: with each page, less of its text is left.
 fn print_listing(file: &[u8], sentence: &[u16], n: usize, count: u64, effort: u64)
     requires { ⌜ (grammarRefusal (now file) ≡ none) × (1 ≤ n) × (n ≤ 96) × (effortOf (grammarOf (now file)) (now sentence) n ≤ programLimit) ⌝ }
 {
@@ -227,15 +244,13 @@ fn print_listing(file: &[u8], sentence: &[u16], n: usize, count: u64, effort: u6
     let out: &mut [u8] = &mut space;
     let mut at = report::put_count(count, effort, out, 0);
     let mut len: usize = 0;
-    let mut pages = u64::MAX;
-    while 0 < pages {
+    loop {
         let next = print_page(file, &t, &chain, sentence, n, &mut path, len, out, at);
         let Next::After(k) = next else {
             return;
         };
         len = k;
         at = 0;
-        pages -= 1;
     }
 }
 

@@ -23,7 +23,7 @@ use Rattle.model.proofs.Digits.{before-trans}
 use Rattle.report.specs.declared.page.Line.{Line}
 use Rattle.report.specs.declared.page.Page.{Page}
 use Rattle.report.specs.Text.{Put}
-use Rattle.report.specs.Page.{Lists, linesAfter, LineSays, PageSays}
+use Rattle.report.specs.Page.{Lists, linesAfter, FilledTo, LineSays, PageSays}
 use Rattle.report.proofs.Placed.{put-none, put-join, put-long}
 
 so : (b : Bool) → b ≡ true → T b
@@ -103,14 +103,6 @@ lists-again w path′ k h l = record {
   path-long = l;
 }
 
--- what the loop that fills a page has written when it comes to place p, with the last entry written at the front of the path
-pub record FilledTo (g : Grammar) (sentence : List ℕ) (n : ℕ) (list before : List ℕ) (at : ℕ) (path after : List ℕ) (p k : ℕ) : Type 0 where
-  pub text : List ℕ
-  pub put : Put before after at text p
-  pub listed : k ≤ 96
-  pub path-long : length path ≡ 96
-  pub lines : linesAfter g sentence n list ≡ text ++ linesAfter g sentence n (take k path)
-
 pub filled-none : (g : Grammar) (sentence : List ℕ) (n : ℕ) (path : List ℕ) (len : ℕ) (before : List ℕ) (at : ℕ) → len ≤ 96 → length path ≡ 96 → at ≤ length before
     → FilledTo g sentence n (take len path) before at path before at len
 filled-none g sentence n path len before at h l r = record { text = []; put = put-none before at r; listed = h; path-long = l; lines = refl }
@@ -144,5 +136,9 @@ module _ (g : Grammar) (sentence : List ℕ) (n : ℕ) (list before : List ℕ) 
     pub last-long : LineSays g sentence n (take k path) path′ after p after′ Line.Last → length after′ ≡ length before
     last-long v = ap length (v .0) ∙ filled-long
 
-  pub filled-page : length after ≤ p + 576 → PageSays g sentence n list path before at after (Page.More p k)
-  filled-page h = (w .text, w .put, w .listed, w .path-long, w .lines, h)
+-- a page with room for a line lists something: less text is left after it
+pub page-lists : {g : Grammar} {sentence : List ℕ} {n : ℕ} {list before : List ℕ} {at : ℕ} {path after : List ℕ} {p k : ℕ}
+    → PageSays g sentence n list path before at after (Page.More p k) → at + 576 < length before
+    → length (linesAfter g sentence n (take k path)) < length (linesAfter g sentence n list)
+page-lists {g} {sentence} {n} {path = path} {k = k} (w, h) room =
+    omega (arith, ap length (w .lines), length-append (w .text) (linesAfter g sentence n (take k path)), w .put .place, put-long (w .put))

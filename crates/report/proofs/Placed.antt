@@ -72,6 +72,10 @@ item-short n last h = omega (arith, length-append (decimal n) (ending last ∷ [
 pub item-long : (n : ℕ) (last : Bool) → length (decimal n ++ (ending last ∷ [])) ≤ 21
 item-long n last = omega (arith, length-append (decimal n) (ending last ∷ []), all-digits n)
 
+pub count-line-short : (a b : ℕ) → length (line (a ∷ b ∷ [])) ≤ 42
+count-line-short a b =
+    omega (arith, ap length (count-line a b), length-append (decimal a ++ (ending false ∷ [])) (decimal b ++ (ending true ∷ [])), item-long a false, item-long b true)
+
 -- two bytes and a line
 pub two-before : (before after : List ℕ) (at x y q : ℕ) (l : List ℕ) → Put (set (set before at x) (at + 1) y) after (at + 2) l q → Put before after at (x ∷ y ∷ l) q
 two-before before after at x y q l w =

@@ -41,10 +41,18 @@ LineSays g sentence n list path before at after (LinePut p k) =
     × (linesAfter g sentence n list ≡ line (take k path) ++ linesAfter g sentence n (take k path))
 LineSays g sentence n list path before at after LineLast = (after ≡ before) × (linesAfter g sentence n list ≡ [])
 
--- the lines after the list are those that the page has from its place on and, where the page is not the last, those after the last entry written
+-- lines are written from place `at` to place p, and the last entry written, of k steps, is at the front of the path: the lines after the list are those
+-- written and those after that entry
+pub record FilledTo (g : Grammar) (sentence : List ℕ) (n : ℕ) (list before : List ℕ) (at : ℕ) (path after : List ℕ) (p k : ℕ) : Type 0 where
+  pub text : List ℕ
+  pub put : Put before after at text p
+  pub listed : k ≤ 96
+  pub path-long : length path ≡ 96
+  pub lines : linesAfter g sentence n list ≡ text ++ linesAfter g sentence n (take k path)
+
+-- a page that is not the last goes on for as long as there is room for a line of 96 numbers, of at most 576 bytes; the last has all lines that are left
 abbrev pub PageSays : Grammar → List ℕ → ℕ → List ℕ → List ℕ → List ℕ → ℕ → List ℕ → Page → Type 0
-PageSays g sentence n list path before at after (More p k) =
-    (l : List ℕ) × Put before after at l p × (k ≤ 96) × (length path ≡ 96) × (linesAfter g sentence n list ≡ l ++ linesAfter g sentence n (take k path)) × (length after ≤ p + 576)
+PageSays g sentence n list path before at after (More p k) = FilledTo g sentence n list before at path after p k × (length after ≤ p + 576)
 PageSays g sentence n list path before at after (Last p) = (l : List ℕ) × Put before after at l p × (linesAfter g sentence n list ≡ l)
 
 -- the texts of the pages that follow each other from the entries after a list on

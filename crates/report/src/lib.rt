@@ -9,6 +9,5 @@ pub use page::fill;
 pub use sentence::read_limit;
 pub use sentence::read_words;
 pub use text::put_count;
-pub use text::put_line;
 pub use text::put_refusal;
 pub use verdict::program_verdict;

@@ -1,10 +1,12 @@
 -- `count_analyses::print_listing` meets its contract.
 -- Assumes nothing.
-use mathlib.Core.Path.{refl}
-use Prim.Native.Nat.{_≤_}
+use mathlib.Core.Path.{_≡_, refl}
+use Prim.Native.Nat.{_+_, _<_}
 use native.Mathlib.Omega.{arith}
-use lib.ListN.{length}
-use Rattle.report.specs.Page.{Lists}
+use lib.ListN.{length, take}
+use Rattle.model.specs.GrammarFile.{grammarOf}
+use Rattle.report.specs.Page.{Lists, linesAfter}
+use Rattle.report.proofs.Placed.{count-line-short}
 use Rattle.report.proofs.Pages.{lists-again}
 use borrow.Author.Needs.{needs}
 use Rattle.count_analyses.proofs.print_listing.Statement.{statement}
@@ -18,10 +20,10 @@ use Rattle.rows.proofs.rules.compile.Reads as compile-reads
 use Rattle.report.proofs.put_count.Reads as put-count-reads
 
 abbrev Inv-loop : tie.InvT-loop
-Inv-loop file sentence n count effort t chain path₀ out₀ at₀ len₀ pages₀ path out at len pages = Lists file t chain sentence n path len × (at ≤ length out)
+Inv-loop file sentence n count effort t chain path₀ out₀ at₀ len₀ path out at len = Lists file t chain sentence n path len × (at + 576 < length out) × (length out ≡ 65536)
 
 abbrev μ-loop : tie.MeasureT-loop
-μ-loop file sentence n count effort t chain path₀ out₀ at₀ len₀ pages₀ path out at len pages = pages
+μ-loop file sentence n count effort t chain path₀ out₀ at₀ len₀ path out at len = length (linesAfter (grammarOf file) sentence n (take len path))
 
 compile-requires : tie.Need-compile-requires Inv-loop μ-loop
 compile-requires c κs = search needs
@@ -52,11 +54,12 @@ loop-holds c =
         listed = omega arith;
         path-long = refl;
       },
-      c .before .before .put-count .ensures .within,
+      omega (arith, c .before .before .put-count .ensures .place, count-line-short (s .args .count) (s .args .effort)),
+      search needs,
     )
 
 print-page-requires : tie.Need-print-page-requires Inv-loop μ-loop
-print-page-requires c κs = c .before .before .before .before .before .loop .inv
+print-page-requires c κs = let i = c .before .before .before .before .loop in (i .inv .0, i .inv .1)
 
 enum-known-next : tie.Need-enum-known-next Inv-loop μ-loop
 enum-known-next c = search needs
@@ -67,21 +70,17 @@ enum-told c = search needs
 returns : tie.Need-returns Inv-loop μ-loop
 returns c = search needs
 
-sub-pages : tie.Need-sub-pages Inv-loop μ-loop
-sub-pages c = search needs
-
 loop-less : tie.Need-loop-less Inv-loop μ-loop
-loop-less c = search needs
+loop-less c =
+    let l = c .before .before .before .before .before .print-page in
+    (rw (c .before .next .given .1) at (l .ensures)) .2
 
 loop-again : tie.Need-loop-again Inv-loop μ-loop
 loop-again c =
-    let i = c .before .before .before .before .before .before .before .before .before .before .before .loop in
+    let i = c .before .before .before .before .before .before .before .before .before .before .loop in
     let l = c .before .before .before .before .before .print-page in
     let w = rw (c .before .next .given .1) at (l .ensures) in
-    (lists-again (i .inv .0) _ _ (w .0) (w .1), omega arith)
-
-returns-2 : tie.Need-returns-2 Inv-loop μ-loop
-returns-2 c = search needs
+    (lists-again (i .inv .0) _ _ (w .0) (w .1), omega arith, search needs)
 
 pub print-listing-spec : {M : Type 1} → statement M
 print-listing-spec =
@@ -99,7 +98,5 @@ print-listing-spec =
     enum-known-next
     enum-told
     returns
-    sub-pages
     loop-less
-    loop-again
-    returns-2)
+    loop-again)

@@ -1,6 +1,7 @@
 -- `count_analyses::print_page` meets its contract.
 -- Assumes nothing.
 use borrow.Author.Needs.{needs}
+use Rattle.report.proofs.Pages.{page-lists}
 use Rattle.count_analyses.proofs.print_page.Statement.{statement}
 use Rattle.count_analyses.proofs.print_page.Tie as tie
 use Rattle.count_analyses.proofs.print_page.Reads as reads
@@ -36,7 +37,7 @@ part-write-all-start-2 : tie.Need-part-write-all-start-2
 part-write-all-start-2 c = search needs
 
 part-write-all-end-2 : tie.Need-part-write-all-end-2
-part-write-all-end-2 c = (rw (c .before .before .page2 .given .1) at (c .before .before .before .before .before .before .fill .ensures)) .1 .within
+part-write-all-end-2 c = (rw (c .before .before .page2 .given .1) at (c .before .before .before .before .before .before .fill .ensures)) .0 .put .within
 
 write-all-requires-2 : tie.Need-write-all-requires-2
 write-all-requires-2 c κs = search needs
@@ -53,7 +54,8 @@ same-length-2 c = search needs
 returns-2 : tie.Need-returns-2
 returns-2 c =
     let w = rw (c .before .before .before .before .before .page2 .given .1) at (c .before .before .before .before .before .before .before .before .before .fill .ensures) in
-    (w .2, w .3)
+    let s = c .before .before .before .before .before .before .before .before .before .before .before .before .before .before .before in
+    (w .0 .listed, w .0 .path-long, page-lists w (s .pre .1))
 
 same-length-3 : tie.Need-same-length-3
 same-length-3 c = search needs

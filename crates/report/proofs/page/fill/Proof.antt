@@ -4,7 +4,8 @@ use native.Mathlib.Omega.{arith}
 use Prim.Native.Nat.{_-_}
 use lib.ListN.{length, take}
 use Rattle.model.specs.GrammarFile.{grammarOf}
-use Rattle.report.proofs.Pages.{FilledTo, lists-again, filled-none, filled-long, filled-more, filled-less, filled-last, last-long, filled-page}
+use Rattle.report.specs.Page.{FilledTo}
+use Rattle.report.proofs.Pages.{lists-again, filled-none, filled-long, filled-more, filled-less, filled-last, last-long}
 use borrow.Author.Needs.{needs}
 use Rattle.report.proofs.page.fill.Statement.{statement}
 use Rattle.report.proofs.page.fill.Tie as tie
@@ -80,10 +81,8 @@ same-length-2 c =
 
 returns-2 : tie.Need-returns-2 Inv-loop μ-loop
 returns-2 c =
-    let s = c .before .before .before .before .before in
-    let a = s .args in
     let i = c .before .loop in
-    filled-page (grammarOf (a .file .now)) (a .sentence .now) (a .n) (take (a .len) (a .path .now)) (a .out .now) (a .at) (i .path) (i .out) (i .p) (i .k) (i .inv) (omega (arith, c .loop-test .left, i .inv .put .within))
+    (i .inv, omega (arith, c .loop-test .left, i .inv .put .within))
 
 pub fill-spec : {M : Type 1} → statement M
 fill-spec =
