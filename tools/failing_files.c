@@ -1,5 +1,5 @@
 /* Preloaded by ./check. FAIL_FILE is a file's name: reads of it come in pieces of 3 bytes, and its read FAIL_AT (from 1), or its open where FAIL_AT is 0, fails
-   once with the error FAIL_ERRNO. */
+   once with the error FAIL_ERRNO. Where FAIL_FILE is "-", the same goes for the writes to standard output. */
 #define _GNU_SOURCE
 #include <dlfcn.h>
 #include <errno.h>
@@ -54,4 +54,14 @@ ssize_t read(int fd, void *buf, size_t n)
     if (!meant(path))
         return real(fd, buf, n);
     return fails(++reads) ? -1 : real(fd, buf, n < 3 ? n : 3);
+}
+
+ssize_t write(int fd, const void *buf, size_t n)
+{
+    static int writes;
+    ssize_t (*real)(int, const void *, size_t) = (ssize_t (*)(int, const void *, size_t))dlsym(RTLD_NEXT, "write");
+
+    if (fd != STDOUT_FILENO || !meant("-"))
+        return real(fd, buf, n);
+    return fails(++writes) ? -1 : real(fd, buf, n < 3 ? n : 3);
 }

@@ -1,4 +1,4 @@
--- What the program's functions say of a file's bytes as they are read.
+-- What the program's functions say of a file's bytes as they are read, and of a text as it is written.
 -- Assumes nothing.
 use mathlib.Core.Path.{_≡_}
 use mathlib.Core.List.{List}
@@ -6,16 +6,18 @@ use Prim.Native.Nat.{ℕ, _+_, _-_, _<_, _≤_, min}
 use lib.ListN.{length}
 use lib.Seq.{paste}
 use Rattle.count_analyses.specs.declared.Piece.{Piece}
-use Rattle.count_analyses.specs.declared.Piece.the-variants.{Bytes, End, Interrupted, Failed}
+use Rattle.count_analyses.specs.declared.Piece.the-variants.{Bytes, Nothing, Interrupted, Failed}
 use Rattle.count_analyses.specs.declared.Turn.{Turn}
-use Rattle.count_analyses.specs.declared.Turn.the-variants.{More, End as Ended, Failed as Broken}
+use Rattle.count_analyses.specs.declared.Turn.the-variants.{More, End, Failed as Broken}
+use Rattle.count_analyses.specs.declared.Written.{Written}
+use Rattle.count_analyses.specs.declared.Written.the-variants.{To, Stopped}
 
--- the bytes that a read found stand at the front of the chunk
+-- no more bytes are moved than the buffer has
 abbrev pub PieceSays : List ℕ → Piece → Type 0
-PieceSays chunk (Bytes n) = n ≤ length chunk
-PieceSays chunk End = Unit {0}
-PieceSays chunk Interrupted = Unit {0}
-PieceSays chunk Failed = Unit {0}
+PieceSays buf (Bytes n) = n ≤ length buf
+PieceSays buf Nothing = Unit {0}
+PieceSays buf Interrupted = Unit {0}
+PieceSays buf Failed = Unit {0}
 
 -- the chunk's first n bytes, as many as there is room for, stand in the buffer behind its first `done`; `r` bytes are there then, and the rest is as it was
 abbrev pub Appended : List ℕ → ℕ → List ℕ → ℕ → List ℕ → ℕ → Type 0
@@ -24,5 +26,10 @@ Appended chunk n before done after r = (r ≡ done + min n (length before - done
 -- after one more read so many bytes stand in the buffer
 abbrev pub TurnSays : List ℕ → Turn → Type 0
 TurnSays buf (More done odd) = (done ≤ length buf) × (odd < 2)
-TurnSays buf Ended = Unit {0}
+TurnSays buf End = Unit {0}
 TurnSays buf Broken = Unit {0}
+
+-- no more is written than the text has
+abbrev pub WrittenSays : List ℕ → Written → Type 0
+WrittenSays text (To done) = done ≤ length text
+WrittenSays text Stopped = Unit {0}

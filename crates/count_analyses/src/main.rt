@@ -10,7 +10,7 @@ ghost use Rattle.model.specs.Program.{programLimit};
 ghost use Rattle.report.specs.Page.{Lists};
 ghost use Rattle.io.specs.Counts.{Counts};
 ghost use Rattle.count_analyses.specs.Paths.{NextSays};
-ghost use Rattle.count_analyses.specs.Pieces.{PieceSays, Appended, TurnSays};
+ghost use Rattle.count_analyses.specs.Pieces.{PieceSays, Appended, TurnSays, WrittenSays};
 use libc::STDOUT_FILENO;
 use model::CountVerdict;
 use model::Refusal;
@@ -25,10 +25,10 @@ struct Loaded {
     even: bool,
 }
 
-// What one read of a file finds: so many bytes, its end, that a signal interrupted it before a byte came, or that the file cannot be read.
+// What one read or write moves: so many bytes; none, as at a file's end; or it fails, interrupted by a signal before a byte is moved, or otherwise.
 enum Piece {
     Bytes(usize),
-    End,
+    Nothing,
     Interrupted,
     Failed,
 }
@@ -43,22 +43,29 @@ fn unreadable() -> Loaded
     }
 }
 
-// Reads once into the chunk.
-fn read_piece(fd: i32, chunk: &mut [u8]) -> Piece
-    ensures { λ p. ⌜ PieceSays (now (chunk .exit)) p ⌝ }
+// What was moved by a read into a buffer, or a write of it, that has just answered `got`.
+fn piece_of(got: isize, buf: &[u8]) -> Piece
+    ensures { λ p. ⌜ PieceSays (now (buf .entry)) p ⌝ }
 {
-    let got = libc::read(fd, chunk);
     if got < 0 {
         if os::errno() == libc::EINTR {
             return Piece::Interrupted;
         }
         return Piece::Failed;
     }
-    let n = io::count(got, chunk);
+    let n = io::count(got, buf);
     if n == 0 {
-        return Piece::End;
+        return Piece::Nothing;
     }
     Piece::Bytes(n)
+}
+
+// Reads once into the chunk.
+fn read_piece(fd: i32, chunk: &mut [u8]) -> Piece
+    ensures { λ p. ⌜ PieceSays (now (chunk .exit)) p ⌝ }
+{
+    let got = libc::read(fd, chunk);
+    piece_of(got, chunk)
 }
 
 // Puts the first n bytes of the chunk behind the first `done` of the buffer, as many as there is room for: how many then stand in it.
@@ -101,7 +108,7 @@ fn read_on(fd: i32, chunk: &mut [u8], buf: &mut [u8], done: usize, odd: usize) -
     match piece {
         Piece::Bytes(n) => Turn::More(append(chunk, n, buf, done), (odd + n % 2) % 2),
         Piece::Interrupted => Turn::More(done, odd),
-        Piece::End => Turn::End,
+        Piece::Nothing => Turn::End,
         Piece::Failed => Turn::Failed,
     }
 }
@@ -189,11 +196,50 @@ fn load_grammar(buf: &mut [u8]) -> usize
     loaded.bytes
 }
 
+// How much of a text is written after one more write; or no more of it can be written.
+enum Written {
+    To(usize),
+    Stopped,
+}
+
+// Writes once more, where the first `done` bytes of the text are written. A write that a signal interrupts takes nothing, and is tried again.
+fn write_on(text: &[u8], done: usize) -> Written
+    requires { ⌜ done ≤ length (now text) ⌝ }
+    ensures { λ w. ⌜ WrittenSays (now (text .entry)) w ⌝ }
+{
+    let rest = &text[done..];
+    let piece = piece_of(libc::write(STDOUT_FILENO, rest), rest);
+    match piece {
+        Piece::Bytes(n) => Written::To(done + n),
+        Piece::Interrupted => Written::To(done),
+        Piece::Nothing => Written::Stopped,
+        Piece::Failed => Written::Stopped,
+    }
+}
+
+// Writes a text to standard output, and answers whether all of it is written. The loop counts its turns down from a number that no run uses up.
+fn write_text(text: &[u8]) -> bool {
+    let mut done: usize = 0;
+    let mut turns = u64::MAX;
+    while 0 < turns {
+        if done == text.len() {
+            return true;
+        }
+        let next = write_on(text, done);
+        let Written::To(d) = next else {
+            return false;
+        };
+        done = d;
+        turns -= 1;
+    }
+    false
+}
+
 // Prints the line of a refusal.
 fn print_refusal(r: Refusal) {
     let mut out = [0u8; 64];
     let n = report::put_refusal(r, &mut out, 0);
-    io::write_all(STDOUT_FILENO, &out[0..n]);
+    write_text(&out[0..n]);
 }
 
 // The listing goes on after an entry of so many steps, or it ends here.
@@ -220,11 +266,11 @@ fn print_page(
     let page = fill(file, t, chain, sentence, n, path, len, out, at);
     match page {
         Page::Last(end) => {
-            io::write_all(STDOUT_FILENO, &out[0..end]);
+            write_text(&out[0..end]);
             Next::Stop
         }
         Page::More(end, k) => {
-            if io::write_all(STDOUT_FILENO, &out[0..end]) {
+            if write_text(&out[0..end]) {
                 Next::After(k)
             } else {
                 Next::Stop

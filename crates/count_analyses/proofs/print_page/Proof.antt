@@ -6,7 +6,7 @@ use Rattle.count_analyses.proofs.print_page.Statement.{statement}
 use Rattle.count_analyses.proofs.print_page.Tie as tie
 use Rattle.count_analyses.proofs.print_page.Reads as reads
 use Rattle.count_analyses.proofs.print_page.Lts as lts
-use Rattle.io.proofs.write_all.Reads as write-all-reads
+use Rattle.count_analyses.proofs.write_text.Reads as write-text-reads
 use Rattle.report.proofs.fill.Reads as fill-reads
 
 fill-requires : tie.Need-fill-requires
@@ -15,32 +15,32 @@ fill-requires c κs = search needs
 enum-known-page : tie.Need-enum-known-page
 enum-known-page c = search needs
 
-sub-write-all : tie.Need-sub-write-all
-sub-write-all c = search needs
+sub-write-text : tie.Need-sub-write-text
+sub-write-text c = search needs
 
-part-write-all-start : tie.Need-part-write-all-start
-part-write-all-start c = search needs
+part-write-text-start : tie.Need-part-write-text-start
+part-write-text-start c = search needs
 
-part-write-all-end : tie.Need-part-write-all-end
-part-write-all-end c = (rw (c .before .before .page .given .1) at (c .before .before .before .before .before .before .fill .ensures)) .1 .within
+part-write-text-end : tie.Need-part-write-text-end
+part-write-text-end c = (rw (c .before .before .page .given .1) at (c .before .before .before .before .before .before .fill .ensures)) .1 .within
 
-write-all-requires : tie.Need-write-all-requires
-write-all-requires c κs = search needs
+write-text-requires : tie.Need-write-text-requires
+write-text-requires c κs = search needs
 
 enum-known-page-2 : tie.Need-enum-known-page-2
 enum-known-page-2 c = search needs
 
-sub-write-all-2 : tie.Need-sub-write-all-2
-sub-write-all-2 c = search needs
+sub-write-text-2 : tie.Need-sub-write-text-2
+sub-write-text-2 c = search needs
 
-part-write-all-start-2 : tie.Need-part-write-all-start-2
-part-write-all-start-2 c = search needs
+part-write-text-start-2 : tie.Need-part-write-text-start-2
+part-write-text-start-2 c = search needs
 
-part-write-all-end-2 : tie.Need-part-write-all-end-2
-part-write-all-end-2 c = (rw (c .before .before .page2 .given .1) at (c .before .before .before .before .before .before .fill .ensures)) .0 .put .within
+part-write-text-end-2 : tie.Need-part-write-text-end-2
+part-write-text-end-2 c = (rw (c .before .before .page2 .given .1) at (c .before .before .before .before .before .before .fill .ensures)) .0 .put .within
 
-write-all-requires-2 : tie.Need-write-all-requires-2
-write-all-requires-2 c κs = search needs
+write-text-requires-2 : tie.Need-write-text-requires-2
+write-text-requires-2 c κs = search needs
 
 same-length : tie.Need-same-length
 same-length c = search needs
@@ -69,15 +69,15 @@ print-page-spec =
     (tie.spec
     fill-requires
     enum-known-page
-    sub-write-all
-    part-write-all-start
-    part-write-all-end
-    write-all-requires
+    sub-write-text
+    part-write-text-start
+    part-write-text-end
+    write-text-requires
     enum-known-page-2
-    sub-write-all-2
-    part-write-all-start-2
-    part-write-all-end-2
-    write-all-requires-2
+    sub-write-text-2
+    part-write-text-start-2
+    part-write-text-end-2
+    write-text-requires-2
     same-length
     returns
     same-length-2
