@@ -26,10 +26,6 @@ ends-after g t u r e p = ap finishedBy run-after
     run-after : runRow g t (r ∷ p) ≡ runRow g u p
     run-after = ap (λ (o : RowOutcome). elim o [ halts n ↦ none | moves v ↦ runRow g v p ]) e
 
-pub keep-all : (f : List ℕ → Bool) (l : List (List ℕ)) → ((p : List ℕ) → f p ≡ true) → keep f l ≡ l
-keep-all f [] h = refl
-keep-all f (x ∷ l) h = ap (λ (b : Bool). if b then x ∷ keep f l else keep f l) (h x) ∙ ap (λ (m : List (List ℕ)). x ∷ m) (keep-all f l h)
-
 pub keep-no : (f : List ℕ → Bool) (l : List (List ℕ)) → ((p : List ℕ) → f p ≡ false) → keep f l ≡ []
 keep-no f [] h = refl
 keep-no f (x ∷ l) h = ap (λ (b : Bool). if b then x ∷ keep f l else keep f l) (h x) ∙ keep-no f l h

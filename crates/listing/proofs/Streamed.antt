@@ -1,14 +1,14 @@
 -- From entry to entry, the search for the next one goes through the listing: the first comes after the empty list, and after entry m comes entry m + 1.
 -- Assumes nothing.
-use mathlib.Core.Path.{_≡_, refl, sym, ap, ap₂, _∙_}
+use mathlib.Core.Path.{_≡_, refl, sym, ap, ap₂, subst, _∙_}
 use mathlib.Core.Logic.{_⊎_, inl, inr}
 use mathlib.Core.Bool.{Bool, true, false, _&&_}
 use mathlib.Core.List.{List, [], _∷_, List·Memᴰ, List·Memᴰ·head, List·Memᴰ·tail}
 use Prim.Native.Nat.{ℕ, zero, suc, _+_, _<_, _≤_}
 use native.Mathlib.Omega.{arith}
 use lib.Dec.{T, eqb, ltb, eqb→eq, ltb→lt}
-use lib.ListN.{length, getD, drop, length-drop}
-use lib.Seq.{drop-cons}
+use lib.ListN.{length, getD, take, drop, length-drop}
+use lib.Seq.{drop-cons, length-take-le}
 use Rattle.model.specs.Base.{if_then_else_, keep}
 use Rattle.model.specs.Grammar.{Grammar}
 use Rattle.model.specs.Step.{before}
@@ -19,7 +19,9 @@ use Rattle.model.proofs.Lists.{mem-getD}
 use Rattle.model.proofs.Order.{before-irrefl, or-cases}
 use Rattle.model.proofs.Search.{keep-short}
 use Rattle.model.proofs.Tests.{passes, and-l, and-r}
-use Rattle.listing.specs.Stream.{upToFirst, liveAfter, lookedAt, entriesAfter, Streams}
+use Rattle.listing.specs.declared.stream.Followed.{Followed}
+use Rattle.listing.specs.declared.stream.Followed.the-variants.{Next, Last, Over}
+use Rattle.listing.specs.Stream.{upToFirst, liveAfter, lookedAt, entriesAfter, Follows, Streams}
 
 pub is-false : (b : Bool) → (T b → ⊥) → b ≡ false
 is-false true f = absurd (f tt)
@@ -100,3 +102,31 @@ module _ (g : Grammar) (sentence : List ℕ) (n : ℕ) where
   pub looked-few : (list : List ℕ) → length (lookedAt g sentence n list) ≤ effort g sentence n
   looked-few list =
       omega (arith, first-few (complete g sentence) (liveAfter g sentence n list), keep-short (before list) (live g sentence n))
+
+  -- whatever answers as the search does, within a limit that suffices, goes through the whole listing and comes to its end
+  module _ (limit : ℕ) (enough : effort g sentence n ≤ limit) (path : List ℕ → List ℕ) (answer : List ℕ → Followed)
+      (promised : (list : List ℕ) → length list ≤ 96 → Follows g sentence n limit list (path list) (answer list)) where
+    goes-on : (j m : ℕ) (list : List ℕ) → m + j ≡ length L → length list ≤ 96 → entriesAfter g sentence n list ≡ drop m L → Streams g sentence n limit list (drop m L)
+    goes-on zero m list e short h = by (answer list) (promised list short)
+      where
+        by : (f : Followed) → Follows g sentence n limit list (path list) f → Streams g sentence n limit list (drop m L)
+        by (Next k) w = let z : ⊥ = omega (arith, ap length (sym h ∙ w .4), length-drop m L) in absurd z
+        by Last w = subst (Streams g sentence n limit list) (sym (w .1) ∙ h) (path list, w)
+        by Over w = let z : ⊥ = omega (arith, looked-few list, w) in absurd z
+    goes-on (suc j) m list e short h = by (answer list) (promised list short) (λ p s q. goes-on j (suc m) p (omega arith) s q)
+      where
+        c : drop m L ≡ getD L m [] ∷ drop (suc m) L
+        c = drop-cons L m [] (omega arith)
+
+        by : (f : Followed) → Follows g sentence n limit list (path list) f
+            → ((p : List ℕ) → length p ≤ 96 → entriesAfter g sentence n p ≡ drop (suc m) L → Streams g sentence n limit p (drop (suc m) L))
+            → Streams g sentence n limit list (drop m L)
+        by (Next k) w rest =
+            let x : take k (path list) ≡ getD L m [] = ap (λ (l : List (List ℕ)). getD l 0 []) (sym (w .4) ∙ h ∙ c) in
+            let s : length (getD L m []) ≤ 96 = omega (arith, ap length x, length-take-le k (path list) (omega (arith, w .1, w .2)), w .1) in
+            subst (Streams g sentence n limit list) (sym c) (path list, k, w, x, rest (getD L m []) s (after-entry m (omega arith)))
+        by Last w rest = let z : ⊥ = omega (arith, ap length (sym (w .1) ∙ h), length-drop m L) in absurd z
+        by Over w rest = let z : ⊥ = omega (arith, looked-few list, w) in absurd z
+
+    pub stream-whole : Streams g sentence n limit [] L
+    stream-whole = goes-on (length L) 0 [] (omega arith) (omega arith) after-nothing

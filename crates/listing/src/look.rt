@@ -9,6 +9,9 @@ use model::RuleNumber;
 use recognizer::step::Stepped;
 use recognizer::step::step;
 use rows::row::category;
+use search::NO_RULE;
+use search::first_rule;
+use search::next_rule;
 
 // The search comes to a state at place k. Says whether it goes on below it.
 fn arrive(desk: &mut [u64; 3], k: usize, complete: bool) -> bool
@@ -36,21 +39,21 @@ fn arrive(desk: &mut [u64; 3], k: usize, complete: bool) -> bool
 }
 
 // Takes up rule r at place k. Says whether it is to be searched: on the way along the list, rules before the list's are not.
-fn take_up(desk: &mut [u64; 3], path: &mut [u16; 96], k: usize, r: u16) -> bool
+fn take_up(desk: &mut [u64; 3], path: &mut [u16; 96], k: usize, r: RuleNumber) -> bool
     requires { ⌜ (length (now desk) ≡ 3) × (length (now path) ≡ 96) × (k < 96) ⌝ }
-    ensures { λ b. ⌜ (b ≡ taken k r (now (desk .entry)) (now (path .entry))) × (now (desk .exit) ≡ takenDesk k r (now (desk .entry)) (now (path .entry))) × (now (path .exit) ≡ takenPath k r (now (desk .entry)) (now (path .entry))) ⌝ }
+    ensures { λ b. ⌜ (b ≡ taken k (r .0) (now (desk .entry)) (now (path .entry))) × (now (desk .exit) ≡ takenDesk k (r .0) (now (desk .entry)) (now (path .entry))) × (now (path .exit) ≡ takenPath k (r .0) (now (desk .entry)) (now (path .entry))) ⌝ }
 {
     if desk[2] == 0 {
-        path[k] = r;
+        path[k] = r.0;
         return true;
     }
     let x = path[k];
-    if r < x {
+    if r.0 < x {
         return false;
     }
-    if x < r {
+    if x < r.0 {
         desk[2] = 0;
-        path[k] = r;
+        path[k] = r.0;
         return true;
     }
     true
@@ -120,9 +123,8 @@ fn look_rules(
     requires { ⌜ Stood (now file) (now t) (now chain) (now s) read (now q) from to pending made left × OnDesk k (now desk) (now path) × (k + left ≤ 96) × (1 ≤ pending) × (getD (now desk) 2 0 ≡ 1 → k < getD (now desk) 1 0) ⌝ }
     ensures { λ b. ⌜ LookedRules (grammarOf (now (file .entry))) left (standing (now (s .entry)) read (now (q .entry)) from to pending made) k (now (desk .entry)) (now (path .entry)) b (now (desk .exit)) (now (path .exit)) ⌝ }
 {
-    let a = category(q[from]).0 as usize;
-    let mut r = chain[a];
-    while r < 256 {
+    let mut r = first_rule(chain, category(q[from]));
+    while r.0 < NO_RULE {
         if look_under(
             file,
             t,
@@ -140,8 +142,7 @@ fn look_rules(
             path,
             r,
         ) {
-            let i = r as usize;
-            r = chain[64 + i];
+            r = next_rule(chain, r);
         } else {
             return false;
         }
@@ -165,10 +166,10 @@ fn look_under(
     k: usize,
     desk: &mut [u64; 3],
     path: &mut [u16; 96],
-    r: u16,
+    r: RuleNumber,
 ) -> bool
-    requires { ⌜ Stood (now file) (now t) (now chain) (now s) read (now q) from to pending made left × OnDesk k (now desk) (now path) × (k + left ≤ 96) × Fronted (now file) (now q) from pending r × (getD (now desk) 2 0 ≡ 1 → k < getD (now desk) 1 0) ⌝ }
-    ensures { λ b. ⌜ LookedUnder (grammarOf (now (file .entry))) left (standing (now (s .entry)) read (now (q .entry)) from to pending made) k (now (desk .entry)) (now (path .entry)) r b (now (desk .exit)) (now (path .exit)) ⌝ }
+    requires { ⌜ Stood (now file) (now t) (now chain) (now s) read (now q) from to pending made left × OnDesk k (now desk) (now path) × (k + left ≤ 96) × Fronted (now file) (now q) from pending (r .0) × (getD (now desk) 2 0 ≡ 1 → k < getD (now desk) 1 0) ⌝ }
+    ensures { λ b. ⌜ LookedUnder (grammarOf (now (file .entry))) left (standing (now (s .entry)) read (now (q .entry)) from to pending made) k (now (desk .entry)) (now (path .entry)) (r .0) b (now (desk .exit)) (now (path .exit)) ⌝ }
 {
     if take_up(desk, path, k, r) {
         if look_after(
@@ -212,10 +213,10 @@ fn look_after(
     k: usize,
     desk: &mut [u64; 3],
     path: &mut [u16; 96],
-    r: u16,
+    r: RuleNumber,
 ) -> bool
-    requires { ⌜ Stood (now file) (now t) (now chain) (now s) read (now q) from to pending made left × OnDesk k (now desk) (now path) × (k + left ≤ 96) × (1 ≤ pending) × (getD (now desk) 2 0 ≡ 1 → k < getD (now desk) 1 0) × (getD (now path) k 0 ≡ r) ⌝ }
-    ensures { λ b. ⌜ LookedAfter (grammarOf (now (file .entry))) left (standing (now (s .entry)) read (now (q .entry)) from to pending made) k (now (desk .entry)) (now (path .entry)) r b (now (desk .exit)) (now (path .exit)) ⌝ }
+    requires { ⌜ Stood (now file) (now t) (now chain) (now s) read (now q) from to pending made left × OnDesk k (now desk) (now path) × (k + left ≤ 96) × (1 ≤ pending) × (getD (now desk) 2 0 ≡ 1 → k < getD (now desk) 1 0) × (getD (now path) k 0 ≡ r .0) ⌝ }
+    ensures { λ b. ⌜ LookedAfter (grammarOf (now (file .entry))) left (standing (now (s .entry)) read (now (q .entry)) from to pending made) k (now (desk .entry)) (now (path .entry)) (r .0) b (now (desk .exit)) (now (path .exit)) ⌝ }
 {
     let mut out = [0u16; 384];
     let stepped = step(
@@ -229,7 +230,7 @@ fn look_after(
         made,
         pending,
         left - 1,
-        RuleNumber(r),
+        r,
         &mut out,
     );
     match stepped {

@@ -37,7 +37,7 @@ pub fn chain_rules(file: &[u8]) -> [u16; 320]
     chain
 }
 
-// The first rule of a category.
+// The first rule of a category, or NO_RULE.
 pub fn first_rule(chain: &[u16; 320], a: Category) -> RuleNumber
     requires { ⌜ a .0 < 64 ⌝ }
     ensures { λ r. ⌜ r .0 ≡ getD (now (chain .entry)) (a .0) 0 ⌝ }
@@ -45,7 +45,7 @@ pub fn first_rule(chain: &[u16; 320], a: Category) -> RuleNumber
     RuleNumber(chain[a.0 as usize])
 }
 
-// The rule of the same category that comes next after rule r.
+// The rule of the same category that comes next after rule r, or NO_RULE.
 pub fn next_rule(chain: &[u16; 320], r: RuleNumber) -> RuleNumber
     requires { ⌜ r .0 < noRule ⌝ }
     ensures { λ s. ⌜ s .0 ≡ getD (now (chain .entry)) (64 + r .0) 0 ⌝ }

@@ -4,12 +4,18 @@ ghost use Prim.Native.Nat.{_+_, _-_, _*_, _<_, _≤_};
 ghost use lib.ListN.{length, getD};
 ghost use Rattle.search.specs.Search.{Known, KnownRule, KnownAt, KnownTails};
 ghost use Rattle.search.specs.Tally.{completed, noted};
-use model::Word;
+use crate::chain::NO_RULE;
+use crate::chain::first_rule;
+use crate::chain::next_rule;
+use model::RuleNumber;
 use recognizer::step::fits;
 use rows::row::category;
 use rows::row::expand;
 use rows::rules::daughters;
 use rows::rules::word;
+
+// The number of the empty word.
+const EMPTY_WORD: u16 = 65535;
 
 // A complete trace that ends at a place: it is counted, and its end is kept if it is the entry asked for.
 fn complete(sheet: &mut [u64; 100], place: usize)
@@ -24,14 +30,14 @@ fn complete(sheet: &mut [u64; 100], place: usize)
 }
 
 // Keeps rule r at a place, if the entry asked for is one of those found since the count was `first`.
-fn note(sheet: &mut [u64; 100], first: u64, place: usize, r: u16)
+fn note(sheet: &mut [u64; 100], first: u64, place: usize, r: RuleNumber)
     requires { ⌜ (length (now sheet) ≡ 100) × (place < 97) ⌝ }
-    ensures { λ _. ⌜ now (sheet .exit) ≡ noted (now (sheet .entry)) first place r ⌝ }
+    ensures { λ _. ⌜ now (sheet .exit) ≡ noted (now (sheet .entry)) first place (r .0) ⌝ }
 {
     let asked = sheet[2];
     if first <= asked {
         if asked < sheet[0] {
-            sheet[3 + place] = r as u64;
+            sheet[3 + place] = r.0 as u64;
         }
     }
 }
@@ -66,9 +72,8 @@ pub fn search(
         }
         return true;
     }
-    let a = category(q[from]).0 as usize;
-    let mut r = chain[a];
-    while r < 256 {
+    let mut r = first_rule(chain, category(q[from]));
+    while r.0 < NO_RULE {
         let first = sheet[0];
         let within = stepped(
             sheet,
@@ -86,8 +91,7 @@ pub fn search(
         );
         note(sheet, first, place, r);
         if within {
-            let i = r as usize;
-            r = chain[64 + i];
+            r = next_rule(chain, r);
         } else {
             return false;
         }
@@ -108,16 +112,16 @@ fn stepped(
     pending: usize,
     made: u16,
     fuel: usize,
-    r: u16,
+    r: RuleNumber,
 ) -> bool
-    requires { ⌜ KnownRule (now t) (now chain) (now s) read (now q) from to pending made fuel (now sheet) r ⌝ }
-    ensures { λ b. ⌜ KnownTails (now (t .entry)) (now (chain .entry)) (now (s .entry)) read (now (q .entry)) from to pending made fuel r (now (sheet .entry)) b (now (sheet .exit)) ⌝ }
+    requires { ⌜ KnownRule (now t) (now chain) (now s) read (now q) from to pending made fuel (now sheet) (r .0) ⌝ }
+    ensures { λ b. ⌜ KnownTails (now (t .entry)) (now (chain .entry)) (now (s .entry)) read (now (q .entry)) from to pending made fuel (r .0) (now (sheet .entry)) b (now (sheet .exit)) ⌝ }
 {
-    let at = 32 * (r as usize);
+    let at = 32 * (r.0 as usize);
     let d = daughters(t, at);
     if d == 0 {
         let w = word(t, at);
-        if w.0 == 65535 {
+        if w.0 == EMPTY_WORD {
             return search(
                 sheet,
                 t,
@@ -185,14 +189,14 @@ fn expanded(
     pending: usize,
     made: u16,
     fuel: usize,
-    r: u16,
+    r: RuleNumber,
     d: u16,
 ) -> bool
-    requires { ⌜ KnownRule (now t) (now chain) (now s) read (now q) from to pending made fuel (now sheet) r × (d ≡ getD (now t) (32 * r) 0) × (0 < d) × (pending + d ≤ fuel) ⌝ }
-    ensures { λ b. ⌜ KnownTails (now (t .entry)) (now (chain .entry)) (now (s .entry)) read (now (q .entry)) from to pending made fuel r (now (sheet .entry)) b (now (sheet .exit)) ⌝ }
+    requires { ⌜ KnownRule (now t) (now chain) (now s) read (now q) from to pending made fuel (now sheet) (r .0) × (d ≡ getD (now t) (32 * r .0) 0) × (0 < d) × (pending + d ≤ fuel) ⌝ }
+    ensures { λ b. ⌜ KnownTails (now (t .entry)) (now (chain .entry)) (now (s .entry)) read (now (q .entry)) from to pending made fuel (r .0) (now (sheet .entry)) b (now (sheet .exit)) ⌝ }
 {
     let mut out = [0u16; 384];
-    let n = expand(t, q, from, to, &mut out, 32 * (r as usize), made);
+    let n = expand(t, q, from, to, &mut out, 32 * (r.0 as usize), made);
     search(
         sheet,
         t,

@@ -34,6 +34,8 @@ use Rattle.listing.proofs.look.arrive.Reads as arrive-reads
 use Rattle.listing.proofs.look.take_up.Reads as take-up-reads
 use Rattle.rows.proofs.row.category.Reads as category-reads
 use Rattle.recognizer.proofs.step.step.Reads as step-reads
+use Rattle.search.proofs.first_rule.Reads as first-rule-reads
+use Rattle.search.proofs.next_rule.Reads as next-rule-reads
 use Rattle.listing.proofs.look.+look+look_after+look_rules+look_under.{statement}
 use Rattle.listing.proofs.look.+look+look_after+look_rules+look_under.Tie.{close}
 
@@ -89,7 +91,7 @@ look-claims t = (arrive-reads.Asked, arrive-reads.Learnt, look-rules-below t, lo
 
 -- the contracts of what `look_rules` calls
 abbrev look-rules-claims : ℕ → look-rules-lts.Claims
-look-rules-claims t = (category-reads.Asked, category-reads.Learnt, look-under-below t, look-under.Post)
+look-rules-claims t = (category-reads.Asked, category-reads.Learnt, first-rule-reads.Asked, first-rule-reads.Learnt, look-under-below t, look-under.Post, next-rule-reads.Asked, next-rule-reads.Learnt)
 
 -- the contracts of what `look_under` calls
 abbrev look-under-claims : ℕ → look-under-lts.Claims
@@ -99,7 +101,7 @@ look-under-claims t = (take-up-reads.Asked, take-up-reads.Learnt, look-after-bel
 scan-goes : (t : ℕ) (c : look-after-lts.After-known-told (look-after-claims t) (look-after-at t) look-after.Post)
     → let a = c .before .before .before .before .before .before .before .args in
     let n = c .before .stepped .given .0 .0 in
-    Goes (stepRow (grammarOf (a .file .now)) (standing (a .s .now) (a .read) (a .q .now) (a .from) (a .to) (a .pending) (a .made)) (a .r)) (standing (a .s .now) n (a .q .now) (a .from + 1) (a .to) (a .pending - 1) (a .made)) (a .left - 1) (a .from) (a .to)
+    Goes (stepRow (grammarOf (a .file .now)) (standing (a .s .now) (a .read) (a .q .now) (a .from) (a .to) (a .pending) (a .made)) (a .r .0)) (standing (a .s .now) n (a .q .now) (a .from + 1) (a .to) (a .pending - 1) (a .made)) (a .left - 1) (a .from) (a .to)
     × (n ≤ length (a .s .now))
 scan-goes t c = rw (c .before .stepped .given .1) at (c .before .before .before .step .ensures .says)
 
@@ -108,7 +110,7 @@ row-goes : (t : ℕ) (c : look-after-lts.After-known-told2 (look-after-claims t)
     → let a = c .before .before .before .before .before .before .before .args in
     let n = c .before .stepped2 .given .0 .0 in
     let d = c .before .stepped2 .given .0 .1 .0 in
-    Goes (stepRow (grammarOf (a .file .now)) (standing (a .s .now) (a .read) (a .q .now) (a .from) (a .to) (a .pending) (a .made)) (a .r)) (standing (a .s .now) (a .read) (c .before .before .before .step .last .1 .1 .1 .1 .1 .1 .1 .1 .1 .1 .1 .0) 0 n (a .pending - 1 + d) (a .made + d)) (a .left - 1) (a .from) (a .to)
+    Goes (stepRow (grammarOf (a .file .now)) (standing (a .s .now) (a .read) (a .q .now) (a .from) (a .to) (a .pending) (a .made)) (a .r .0)) (standing (a .s .now) (a .read) (c .before .before .before .step .last .1 .1 .1 .1 .1 .1 .1 .1 .1 .1 .1 .0) 0 n (a .pending - 1 + d) (a .made + d)) (a .left - 1) (a .from) (a .to)
     × (n ≤ 384) × (d ≤ 3)
 row-goes t c = rw (c .before .stepped2 .given .1) at (c .before .before .before .step .ensures .says)
 
@@ -211,7 +213,7 @@ look-after-look-requires t c κs =
     let a = s .args in
     let p = s .pre .1 in
     let goes = scan-goes t (c .before .before) in
-    (omega (arith, s .pre .0, p .0 .fits, p .3), (stood-there (p .0) (a .r) _ _ _ _ _ _ (goes .0 .leads-to) (record { long = p .0 .held .long; ordered = omega (arith, goes .0 .fronted); within = p .0 .held .within }) (goes .1) (p .3) (goes .0 .short) (omega (arith, p .3)), on-there (p .0) (p .1) (p .2) (p .3) (p .4) (p .5), omega (arith, p .2, p .0 .fits, p .3)))
+    (omega (arith, s .pre .0, p .0 .fits, p .3), (stood-there (p .0) (a .r .0) _ _ _ _ _ _ (goes .0 .leads-to) (record { long = p .0 .held .long; ordered = omega (arith, goes .0 .fronted); within = p .0 .held .within }) (goes .1) (p .3) (goes .0 .short) (omega (arith, p .3)), on-there (p .0) (p .1) (p .2) (p .3) (p .4) (p .5), omega (arith, p .2, p .0 .fits, p .3)))
 
 look-after-enum-known-stepped-2 : (t : ℕ) → look-after-lts.Need-enum-known-stepped-2 (look-after-claims t) (look-after-at t) look-after.Post
 look-after-enum-known-stepped-2 t c = search needs
@@ -260,7 +262,7 @@ look-after-look-requires-2 t c κs =
     let a = s .args in
     let p = s .pre .1 in
     let goes = row-goes t (c .before .before .before) in
-    (omega (arith, s .pre .0, p .0 .fits, p .3), (stood-there (p .0) (a .r) _ _ _ _ _ _ (goes .0 .leads-to) (record { long = c .before .before .before .before .before .before .step .ensures .kept; ordered = omega arith; within = goes .1 }) (p .0 .known) (p .3) (goes .0 .short) (omega (arith, p .3)), on-there (p .0) (p .1) (p .2) (p .3) (p .4) (p .5), omega (arith, p .2, p .0 .fits, p .3)))
+    (omega (arith, s .pre .0, p .0 .fits, p .3), (stood-there (p .0) (a .r .0) _ _ _ _ _ _ (goes .0 .leads-to) (record { long = c .before .before .before .before .before .before .step .ensures .kept; ordered = omega arith; within = goes .1 }) (p .0 .known) (p .3) (goes .0 .short) (omega (arith, p .3)), on-there (p .0) (p .1) (p .2) (p .3) (p .4) (p .5), omega (arith, p .2, p .0 .fits, p .3)))
 
 look-after-returns : (t : ℕ) → look-after-lts.Need-returns (look-after-claims t) (look-after-at t) look-after.Post
 look-after-returns t c =
@@ -274,7 +276,7 @@ look-after-returns-2 t c =
     let s = c .before .before .before .before .before .before in
     let a = s .args in
     let p = s .pre .1 in
-    let l : (u : RowState) × (stepRow (grammarOf (a .file .now)) (standing (a .s .now) (a .read) (a .q .now) (a .from) (a .to) (a .pending) (a .made)) (a .r) ≡ moves u) × (a .left - 1 < u .pending) = rw (c .enum-told2 .given .1) at (c .before .before .step .ensures .says) in
+    let l : (u : RowState) × (stepRow (grammarOf (a .file .now)) (standing (a .s .now) (a .read) (a .q .now) (a .from) (a .to) (a .pending) (a .made)) (a .r .0) ≡ moves u) × (a .left - 1 < u .pending) = rw (c .enum-told2 .given .1) at (c .before .before .step .ensures .says) in
     longer (p .0) (p .1) (p .2) (p .3) (p .4) (p .5) (l .0) (l .1) (l .2)
 
 look-after-returns-3 : (t : ℕ) → look-after-lts.Need-returns-3 (look-after-claims t) (look-after-at t) look-after.Post
@@ -292,12 +294,12 @@ look-after-returns-4 t c =
     moved (p .0) (p .1) (p .2) (p .3) (p .4) (p .5) (row-goes t (c .before .before .before .before) .0) (c .look2 .result) _ _ (c .look2 .ensures)
 
 abbrev look-rules-Inv-loop : look-rules-lts.InvT-loop
-look-rules-Inv-loop file t chain s read q from to pending made left k desk₀ path₀ a r₀ desk path r =
+look-rules-Inv-loop file t chain s read q from to pending made left k desk₀ path₀ r₀ desk path r =
     (length desk ≡ 3) × (length path ≡ 96)
-    × LookedTo (grammarOf file) left (standing s read q from to pending made) (unpacked (getD q from 0) .category) k desk₀ path₀ desk path r
+    × LookedTo (grammarOf file) left (standing s read q from to pending made) (unpacked (getD q from 0) .category) k desk₀ path₀ desk path (r .0)
 
 abbrev look-rules-μ-loop : look-rules-lts.MeasureT-loop
-look-rules-μ-loop file t chain s read q from to pending made left k desk₀ path₀ a r₀ desk path r = 256 - r
+look-rules-μ-loop file t chain s read q from to pending made left k desk₀ path₀ r₀ desk path r = 256 - r .0
 
 look-rules-mul-category : (t : ℕ) → look-rules-lts.Need-mul-category (look-rules-claims t) (look-rules-at t) look-rules.Post look-rules-Inv-loop look-rules-μ-loop
 look-rules-mul-category t c = search needs
@@ -312,47 +314,32 @@ look-rules-element-copy-out-category t c =
 look-rules-category-requires : (t : ℕ) → look-rules-lts.Need-category-requires (look-rules-claims t) (look-rules-at t) look-rules.Post look-rules-Inv-loop look-rules-μ-loop
 look-rules-category-requires t c κs = search needs
 
-look-rules-cast-a : (t : ℕ) → look-rules-lts.Need-cast-a (look-rules-claims t) (look-rules-at t) look-rules.Post look-rules-Inv-loop look-rules-μ-loop
-look-rules-cast-a t c = search needs
-
-look-rules-mul-r : (t : ℕ) → look-rules-lts.Need-mul-r (look-rules-claims t) (look-rules-at t) look-rules.Post look-rules-Inv-loop look-rules-μ-loop
-look-rules-mul-r t c = search needs
-
-look-rules-element-copy-out-r : (t : ℕ) → look-rules-lts.Need-element-copy-out-r (look-rules-claims t) (look-rules-at t) look-rules.Post look-rules-Inv-loop look-rules-μ-loop
-look-rules-element-copy-out-r t c = omega (arith, c .before .category .ensures)
+look-rules-first-rule-requires : (t : ℕ) → look-rules-lts.Need-first-rule-requires (look-rules-claims t) (look-rules-at t) look-rules.Post look-rules-Inv-loop look-rules-μ-loop
+look-rules-first-rule-requires t c κs = omega (arith, c .category .ensures)
 
 look-rules-loop-holds : (t : ℕ) → look-rules-lts.Need-loop-holds (look-rules-claims t) (look-rules-at t) look-rules.Post look-rules-Inv-loop look-rules-μ-loop
 look-rules-loop-holds t c =
-    let s = c .before .before .before .before .before .before in
+    let s = c .before .before .before .before .before in
     let a = s .args in
     let p = s .pre .1 in
-    (p .1 .desk-long, p .1 .path-long, came-first (p .0) (p .3) (p .1) (p .4) _ (ap (λ (j : ℕ). getD (a .chain .now) j 0) (c .before .before .category .ensures)))
+    (p .1 .desk-long, p .1 .path-long, came-first (p .0) (p .3) (p .1) (p .4) _ (c .first-rule .ensures ∙ ap (λ (j : ℕ). getD (a .chain .now) j 0) (c .before .category .ensures)))
 
 look-rules-look-under-requires : (t : ℕ) → look-rules-lts.Need-look-under-requires (look-rules-claims t) (look-rules-at t) look-rules.Post look-rules-Inv-loop look-rules-μ-loop
 look-rules-look-under-requires t c κs =
     let s = c .before .before .before .before .before .before .before .before .before .before in
     let a = s .args in
     let p = s .pre .1 in
-    (omega (arith, s .pre .0), (p .0, on-now (p .0) (p .3) (p .1) (p .4) (c .before .before .before .loop .inv .2) (c .before .before .loop-test .taken), p .2, fronted (p .0) (p .3) (p .1) (p .4) (c .before .before .before .loop .inv .2) (c .before .before .loop-test .taken), strictly-now (p .0) (p .3) (p .1) (p .4) (c .before .before .before .loop .inv .2) (c .before .before .loop-test .taken)))
+    (omega (arith, s .pre .0), (p .0, on-now (p .0) (p .3) (p .1) (p .4) (c .before .before .before .before .loop .inv .2) (c .before .before .if1 .taken), p .2, fronted (p .0) (p .3) (p .1) (p .4) (c .before .before .before .before .loop .inv .2) (c .before .before .if1 .taken), strictly-now (p .0) (p .3) (p .1) (p .4) (c .before .before .before .before .loop .inv .2) (c .before .before .if1 .taken)))
 
-look-rules-cast-i : (t : ℕ) → look-rules-lts.Need-cast-i (look-rules-claims t) (look-rules-at t) look-rules.Post look-rules-Inv-loop look-rules-μ-loop
-look-rules-cast-i t c = search needs
-
-look-rules-add-r : (t : ℕ) → look-rules-lts.Need-add-r (look-rules-claims t) (look-rules-at t) look-rules.Post look-rules-Inv-loop look-rules-μ-loop
-look-rules-add-r t c = search needs
-
-look-rules-mul-r-2 : (t : ℕ) → look-rules-lts.Need-mul-r-2 (look-rules-claims t) (look-rules-at t) look-rules.Post look-rules-Inv-loop look-rules-μ-loop
-look-rules-mul-r-2 t c = search needs
-
-look-rules-element-copy-out-r-2 : (t : ℕ) → look-rules-lts.Need-element-copy-out-r-2 (look-rules-claims t) (look-rules-at t) look-rules.Post look-rules-Inv-loop look-rules-μ-loop
-look-rules-element-copy-out-r-2 t c = search needs
+look-rules-next-rule-requires : (t : ℕ) → look-rules-lts.Need-next-rule-requires (look-rules-claims t) (look-rules-at t) look-rules.Post look-rules-Inv-loop look-rules-μ-loop
+look-rules-next-rule-requires t c κs = omega (arith, c .before .before .before .before .if1 .taken)
 
 look-rules-loop-less : (t : ℕ) → look-rules-lts.Need-loop-less (look-rules-claims t) (look-rules-at t) look-rules.Post look-rules-Inv-loop look-rules-μ-loop
 look-rules-loop-less t c =
     let s = c .before .before .before .before .before .before .before .before .before .before .before .before .before in
     let a = s .args in
     let p = s .pre .1 in
-    later (p .0) (p .3) (p .1) (p .4) (c .before .before .before .before .before .before .loop .inv .2) (c .before .before .before .before .before .loop-test .taken) _ refl
+    later (p .0) (p .3) (p .1) (p .4) (c .before .before .before .before .before .before .before .loop .inv .2) (c .before .before .before .before .before .if1 .taken) _ (c .next-rule .ensures)
 
 look-rules-loop-again : (t : ℕ) → look-rules-lts.Need-loop-again (look-rules-claims t) (look-rules-at t) look-rules.Post look-rules-Inv-loop look-rules-μ-loop
 look-rules-loop-again t c =
@@ -360,21 +347,21 @@ look-rules-loop-again t c =
     let a = s .args in
     let p = s .pre .1 in
     let k = c .before .before .look-under in
-    (k .ensures .looked .desk-long, k .ensures .looked .path-long, came-next (p .0) (p .3) (p .1) (p .4) (c .before .before .before .before .before .before .loop .inv .2) (c .before .before .before .before .before .loop-test .taken) _ _ _ (rw (c .before .if1 .taken) at (k .ensures)) refl)
+    (k .ensures .looked .desk-long, k .ensures .looked .path-long, came-next (p .0) (p .3) (p .1) (p .4) (c .before .before .before .before .before .before .before .loop .inv .2) (c .before .before .before .before .before .if1 .taken) _ _ _ (rw (c .before .if2 .taken) at (k .ensures)) (c .next-rule .ensures))
 
 look-rules-returns : (t : ℕ) → look-rules-lts.Need-returns (look-rules-claims t) (look-rules-at t) look-rules.Post look-rules-Inv-loop look-rules-μ-loop
 look-rules-returns t c =
     let s = c .before .before .before .before .before .before .before .before .before .before .before .before in
     let a = s .args in
     let p = s .pre .1 in
-    stops (p .0) (p .3) (p .1) (p .4) (c .before .before .before .before .before .loop .inv .2) (c .before .before .before .before .loop-test .taken) _ _ (rw (c .if1 .left) at (c .before .look-under .ensures))
+    stops (p .0) (p .3) (p .1) (p .4) (c .before .before .before .before .before .before .loop .inv .2) (c .before .before .before .before .if1 .taken) _ _ (rw (c .if2 .left) at (c .before .look-under .ensures))
 
 look-rules-returns-2 : (t : ℕ) → look-rules-lts.Need-returns-2 (look-rules-claims t) (look-rules-at t) look-rules.Post look-rules-Inv-loop look-rules-μ-loop
 look-rules-returns-2 t c =
     let s = c .before .before .before .before .before .before .before .before in
     let a = s .args in
     let p = s .pre .1 in
-    came-last (p .0) (p .3) (p .1) (p .4) (c .before .loop .inv .2) (c .loop-test .left)
+    came-last (p .0) (p .3) (p .1) (p .4) (c .before .before .loop .inv .2) (c .if1 .left)
 
 look-under-take-up-requires : (t : ℕ) → look-under-lts.Need-take-up-requires (look-under-claims t) (look-under-at t) look-under.Post
 look-under-take-up-requires t c κs =
@@ -391,8 +378,8 @@ look-under-look-after-requires t c κs =
     let g = grammarOf (a .file .now) in
     let S = standing (a .s .now) (a .read) (a .q .now) (a .from) (a .to) (a .pending) (a .made) in
     let few : a .k < 96 = omega (arith, p .2, p .0 .fits, p .3 .predicted) in
-    let up = took g (a .left) S (a .r) (p .1) (p .4) few (sym (c .before .before .before .take-up .ensures .0) ∙ c .before .before .if1 .taken) in
-    (omega (arith, s .pre .0), (p .0, up-on g (a .left) S (a .r) (p .1) (p .4) few (c .before .before .before .take-up .ensures .1) (c .before .before .before .take-up .ensures .2) up, p .2, p .3 .predicted, up-strictly g (a .left) S (a .r) (p .1) (p .4) few (c .before .before .before .take-up .ensures .1) (c .before .before .before .take-up .ensures .2) up, up-at g (a .left) S (a .r) (p .1) (p .4) few (c .before .before .before .take-up .ensures .1) (c .before .before .before .take-up .ensures .2) up))
+    let up = took g (a .left) S (a .r .0) (p .1) (p .4) few (sym (c .before .before .before .take-up .ensures .0) ∙ c .before .before .if1 .taken) in
+    (omega (arith, s .pre .0), (p .0, up-on g (a .left) S (a .r .0) (p .1) (p .4) few (c .before .before .before .take-up .ensures .1) (c .before .before .before .take-up .ensures .2) up, p .2, p .3 .predicted, up-strictly g (a .left) S (a .r .0) (p .1) (p .4) few (c .before .before .before .take-up .ensures .1) (c .before .before .before .take-up .ensures .2) up, up-at g (a .left) S (a .r .0) (p .1) (p .4) few (c .before .before .before .take-up .ensures .1) (c .before .before .before .take-up .ensures .2) up))
 
 look-under-element-write-desk : (t : ℕ) → look-under-lts.Need-element-write-desk (look-under-claims t) (look-under-at t) look-under.Post
 look-under-element-write-desk t c =
@@ -409,8 +396,8 @@ look-under-returns t c =
     let g = grammarOf (a .file .now) in
     let S = standing (a .s .now) (a .read) (a .q .now) (a .from) (a .to) (a .pending) (a .made) in
     let few : a .k < 96 = omega (arith, p .2, p .0 .fits, p .3 .predicted) in
-    let up = took g (a .left) S (a .r) (p .1) (p .4) few (sym (c .before .before .before .before .before .take-up .ensures .0) ∙ c .before .before .before .before .if1 .taken) in
-    under-settled g (a .left) S (a .r) (p .1) (p .4) few (c .before .before .before .before .before .take-up .ensures .1) (c .before .before .before .before .before .take-up .ensures .2) up _ _ (rw (c .if2 .taken) at (c .before .look-after .ensures))
+    let up = took g (a .left) S (a .r .0) (p .1) (p .4) few (sym (c .before .before .before .before .before .take-up .ensures .0) ∙ c .before .before .before .before .if1 .taken) in
+    under-settled g (a .left) S (a .r .0) (p .1) (p .4) few (c .before .before .before .before .before .take-up .ensures .1) (c .before .before .before .before .before .take-up .ensures .2) up _ _ (rw (c .if2 .taken) at (c .before .look-after .ensures))
 
 look-under-returns-2 : (t : ℕ) → look-under-lts.Need-returns-2 (look-under-claims t) (look-under-at t) look-under.Post
 look-under-returns-2 t c =
@@ -420,8 +407,8 @@ look-under-returns-2 t c =
     let g = grammarOf (a .file .now) in
     let S = standing (a .s .now) (a .read) (a .q .now) (a .from) (a .to) (a .pending) (a .made) in
     let few : a .k < 96 = omega (arith, p .2, p .0 .fits, p .3 .predicted) in
-    let up = took g (a .left) S (a .r) (p .1) (p .4) few (sym (c .before .before .before .before .before .take-up .ensures .0) ∙ c .before .before .before .before .if1 .taken) in
-    under-stopped g (a .left) S (a .r) (p .1) (p .4) few (c .before .before .before .before .before .take-up .ensures .1) (c .before .before .before .before .before .take-up .ensures .2) up _ _ (rw (c .if2 .left) at (c .before .look-after .ensures))
+    let up = took g (a .left) S (a .r .0) (p .1) (p .4) few (sym (c .before .before .before .before .before .take-up .ensures .0) ∙ c .before .before .before .before .if1 .taken) in
+    under-stopped g (a .left) S (a .r .0) (p .1) (p .4) few (c .before .before .before .before .before .take-up .ensures .1) (c .before .before .before .before .before .take-up .ensures .2) up _ _ (rw (c .if2 .left) at (c .before .look-after .ensures))
 
 look-under-returns-3 : (t : ℕ) → look-under-lts.Need-returns-3 (look-under-claims t) (look-under-at t) look-under.Post
 look-under-returns-3 t c =
@@ -431,8 +418,8 @@ look-under-returns-3 t c =
     let g = grammarOf (a .file .now) in
     let S = standing (a .s .now) (a .read) (a .q .now) (a .from) (a .to) (a .pending) (a .made) in
     let few : a .k < 96 = omega (arith, p .2, p .0 .fits, p .3 .predicted) in
-    let out = left-out g (a .left) S (a .r) (p .1) (p .4) few (sym (c .before .take-up .ensures .0) ∙ c .if1 .left) in
-    under-left g (a .left) S (a .r) (p .1) (p .4) few (c .before .take-up .ensures .1) (c .before .take-up .ensures .2) out
+    let out = left-out g (a .left) S (a .r .0) (p .1) (p .4) few (sym (c .before .take-up .ensures .0) ∙ c .if1 .left) in
+    under-left g (a .left) S (a .r .0) (p .1) (p .4) few (c .before .take-up .ensures .1) (c .before .take-up .ensures .2) out
 
 pub +look+look-after+look-rules+look-under-spec : {M : Type 1} → statement M
 +look+look-after+look-rules+look-under-spec =
@@ -479,8 +466,12 @@ pub +look+look-after+look-rules+look-under-spec : {M : Type 1} → statement M
     (λ t. look-rules-lts.spec (
       category-reads.Asked,
       category-reads.Learnt,
+      first-rule-reads.Asked,
+      first-rule-reads.Learnt,
       look-under-below t,
       look-under.Post,
+      next-rule-reads.Asked,
+      next-rule-reads.Learnt,
     )
     (look-rules-at t)
     look-rules.Post
@@ -489,15 +480,10 @@ pub +look+look-after+look-rules+look-under-spec : {M : Type 1} → statement M
     (look-rules-mul-category t)
     (look-rules-element-copy-out-category t)
     (look-rules-category-requires t)
-    (look-rules-cast-a t)
-    (look-rules-mul-r t)
-    (look-rules-element-copy-out-r t)
+    (look-rules-first-rule-requires t)
     (look-rules-loop-holds t)
     (look-rules-look-under-requires t)
-    (look-rules-cast-i t)
-    (look-rules-add-r t)
-    (look-rules-mul-r-2 t)
-    (look-rules-element-copy-out-r-2 t)
+    (look-rules-next-rule-requires t)
     (look-rules-loop-less t)
     (look-rules-loop-again t)
     (look-rules-returns t)

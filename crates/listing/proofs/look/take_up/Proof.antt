@@ -20,7 +20,7 @@ returns : tie.Need-returns
 returns c =
     let s = c .before .before in
     let a = s .args in
-    takes-off (a .k) (a .r) (a .desk .now) (a .path .now) (c .if1 .taken)
+    takes-off (a .k) (a .r .0) (a .desk .now) (a .path .now) (c .if1 .taken)
 
 mul-x : tie.Need-mul-x
 mul-x c = search needs
@@ -30,9 +30,9 @@ element-copy-out-x c = search needs
 
 returns-2 : tie.Need-returns-2
 returns-2 c =
-    let s = c .before .before .before .before in
+    let s = c .before .before .before .before .before in
     let a = s .args in
-    takes-not (a .k) (a .r) (a .desk .now) (a .path .now) (c .before .before .if1 .left) (c .if2 .taken)
+    takes-not (a .k) (a .r .0) (a .desk .now) (a .path .now) (c .before .before .before .if1 .left) (c .if2 .taken)
 
 element-write-desk : tie.Need-element-write-desk
 element-write-desk c = search needs
@@ -45,15 +45,15 @@ element-write-path-2 c = search needs
 
 returns-3 : tie.Need-returns-3
 returns-3 c =
-    let s = c .before .before .before .before .before in
+    let s = c .before .before .before .before .before .before .before in
     let a = s .args in
-    takes-later (a .k) (a .r) (a .desk .now) (a .path .now) (c .before .before .before .if1 .left) (c .if3 .taken)
+    takes-later (a .k) (a .r .0) (a .desk .now) (a .path .now) (c .before .before .before .before .before .if1 .left) (c .if3 .taken)
 
 returns-4 : tie.Need-returns-4
 returns-4 c =
-    let s = c .before .before .before .before .before in
+    let s = c .before .before .before .before .before .before .before in
     let a = s .args in
-    takes-same (a .k) (a .r) (a .desk .now) (a .path .now) (c .before .before .before .if1 .left) (c .before .if2 .left) (c .if3 .left)
+    takes-same (a .k) (a .r .0) (a .desk .now) (a .path .now) (c .before .before .before .before .before .if1 .left) (c .before .before .if2 .left) (c .if3 .left)
 
 pub take-up-spec : {M : Type 1} → statement M
 take-up-spec =

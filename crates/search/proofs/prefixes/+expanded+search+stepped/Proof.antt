@@ -28,6 +28,8 @@ use Rattle.search.proofs.prefixes.+expanded+search+stepped.Lts-search a
 use Rattle.search.proofs.prefixes.stepped.Reads as stepped
 use Rattle.search.proofs.prefixes.stepped.Kinds as stepped-kinds
 use Rattle.search.proofs.prefixes.+expanded+search+stepped.Lts-stepped as stepped-lts
+use Rattle.search.proofs.chain.first_rule.Reads as first-rule-reads
+use Rattle.search.proofs.chain.next_rule.Reads as next-rule-reads
 use Rattle.search.proofs.prefixes.complete.Reads as complete-reads
 use Rattle.search.proofs.prefixes.note.Reads as note-reads
 use Rattle.rows.proofs.row.category.Reads as category-reads
@@ -72,50 +74,53 @@ expanded-claims t = (expand-reads.Asked, expand-reads.Learnt, search-below t, se
 
 -- the contracts of what `search` calls
 abbrev search-claims : ℕ → search-lts.Claims
-search-claims t = (complete-reads.Asked, complete-reads.Learnt, category-reads.Asked, category-reads.Learnt, stepped-below t, stepped.Post, note-reads.Asked, note-reads.Learnt)
+search-claims t = (complete-reads.Asked, complete-reads.Learnt, category-reads.Asked, category-reads.Learnt, first-rule-reads.Asked, first-rule-reads.Learnt, stepped-below t, stepped.Post, note-reads.Asked, note-reads.Learnt, next-rule-reads.Asked, next-rule-reads.Learnt)
 
 -- the contracts of what `stepped` calls
 abbrev stepped-claims : ℕ → stepped-lts.Claims
 stepped-claims t = (daughters-reads.Asked, daughters-reads.Learnt, word-reads.Asked, word-reads.Learnt, search-below t, search′.Post, fits-reads.Asked, fits-reads.Learnt, expanded-below t, expanded.Post)
+
+expanded-cast-expand : (t : ℕ) → expanded-lts.Need-cast-expand (expanded-claims t) (expanded-at t) expanded.Post
+expanded-cast-expand t c = search needs
 
 expanded-mul-expand : (t : ℕ) → expanded-lts.Need-mul-expand (expanded-claims t) (expanded-at t) expanded.Post
 expanded-mul-expand t c = search needs
 
 expanded-expand-requires : (t : ℕ) → expanded-lts.Need-expand-requires (expanded-claims t) (expanded-at t) expanded.Post
 expanded-expand-requires t c κs =
-    let s = c .before .before in
+    let s = c .before .before .before in
     let a = s .args in
     let p = s .pre .1 in
     let f = p .0 .file in
     let rd = p .0 .ready in
     let fr = p .0 .fronted in
-    let h : 0 < getD (a .t .now) (32 * a .r) 0 = omega (arith, p .1, p .2) in
-    let l : a .pending + getD (a .t .now) (32 * a .r) 0 ≤ a .fuel = omega (arith, p .1, p .3) in
+    let h : 0 < getD (a .t .now) (32 * a .r .0) 0 = omega (arith, p .1, p .2) in
+    let l : a .pending + getD (a .t .now) (32 * a .r .0) 0 ≤ a .fuel = omega (arith, p .1, p .3) in
     (fit rd fr, rd .stood .held, head-here rd fr, made-small rd fr h l, refl, row-room rd fr h l)
 
 expanded-sub-search : (t : ℕ) → expanded-lts.Need-sub-search (expanded-claims t) (expanded-at t) expanded.Post
 expanded-sub-search t c =
-    let s = c .before .before .before .before .before in
+    let s = c .before .before .before .before .before .before in
     omega (arith, s .pre .1 .0 .fronted .predicted)
 
 expanded-add-search : (t : ℕ) → expanded-lts.Need-add-search (expanded-claims t) (expanded-at t) expanded.Post
 expanded-add-search t c =
-    let s = c .before .before .before .before .before in
+    let s = c .before .before .before .before .before .before in
     omega (arith, s .pre .1 .0 .ready .short, s .pre .1 .3)
 
 expanded-add-search-2 : (t : ℕ) → expanded-lts.Need-add-search-2 (expanded-claims t) (expanded-at t) expanded.Post
 expanded-add-search-2 t c =
-    let s = c .before .before .before .before .before in
+    let s = c .before .before .before .before .before .before in
     omega (arith, s .pre .1 .0 .ready .short, s .pre .1 .0 .ready .stood .numbered, s .pre .1 .0 .ready .stood .fits, s .pre .1 .3)
 
 expanded-sub-search-2 : (t : ℕ) → expanded-lts.Need-sub-search-2 (expanded-claims t) (expanded-at t) expanded.Post
 expanded-sub-search-2 t c =
-    let s = c .before .before .before .before .before in
+    let s = c .before .before .before .before .before .before in
     omega (arith, s .pre .1 .0 .ready .stood .fits, s .pre .1 .0 .fronted .predicted)
 
 expanded-search-requires : (t : ℕ) → expanded-lts.Need-search-requires (expanded-claims t) (expanded-at t) expanded.Post
 expanded-search-requires t c κs =
-    let s = c .before .before .before .before .before in
+    let s = c .before .before .before .before .before .before in
     let a = s .args in
     let p = s .pre .1 in
     let f = p .0 .file in
@@ -126,7 +131,7 @@ expanded-search-requires t c κs =
 
 expanded-returns : (t : ℕ) → expanded-lts.Need-returns (expanded-claims t) (expanded-at t) expanded.Post
 expanded-returns t c =
-    let s = c .before .before .before .before .before .before in
+    let s = c .before .before .before .before .before .before .before in
     let a = s .args in
     let p = s .pre .1 in
     λ f rd fr.
@@ -135,11 +140,11 @@ expanded-returns t c =
     next-row-by rd fr (a .d) (p .1) (p .2) (p .3) _ _ (x .result) (x .ensures) (x .ensures .kept) (k .result) _ (k .ensures f (row-ready-by rd fr (a .d) (p .1) (p .2) (p .3) _ _ (x .result) (x .ensures) (x .ensures .kept)))
 
 abbrev search-Inv-loop : search-lts.InvT-loop
-search-Inv-loop sheet₀ t chain q from to s read pending made fuel place budget a r₀ sheet r =
-    (length sheet ≡ 100) × KnownTo t chain s read q from to pending made fuel sheet₀ sheet r
+search-Inv-loop sheet₀ t chain q from to s read pending made fuel place budget r₀ sheet r =
+    (length sheet ≡ 100) × KnownTo t chain s read q from to pending made fuel sheet₀ sheet (r .0)
 
 abbrev search-μ-loop : search-lts.MeasureT-loop
-search-μ-loop sheet₀ t chain q from to s read pending made fuel place budget a r₀ sheet r = 256 - r
+search-μ-loop sheet₀ t chain q from to s read pending made fuel place budget r₀ sheet r = 256 - r .0
 
 search-sub-place : (t : ℕ) → search-lts.Need-sub-place (search-claims t) (search-at t) search′.Post search-Inv-loop search-μ-loop
 search-sub-place t c = omega (arith, c .before .pre .1 .ready .short)
@@ -152,7 +157,7 @@ search-returns t c =
     let s = c .before .before .before in
     let a = s .args in
     λ f p.
-    no-budget p (c .if1 .taken)
+    no-budget p (omega (arith, c .if1 .taken))
 
 search-sub-sheet : (t : ℕ) → search-lts.Need-sub-sheet (search-claims t) (search-at t) search′.Post search-Inv-loop search-μ-loop
 search-sub-sheet t c = search needs
@@ -195,128 +200,116 @@ search-element-copy-out-category t c =
 search-category-requires : (t : ℕ) → search-lts.Need-category-requires (search-claims t) (search-at t) search′.Post search-Inv-loop search-μ-loop
 search-category-requires t c κs = search needs
 
-search-cast-a : (t : ℕ) → search-lts.Need-cast-a (search-claims t) (search-at t) search′.Post search-Inv-loop search-μ-loop
-search-cast-a t c = search needs
-
-search-mul-r : (t : ℕ) → search-lts.Need-mul-r (search-claims t) (search-at t) search′.Post search-Inv-loop search-μ-loop
-search-mul-r t c = search needs
-
-search-element-copy-out-r : (t : ℕ) → search-lts.Need-element-copy-out-r (search-claims t) (search-at t) search′.Post search-Inv-loop search-μ-loop
-search-element-copy-out-r t c = omega (arith, c .before .category .ensures)
+search-first-rule-requires : (t : ℕ) → search-lts.Need-first-rule-requires (search-claims t) (search-at t) search′.Post search-Inv-loop search-μ-loop
+search-first-rule-requires t c κs = omega (arith, c .category .ensures)
 
 search-loop-holds : (t : ℕ) → search-lts.Need-loop-holds (search-claims t) (search-at t) search′.Post search-Inv-loop search-μ-loop
 search-loop-holds t c =
-    let s = c .before .before .before .before .before .before .before .before in
+    let s = c .before .before .before .before .before .before .before in
     let a = s .args in
-    let h = some-left (s .pre .1 .ready .stood) (c .before .before .before .before .if2 .left) in
-    (length-set (a .sheet .now) 1 _ ∙ s .pre .1 .ready .long, λ f ready. came-first ready h _ (ap (λ (k : ℕ). getD (a .chain .now) k 0) (c .before .before .category .ensures)))
+    let h = some-left (s .pre .1 .ready .stood) (c .before .before .before .if2 .left) in
+    (length-set (a .sheet .now) 1 _ ∙ s .pre .1 .ready .long, λ f ready. came-first ready h _ (c .first-rule .ensures ∙ ap (λ (k : ℕ). getD (a .chain .now) k 0) (c .before .category .ensures)))
 
 search-element-copy-out-first : (t : ℕ) → search-lts.Need-element-copy-out-first (search-claims t) (search-at t) search′.Post search-Inv-loop search-μ-loop
 search-element-copy-out-first t c = search needs
 
 search-stepped-requires : (t : ℕ) → search-lts.Need-stepped-requires (search-claims t) (search-at t) search′.Post search-Inv-loop search-μ-loop
 search-stepped-requires t c κs =
-    let u = c .before .before .before in
-    let s = u .before .before .before .before .before .before .before .before .before in
+    let u = c .before .before .before .before in
+    let s = u .before .before .before .before .before .before .before .before in
     let a = s .args in
-    let b = u .before .before .before .before .before .before .if1 .left in
-    let h = some-left (s .pre .1 .ready .stood) (u .before .before .before .before .before .if2 .left) in
+    let b = u .before .before .before .before .before .if1 .left in
+    let h = some-left (s .pre .1 .ready .stood) (u .before .before .before .before .if2 .left) in
     let f = s .pre .1 .file in
     let p = s .pre .1 .ready in
     let ready = rules-ready p b h in
-    let test : u .loop .r < 256 = omega (arith, c .before .before .loop-test .taken) in
+    let test : u .loop .r .0 < 256 = omega (arith, c .before .before .if4 .taken) in
     (omega (arith, s .pre .0), record { file = f; ready = ready-now ready h (u .loop .inv .1 f ready) test; fronted = fronted ready h (u .loop .inv .1 f ready) test })
 
 search-note-requires : (t : ℕ) → search-lts.Need-note-requires (search-claims t) (search-at t) search′.Post search-Inv-loop search-μ-loop
 search-note-requires t c κs =
-    let u = c .before .before .before .before .before in
-    let s = u .before .before .before .before .before .before .before .before .before in
+    let u = c .before .before .before .before .before .before in
+    let s = u .before .before .before .before .before .before .before .before in
     let a = s .args in
-    let b = u .before .before .before .before .before .before .if1 .left in
-    let h = some-left (s .pre .1 .ready .stood) (u .before .before .before .before .before .if2 .left) in
+    let b = u .before .before .before .before .before .if1 .left in
+    let h = some-left (s .pre .1 .ready .stood) (u .before .before .before .before .if2 .left) in
     let f = s .pre .1 .file in
     let p = s .pre .1 .ready in
     let ready = rules-ready p b h in
-    let test : u .loop .r < 256 = omega (arith, c .before .before .before .before .loop-test .taken) in
+    let test : u .loop .r .0 < 256 = omega (arith, c .before .before .before .before .if4 .taken) in
     (c .before .stepped .ensures f (ready-now ready h (u .loop .inv .1 f ready) test) (fronted ready h (u .loop .inv .1 f ready) test) .long ∙ u .loop .inv .0, omega (arith, p .short))
 
-search-cast-i : (t : ℕ) → search-lts.Need-cast-i (search-claims t) (search-at t) search′.Post search-Inv-loop search-μ-loop
-search-cast-i t c = search needs
-
-search-add-r : (t : ℕ) → search-lts.Need-add-r (search-claims t) (search-at t) search′.Post search-Inv-loop search-μ-loop
-search-add-r t c = search needs
-
-search-mul-r-2 : (t : ℕ) → search-lts.Need-mul-r-2 (search-claims t) (search-at t) search′.Post search-Inv-loop search-μ-loop
-search-mul-r-2 t c = search needs
-
-search-element-copy-out-r-2 : (t : ℕ) → search-lts.Need-element-copy-out-r-2 (search-claims t) (search-at t) search′.Post search-Inv-loop search-μ-loop
-search-element-copy-out-r-2 t c = search needs
+search-next-rule-requires : (t : ℕ) → search-lts.Need-next-rule-requires (search-claims t) (search-at t) search′.Post search-Inv-loop search-μ-loop
+search-next-rule-requires t c κs = omega (arith, c .before .before .before .before .before .before .if4 .taken)
 
 search-loop-less : (t : ℕ) → search-lts.Need-loop-less (search-claims t) (search-at t) search′.Post search-Inv-loop search-μ-loop
 search-loop-less t c =
-    let u = c .before .before .before .before .before .before .before .before in
-    let s = u .before .before .before .before .before .before .before .before .before in
+    let u = c .before .before .before .before .before .before .before .before .before in
+    let s = u .before .before .before .before .before .before .before .before in
     let a = s .args in
-    let b = u .before .before .before .before .before .before .if1 .left in
-    let h = some-left (s .pre .1 .ready .stood) (u .before .before .before .before .before .if2 .left) in
+    let b = u .before .before .before .before .before .if1 .left in
+    let h = some-left (s .pre .1 .ready .stood) (u .before .before .before .before .if2 .left) in
     let f = s .pre .1 .file in
     let p = s .pre .1 .ready in
     let ready = rules-ready p b h in
-    later ready h (u .loop .inv .1 f ready) (omega (arith, c .before .before .before .before .before .before .before .loop-test .taken)) _ refl
+    later ready h (u .loop .inv .1 f ready) (omega (arith, c .before .before .before .before .before .before .before .if4 .taken)) _ (c .next-rule .ensures)
 
 search-loop-again : (t : ℕ) → search-lts.Need-loop-again (search-claims t) (search-at t) search′.Post search-Inv-loop search-μ-loop
 search-loop-again t c =
-    let u = c .before .before .before .before .before .before .before .before in
-    let s = u .before .before .before .before .before .before .before .before .before in
+    let u = c .before .before .before .before .before .before .before .before .before in
+    let s = u .before .before .before .before .before .before .before .before in
     let a = s .args in
-    let b = u .before .before .before .before .before .before .if1 .left in
-    let h = some-left (s .pre .1 .ready .stood) (u .before .before .before .before .before .if2 .left) in
-    let test : u .loop .r < 256 = omega (arith, c .before .before .before .before .before .before .before .loop-test .taken) in
+    let b = u .before .before .before .before .before .if1 .left in
+    let h = some-left (s .pre .1 .ready .stood) (u .before .before .before .before .if2 .left) in
+    let test : u .loop .r .0 < 256 = omega (arith, c .before .before .before .before .before .before .before .if4 .taken) in
     let k = c .before .before .before .before .stepped in
-    let w : (f : List ℕ) → Ready f (a .t .now) (a .chain .now) (a .s .now) (a .read) (a .q .now) (a .from) (a .to) (a .pending) (a .made) (a .fuel) (spentOne (a .sheet .now)) → SearchedUnder (grammarOf f) (a .fuel) (standing (a .s .now) (a .read) (a .q .now) (a .from) (a .to) (a .pending) (a .made)) (u .loop .r) (u .loop .sheet) true _ =
+    let w : (f : List ℕ) → Ready f (a .t .now) (a .chain .now) (a .s .now) (a .read) (a .q .now) (a .from) (a .to) (a .pending) (a .made) (a .fuel) (spentOne (a .sheet .now)) → SearchedUnder (grammarOf f) (a .fuel) (standing (a .s .now) (a .read) (a .q .now) (a .from) (a .to) (a .pending) (a .made)) (u .loop .r .0) (u .loop .sheet) true _ =
     λ f ready.
     let now = ready-now ready h (u .loop .inv .1 f ready) test in
     let fr = fronted ready h (u .loop .inv .1 f ready) test in
-    subst (λ (x : List ℕ). SearchedUnder (grammarOf f) (a .fuel) (standing (a .s .now) (a .read) (a .q .now) (a .from) (a .to) (a .pending) (a .made)) (u .loop .r) (u .loop .sheet) true x) (sym (c .before .before .note .ensures))
-    (noted-rule now fr true _ (rw (c .before .if4 .taken) at (k .ensures f now fr))) in
+    subst (λ (x : List ℕ). SearchedUnder (grammarOf f) (a .fuel) (standing (a .s .now) (a .read) (a .q .now) (a .from) (a .to) (a .pending) (a .made)) (u .loop .r .0) (u .loop .sheet) true x) (sym (c .before .before .note .ensures))
+    (noted-rule now fr true _ (rw (c .before .if5 .taken) at (k .ensures f now fr))) in
     let f₀ = s .pre .1 .file in
-    (w f₀ (rules-ready (s .pre .1 .ready) b h) .long ∙ u .loop .inv .0, λ f ready. came-next ready h (u .loop .inv .1 f ready) test _ _ (w f ready) refl)
+    (w f₀ (rules-ready (s .pre .1 .ready) b h) .long ∙ u .loop .inv .0, λ f ready. came-next ready h (u .loop .inv .1 f ready) test _ _ (w f ready) (c .next-rule .ensures))
 
 search-returns-4 : (t : ℕ) → search-lts.Need-returns-4 (search-claims t) (search-at t) search′.Post search-Inv-loop search-μ-loop
 search-returns-4 t c =
-    let u = c .before .before .before .before .before .before .before in
-    let s = u .before .before .before .before .before .before .before .before .before in
+    let u = c .before .before .before .before .before .before .before .before in
+    let s = u .before .before .before .before .before .before .before .before in
     let a = s .args in
-    let b = u .before .before .before .before .before .before .if1 .left in
-    let h = some-left (s .pre .1 .ready .stood) (u .before .before .before .before .before .if2 .left) in
+    let b = u .before .before .before .before .before .if1 .left in
+    let h = some-left (s .pre .1 .ready .stood) (u .before .before .before .before .if2 .left) in
     λ f p.
     let ready = rules-ready p b h in
-    let test : u .loop .r < 256 = omega (arith, c .before .before .before .before .before .before .loop-test .taken) in
+    let test : u .loop .r .0 < 256 = omega (arith, c .before .before .before .before .before .before .if4 .taken) in
     let k = c .before .before .before .stepped in
     let now = ready-now ready h (u .loop .inv .1 f ready) test in
     let fr = fronted ready h (u .loop .inv .1 f ready) test in
     let w =
-    subst (λ (x : List ℕ). SearchedUnder (grammarOf f) (a .fuel) (standing (a .s .now) (a .read) (a .q .now) (a .from) (a .to) (a .pending) (a .made)) (u .loop .r) (u .loop .sheet) false x) (sym (c .before .note .ensures))
-    (noted-rule now fr false _ (rw (c .if4 .left) at (k .ensures f now fr))) in
+    subst (λ (x : List ℕ). SearchedUnder (grammarOf f) (a .fuel) (standing (a .s .now) (a .read) (a .q .now) (a .from) (a .to) (a .pending) (a .made)) (u .loop .r .0) (u .loop .sheet) false x) (sym (c .before .note .ensures))
+    (noted-rule now fr false _ (rw (c .if5 .left) at (k .ensures f now fr))) in
     below-rules p b h false _ (over-budget ready h (u .loop .inv .1 f ready) test _ w)
 
 search-returns-5 : (t : ℕ) → search-lts.Need-returns-5 (search-claims t) (search-at t) search′.Post search-Inv-loop search-μ-loop
 search-returns-5 t c =
-    let u = c .before in
-    let s = u .before .before .before .before .before .before .before .before .before in
+    let u = c .before .before in
+    let s = u .before .before .before .before .before .before .before .before in
     let a = s .args in
-    let b = u .before .before .before .before .before .before .if1 .left in
-    let h = some-left (s .pre .1 .ready .stood) (u .before .before .before .before .before .if2 .left) in
+    let b = u .before .before .before .before .before .if1 .left in
+    let h = some-left (s .pre .1 .ready .stood) (u .before .before .before .before .if2 .left) in
     λ f p.
     let ready = rules-ready p b h in
-    below-rules p b h true _ (came-last ready h (u .loop .inv .1 f ready) (omega (arith, c .loop-test .left)))
+    below-rules p b h true _ (came-last ready h (u .loop .inv .1 f ready) (omega (arith, c .if4 .left)))
+
+stepped-cast-at : (t : ℕ) → stepped-lts.Need-cast-at (stepped-claims t) (stepped-at t) stepped.Post
+stepped-cast-at t c = search needs
 
 stepped-mul-at : (t : ℕ) → stepped-lts.Need-mul-at (stepped-claims t) (stepped-at t) stepped.Post
 stepped-mul-at t c = search needs
 
 stepped-daughters-requires : (t : ℕ) → stepped-lts.Need-daughters-requires (stepped-claims t) (stepped-at t) stepped.Post
 stepped-daughters-requires t c κs =
-    let s = c .before in
+    let s = c .before .before in
     let a = s .args in
     let p = s .pre .1 in
     let f = p .file in
@@ -326,7 +319,7 @@ stepped-daughters-requires t c κs =
 
 stepped-word-requires : (t : ℕ) → stepped-lts.Need-word-requires (stepped-claims t) (stepped-at t) stepped.Post
 stepped-word-requires t c κs =
-    let s = c .before .before .before in
+    let s = c .before .before .before .before in
     let a = s .args in
     let p = s .pre .1 in
     let f = p .file in
@@ -336,7 +329,7 @@ stepped-word-requires t c κs =
 
 stepped-add-search : (t : ℕ) → stepped-lts.Need-add-search (stepped-claims t) (stepped-at t) stepped.Post
 stepped-add-search t c =
-    let s = c .before .before .before .before .before .before .before in
+    let s = c .before .before .before .before .before .before .before .before in
     let a = s .args in
     let p = s .pre .1 in
     let f = p .file in
@@ -346,7 +339,7 @@ stepped-add-search t c =
 
 stepped-sub-search : (t : ℕ) → stepped-lts.Need-sub-search (stepped-claims t) (stepped-at t) stepped.Post
 stepped-sub-search t c =
-    let s = c .before .before .before .before .before .before .before in
+    let s = c .before .before .before .before .before .before .before .before in
     let a = s .args in
     let p = s .pre .1 in
     let f = p .file in
@@ -356,7 +349,7 @@ stepped-sub-search t c =
 
 stepped-sub-search-2 : (t : ℕ) → stepped-lts.Need-sub-search-2 (stepped-claims t) (stepped-at t) stepped.Post
 stepped-sub-search-2 t c =
-    let s = c .before .before .before .before .before .before .before in
+    let s = c .before .before .before .before .before .before .before .before in
     let a = s .args in
     let p = s .pre .1 in
     let f = p .file in
@@ -366,7 +359,7 @@ stepped-sub-search-2 t c =
 
 stepped-search-requires : (t : ℕ) → stepped-lts.Need-search-requires (stepped-claims t) (stepped-at t) stepped.Post
 stepped-search-requires t c κs =
-    let s = c .before .before .before .before .before .before .before in
+    let s = c .before .before .before .before .before .before .before .before in
     let a = s .args in
     let p = s .pre .1 in
     let f = p .file in
@@ -376,7 +369,7 @@ stepped-search-requires t c κs =
 
 stepped-returns : (t : ℕ) → stepped-lts.Need-returns (stepped-claims t) (stepped-at t) stepped.Post
 stepped-returns t c =
-    let s = c .before .before .before .before .before .before .before .before in
+    let s = c .before .before .before .before .before .before .before .before .before in
     let a = s .args in
     λ f rd fr.
     let k = c .search in
@@ -386,7 +379,7 @@ stepped-returns t c =
 
 stepped-returns-2 : (t : ℕ) → stepped-lts.Need-returns-2 (stepped-claims t) (stepped-at t) stepped.Post
 stepped-returns-2 t c =
-    let s = c .before .before .before .before .before .before .before in
+    let s = c .before .before .before .before .before .before .before .before in
     let a = s .args in
     λ f rd fr.
     no-words rd fr (sym (c .before .before .before .before .before .daughters .ensures) ∙ (c .before .before .before .before .if1 .taken)) (λ z. (c .before .if2 .left) ((c .before .before .before .word .ensures) ∙ z)) (c .if3 .taken)
@@ -402,7 +395,7 @@ stepped-fits-requires t c κs = search needs
 
 stepped-add-search-2 : (t : ℕ) → stepped-lts.Need-add-search-2 (stepped-claims t) (stepped-at t) stepped.Post
 stepped-add-search-2 t c =
-    let s = c .before .before .before .before .before .before .before .before .before .before .before in
+    let s = c .before .before .before .before .before .before .before .before .before .before .before .before in
     let a = s .args in
     let p = s .pre .1 in
     let f = p .file in
@@ -412,7 +405,7 @@ stepped-add-search-2 t c =
 
 stepped-add-search-3 : (t : ℕ) → stepped-lts.Need-add-search-3 (stepped-claims t) (stepped-at t) stepped.Post
 stepped-add-search-3 t c =
-    let s = c .before .before .before .before .before .before .before .before .before .before .before in
+    let s = c .before .before .before .before .before .before .before .before .before .before .before .before in
     let a = s .args in
     let p = s .pre .1 in
     let f = p .file in
@@ -422,7 +415,7 @@ stepped-add-search-3 t c =
 
 stepped-sub-search-3 : (t : ℕ) → stepped-lts.Need-sub-search-3 (stepped-claims t) (stepped-at t) stepped.Post
 stepped-sub-search-3 t c =
-    let s = c .before .before .before .before .before .before .before .before .before .before .before in
+    let s = c .before .before .before .before .before .before .before .before .before .before .before .before in
     let a = s .args in
     let p = s .pre .1 in
     let f = p .file in
@@ -432,7 +425,7 @@ stepped-sub-search-3 t c =
 
 stepped-sub-search-4 : (t : ℕ) → stepped-lts.Need-sub-search-4 (stepped-claims t) (stepped-at t) stepped.Post
 stepped-sub-search-4 t c =
-    let s = c .before .before .before .before .before .before .before .before .before .before .before in
+    let s = c .before .before .before .before .before .before .before .before .before .before .before .before in
     let a = s .args in
     let p = s .pre .1 in
     let f = p .file in
@@ -442,7 +435,7 @@ stepped-sub-search-4 t c =
 
 stepped-search-requires-2 : (t : ℕ) → stepped-lts.Need-search-requires-2 (stepped-claims t) (stepped-at t) stepped.Post
 stepped-search-requires-2 t c κs =
-    let s = c .before .before .before .before .before .before .before .before .before .before .before in
+    let s = c .before .before .before .before .before .before .before .before .before .before .before .before in
     let a = s .args in
     let p = s .pre .1 in
     let f = p .file in
@@ -452,18 +445,18 @@ stepped-search-requires-2 t c κs =
 
 stepped-returns-3 : (t : ℕ) → stepped-lts.Need-returns-3 (stepped-claims t) (stepped-at t) stepped.Post
 stepped-returns-3 t c =
-    let s = c .before .before .before .before .before .before .before .before .before .before .before .before in
+    let s = c .before .before .before .before .before .before .before .before .before .before .before .before .before in
     let a = s .args in
     λ f rd fr.
     let k = c .search2 in
     let lexical = sym (c .before .before .before .before .before .before .before .before .before .before .daughters .ensures) ∙ (c .before .before .before .before .before .before .before .before .before .if1 .taken) in
-    let full : getD (a .t .now) (32 * a .r + 1) 0 ≡ 65535 → ⊥ = λ z. (c .before .before .before .before .before .before .if2 .left) ((c .before .before .before .before .before .before .before .before .word .ensures) ∙ z) in
+    let full : getD (a .t .now) (32 * a .r .0 + 1) 0 ≡ 65535 → ⊥ = λ z. (c .before .before .before .before .before .before .if2 .left) ((c .before .before .before .before .before .before .before .before .word .ensures) ∙ z) in
     let same = ap (λ (w : ℕ). wordFits w (getD (a .s .now) (a .read) 0)) (sym (c .before .before .before .before .before .before .before .before .word .ensures)) ∙ sym (c .before .before .before .fits2 .ensures) ∙ (c .before .before .if4 .taken) in
     next-word rd fr lexical full (c .before .before .before .before .before .if3 .left) same (k .result) _ (k .ensures f (word-ready rd fr lexical full (c .before .before .before .before .before .if3 .left) same))
 
 stepped-returns-4 : (t : ℕ) → stepped-lts.Need-returns-4 (stepped-claims t) (stepped-at t) stepped.Post
 stepped-returns-4 t c =
-    let s = c .before .before .before .before .before .before .before .before .before .before in
+    let s = c .before .before .before .before .before .before .before .before .before .before .before in
     let a = s .args in
     λ f rd fr.
     other-word rd fr (sym (c .before .before .before .before .before .before .before .before .daughters .ensures) ∙ (c .before .before .before .before .before .before .before .if1 .taken)) (λ z. (c .before .before .before .before .if2 .left) ((c .before .before .before .before .before .before .word .ensures) ∙ z)) (c .before .before .before .if3 .left) (ap (λ (w : ℕ). wordFits w (getD (a .s .now) (a .read) 0)) (sym (c .before .before .before .before .before .before .word .ensures)) ∙ sym (c .before .fits2 .ensures) ∙ c .if4 .left)
@@ -473,7 +466,7 @@ stepped-cast-if5 t c = search needs
 
 stepped-add-if5 : (t : ℕ) → stepped-lts.Need-add-if5 (stepped-claims t) (stepped-at t) stepped.Post
 stepped-add-if5 t c =
-    let s = c .before .before .before in
+    let s = c .before .before .before .before in
     let a = s .args in
     let p = s .pre .1 in
     let f = p .file in
@@ -483,21 +476,21 @@ stepped-add-if5 t c =
 
 stepped-returns-5 : (t : ℕ) → stepped-lts.Need-returns-5 (stepped-claims t) (stepped-at t) stepped.Post
 stepped-returns-5 t c =
-    let s = c .before .before .before .before in
+    let s = c .before .before .before .before .before in
     let a = s .args in
     λ f rd fr.
-    queue-long rd fr (not-none (getD (a .t .now) (32 * a .r) 0) (λ z. (c .before .if1 .left) ((c .before .before .daughters .ensures) ∙ z))) (omega (arith, c .if5 .taken, (c .before .before .daughters .ensures)))
+    queue-long rd fr (not-none (getD (a .t .now) (32 * a .r .0) 0) (λ z. (c .before .if1 .left) ((c .before .before .daughters .ensures) ∙ z))) (omega (arith, c .if5 .taken, (c .before .before .daughters .ensures)))
 
 stepped-expanded-requires : (t : ℕ) → stepped-lts.Need-expanded-requires (stepped-claims t) (stepped-at t) stepped.Post
 stepped-expanded-requires t c κs =
-    let s = c .before .before .before .before .before in
+    let s = c .before .before .before .before .before .before in
     let a = s .args in
     let p = s .pre .1 in
     let f = p .file in
     let rd = p .ready in
     let fr = p .fronted in
     let e = (c .before .before .before .daughters .ensures) in
-    (omega (arith, s .pre .0), (p, e, omega (arith, e, (not-none (getD (a .t .now) (32 * a .r) 0) (λ z. (c .before .before .if1 .left) ((c .before .before .before .daughters .ensures) ∙ z)))), omega (arith, (c .before .if5 .left))))
+    (omega (arith, s .pre .0), (p, e, omega (arith, e, (not-none (getD (a .t .now) (32 * a .r .0) 0) (λ z. (c .before .before .if1 .left) ((c .before .before .before .daughters .ensures) ∙ z)))), omega (arith, (c .before .if5 .left))))
 
 stepped-returns-6 : (t : ℕ) → stepped-lts.Need-returns-6 (stepped-claims t) (stepped-at t) stepped.Post
 stepped-returns-6 t c = c .expanded .ensures
@@ -511,6 +504,7 @@ pub +expanded+search+stepped-spec : {M : Type 1} → statement M
 )
     (expanded-at t)
     expanded.Post
+    (expanded-cast-expand t)
     (expanded-mul-expand t)
     (expanded-expand-requires t)
     (expanded-sub-search t)
@@ -524,10 +518,14 @@ pub +expanded+search+stepped-spec : {M : Type 1} → statement M
       complete-reads.Learnt,
       category-reads.Asked,
       category-reads.Learnt,
+      first-rule-reads.Asked,
+      first-rule-reads.Learnt,
       stepped-below t,
       stepped.Post,
       note-reads.Asked,
       note-reads.Learnt,
+      next-rule-reads.Asked,
+      next-rule-reads.Learnt,
     )
     (search-at t)
     search′.Post
@@ -544,17 +542,12 @@ pub +expanded+search+stepped-spec : {M : Type 1} → statement M
     (search-mul-category t)
     (search-element-copy-out-category t)
     (search-category-requires t)
-    (search-cast-a t)
-    (search-mul-r t)
-    (search-element-copy-out-r t)
+    (search-first-rule-requires t)
     (search-loop-holds t)
     (search-element-copy-out-first t)
     (search-stepped-requires t)
     (search-note-requires t)
-    (search-cast-i t)
-    (search-add-r t)
-    (search-mul-r-2 t)
-    (search-element-copy-out-r-2 t)
+    (search-next-rule-requires t)
     (search-loop-less t)
     (search-loop-again t)
     (search-returns-4 t)
@@ -573,6 +566,7 @@ pub +expanded+search+stepped-spec : {M : Type 1} → statement M
     )
     (stepped-at t)
     stepped.Post
+    (stepped-cast-at t)
     (stepped-mul-at t)
     (stepped-daughters-requires t)
     (stepped-word-requires t)

@@ -13,6 +13,9 @@ element-copy-out-asked c = search needs
 element-copy-out-if2 : tie.Need-element-copy-out-if2
 element-copy-out-if2 c = search needs
 
+cast-sheet : tie.Need-cast-sheet
+cast-sheet c = search needs
+
 add-sheet : tie.Need-add-sheet
 add-sheet c = search needs
 
@@ -24,18 +27,18 @@ element-write-sheet c = search needs
 
 returns : tie.Need-returns
 returns c =
-    let a = c .before .before .before .before .args in
-    noted-in (a .sheet .now) (a .first) (a .place) (a .r) (c .before .before .if1 .taken) (c .if2 .taken)
+    let a = c .before .before .before .before .before .args in
+    noted-in (a .sheet .now) (a .first) (a .place) (a .r .0) (c .before .before .before .if1 .taken) (c .before .if2 .taken)
 
 returns-2 : tie.Need-returns-2
 returns-2 c =
     let a = c .before .before .before .before .args in
-    noted-after (a .sheet .now) (a .first) (a .place) (a .r) (c .before .before .if1 .taken) (c .if2 .left)
+    noted-after (a .sheet .now) (a .first) (a .place) (a .r .0) (c .before .before .if1 .taken) (c .if2 .left)
 
 returns-3 : tie.Need-returns-3
 returns-3 c =
     let a = c .before .before .args in
-    noted-before (a .sheet .now) (a .first) (a .place) (a .r) (c .if1 .left)
+    noted-before (a .sheet .now) (a .first) (a .place) (a .r .0) (c .if1 .left)
 
 pub note-spec : {M : Type 1} → statement M
 note-spec =
@@ -43,6 +46,7 @@ note-spec =
     (tie.spec
     element-copy-out-asked
     element-copy-out-if2
+    cast-sheet
     add-sheet
     mul-sheet
     element-write-sheet
