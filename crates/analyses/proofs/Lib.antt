@@ -5,3 +5,4 @@ pub mod Entries
 pub mod Copy
 pub mod FoundEntry
 pub mod EntryCall
+pub mod Answered

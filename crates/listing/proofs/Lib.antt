@@ -6,4 +6,3 @@ pub mod LookTurns
 pub mod LookDesk
 pub mod Following
 pub mod Streamed
-pub mod Answered

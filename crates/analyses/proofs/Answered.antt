@@ -8,7 +8,7 @@ use Rattle.model.specs.GrammarFile.{grammarRefusal, grammarOf}
 use Rattle.model.specs.Trace.{sentenceRefusal}
 use Rattle.model.specs.Counting.{limitsRefusal, listing}
 use Rattle.model.proofs.Demands.{demand-3}
-use Rattle.listing.specs.Answers.{Answers, Demand3Answered}
+use Rattle.analyses.specs.Answers.{Answers, Demand3Answered}
 
 -- an accepted grammar file, a sentence of at most 96 of its words, and limits in range
 module _ (file : List ℕ) (accepted : grammarRefusal file ≡ none) (sentence : List ℕ) (spoken : sentenceRefusal (grammarOf file) sentence ≡ none)
