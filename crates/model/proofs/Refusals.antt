@@ -8,7 +8,7 @@ use mathlib.Core.List.{List, [], _∷_, _++_, map, List·Memᴰ, List·Memᴰ·h
 use Prim.Native.Nat.{ℕ, zero, suc, _-_, _*_}
 use native.Mathlib.Omega.{arith}
 use lib.Dec.{ltb, leb, eqb}
-use lib.ListN.{length, drop}
+use lib.ListN.{length}
 use Rattle.model.specs.declared.Refusal.{Refusal}
 use Rattle.model.specs.declared.Refusal.the-variants.{Grammar as OfGrammar, Analysis as OfAnalysis, Desk as OfDesk}
 use Rattle.model.specs.declared.Verdict.{Verdict}
@@ -22,10 +22,10 @@ use Rattle.model.specs.Trace.{noNode, firstUnknown, sentenceRefusal, ste
 use Rattle.model.specs.Tree.{nodesRefusal, treeRefusal, spells, treeOfList}
 use Rattle.model.specs.Conversions.{treeOf, traceOf}
 use Rattle.model.specs.Counting.{count, effort, entry, limitsRefusal, effortRefusal}
-use Rattle.model.specs.Calls.{written, roomRefusal, writeRefusal, checkTraceRefusal, checkTreeRefusal, traceToTreeRefusal, treeToTraceRefusal, countRefusal, entryCallRefusal, surveyRefusal, SurveyOutcome}
-use Rattle.model.specs.Refusals.{Test, ofGrammar, ofAnalysis, ofDesk, ruleTests, fileTests, wordTests, sentenceTests, noRule, noFront, otherCategory, otherFront, otherWord, notNext, stepTests, stepsTests, traceTests, daughtersBy, nodesTests, treeTests, roomTests, limitTests, effortTests, writeTests, checkTraceTests, checkTreeTests, traceToTreeTests, treeToTraceTests, countTests, entryTests, surveyTests}
-use Rattle.model.specs.Demands.{_⇔_, NoneMeets, First, Decided, Wrote, Demand1}
-use Rattle.model.proofs.Tests.{none-some, not-both}
+use Rattle.model.specs.Calls.{written, roomRefusal, writeRefusal, checkTraceRefusal, checkTreeRefusal, traceToTreeRefusal, treeToTraceRefusal, countRefusal, entryCallRefusal, surveyRefusal}
+use Rattle.model.specs.Refusals.{Test, ofGrammar, ofAnalysis, ofDesk, ruleTests, fileTests, wordTests, sentenceTests, noRule, otherCategory, otherWord, stepTests, stepsTests, traceTests, daughtersBy, nodesTests, treeTests, roomTests, limitTests, effortTests, writeTests, checkTraceTests, checkTreeTests, traceToTreeTests, treeToTraceTests, countTests, entryTests, surveyTests}
+use Rattle.model.specs.Demands.{NoneMeets, First, Decided, Wrote, Demand1}
+use Rattle.model.proofs.Tests.{none-some}
 
 -- the refusal of an author, with a number and a place
 abbrev refusalOf : Author → ℕ → ℕ → Refusal
