@@ -27,7 +27,7 @@ use Rattle.model.proofs.WriterFields.{written-categories, written-start, writte
 use Rattle.model.proofs.WriterHeading.{wrongNumbers, writer-refusal}
 use Rattle.model.proofs.WriterBack.{read-back}
 use Rattle.grammar_to_file.specs.FileFor.{codeOf, recordFor, headingFor, fileFor, Storable}
-use Rattle.grammar_to_file.proofs.Records.{long}
+use Rattle.grammar_to_file.proofs.Records.{lens, codes, fromVariables, fromLengths, fromWord, fromDaughters, long}
 use Rattle.grammar_to_file.proofs.RecordTests.{none-by, category-passes, word-passes, variables-pass, unused-passes, holds-rule, word-passes-lexical, variables-pass-lexical, unused-passes-lexical, holds-lexical, codes-small, lengths-small}
 
 some-one : {A : Type 0} {a b : A} → some a ≡ some b → a ≡ b
@@ -161,20 +161,16 @@ module _ (g : Grammar) (s : Storable g) where
   records-none (suc n) a h =
       ap (λ (o : Option Refusal). o orElse firstFrom (recordRefusal (g .dimensions) (g .words) (λ j. fields records (24 * j) 24)) (suc a) n) (record-none a (omega arith)) ∙ records-none n (suc a) (omega arith)
 
-  -- bytes
+  -- every record is a list of bytes
   rule-bytes : (r : ℕ) (rule : Rule) → ruleAt g r ≡ some rule → Bytes (recordFor rule)
   rule-bytes r rule e =
       let w = well .ranges r rule e in
       let c = well .categories .1 in
-      let e₄ : List ℕ = padded 12 (map codeOf (named (rule .components))) ++ (0 ∷ []) in
-      let e₃ : List ℕ = padded 4 (map length (rule .components)) ++ e₄ in
-      let e₂ : List ℕ = little2 (rule .word) ++ e₃ in
-      let e₁ : List ℕ = padded 3 (rule .daughters) ++ e₂ in
-      let b₄ : Bytes e₄ = bytes-append (padded 12 (map codeOf (named (rule .components)))) (0 ∷ []) (bytes-padded 12 (map codeOf (named (rule .components))) (bytes-of (map codeOf (named (rule .components))) (parts (rule .daughters) refl .1))) (bytes-of (0 ∷ []) (λ x m. omega (arith, zero-only x m))) in
-      let b₃ : Bytes e₃ = bytes-append (padded 4 (map length (rule .components))) e₄ (bytes-padded 4 (map length (rule .components)) (bytes-of (map length (rule .components)) (parts (rule .daughters) refl .0))) b₄ in
-      let b₂ : Bytes e₂ = bytes-append (little2 (rule .word)) e₃ (bytes-little2 (rule .word)) b₃ in
-      let b₁ : Bytes e₁ = bytes-append (padded 3 (rule .daughters)) e₂ (bytes-padded 3 (rule .daughters) (bytes-of (rule .daughters) (λ d m. omega (arith, w .daughters-are d m)))) b₂ in
-      bytes-append (rule .category ∷ length (rule .daughters) ∷ []) e₁ (bytes-of (rule .category ∷ length (rule .daughters) ∷ []) front) b₁
+      let variables : Bytes (fromVariables rule) = bytes-append (padded 12 (codes rule)) (0 ∷ []) (bytes-padded 12 (codes rule) (bytes-of (codes rule) (parts (rule .daughters) refl .1))) (bytes-of (0 ∷ []) (λ x m. omega (arith, zero-only x m))) in
+      let lengths : Bytes (fromLengths rule) = bytes-append (padded 4 (lens rule)) (fromVariables rule) (bytes-padded 4 (lens rule) (bytes-of (lens rule) (parts (rule .daughters) refl .0))) variables in
+      let word : Bytes (fromWord rule) = bytes-append (little2 (rule .word)) (fromLengths rule) (bytes-little2 (rule .word)) lengths in
+      let daughters : Bytes (fromDaughters rule) = bytes-append (padded 3 (rule .daughters)) (fromWord rule) (bytes-padded 3 (rule .daughters) (bytes-of (rule .daughters) (λ d m. omega (arith, w .daughters-are d m)))) word in
+      bytes-append (rule .category ∷ length (rule .daughters) ∷ []) (fromDaughters rule) (bytes-of (rule .category ∷ length (rule .daughters) ∷ []) front) daughters
     where
       zero-only : (x : ℕ) → List·Memᴰ x (0 ∷ []) → x ≡ 0
       zero-only x m = ⊎-elim (λ q. q) (λ i. elim i [ ]) (List·Memᴰ·cases-cons m)

@@ -1,4 +1,4 @@
--- A record that passes 6 to 9 is the record of the rule that it holds; so an accepted file's grammar can be stored.
+-- A record that refusals 6 to 9 do not meet is the record of the rule that it holds.
 -- Assumes nothing.
 use mathlib.Core.Path.{_≡_, refl, ap, ap₂, sym, subst, _∙_}
 use mathlib.Core.Bool.{Bool, true, false}
@@ -18,7 +18,7 @@ use Rattle.model.proofs.Tests.{and-l, and-r, and-both, not-off}
 use Rattle.model.proofs.ByteLists.{fields-at, zeros-at, Bytes, two-again}
 use Rattle.model.proofs.RuleFromRecord.{Tested, DimensionsIn, category-in, three, field-length, field-at, daughters-length, twelve, lengths-total, named-are}
 use Rattle.grammar_to_file.specs.FileFor.{codeOf, recordFor}
-use Rattle.grammar_to_file.proofs.Records.{long, at-daughter, at-length, at-variable, at-weight, from-5}
+use Rattle.grammar_to_file.proofs.Records.{long, at-daughter, at-length, at-variable, at-last, from-5}
 
 pub zero-split : (a b : List ℕ) → T (allZero (a ++ b)) → T (allZero a) × T (allZero b)
 zero-split [] b t = (tt, t)
@@ -180,4 +180,4 @@ module _ (g : Grammar) (e : List ℕ) (tested : Tested g e) (dims : DimensionsIn
       at p h (no a) (no b) (no c) (no d) (yes q) k m = move q (from-5 rule 6 1 refl ∙ two .1)
       at p h (no a) (no b) (no c) (no d) (no f) (yes q) m = at-length rule p (p - 7) (omega arith) (omega arith) ∙ same-bytes .lengths p (p - 7) (omega arith) (omega arith)
       at p h (no a) (no b) (no c) (no d) (no f) (no k) (yes q) = at-variable rule p (p - 11) (omega arith) (omega arith) ∙ same-bytes .codes p (p - 11) (omega arith) (omega arith)
-      at p h (no a) (no b) (no c) (no d) (no f) (no k) (no m) = at-weight rule p (omega arith) ∙ sym (same-bytes .last p (omega arith))
+      at p h (no a) (no b) (no c) (no d) (no f) (no k) (no m) = at-last rule p (omega arith) ∙ sym (same-bytes .last p (omega arith))

@@ -1,4 +1,4 @@
--- The record of a right rule passes refusals 6 to 9, and holds that rule.
+-- Refusals 6 to 9 do not meet the record of a right rule, and it holds that rule.
 -- Assumes nothing.
 use mathlib.Core.Path.{_≡_, refl, ap, ap₂, sym, subst, _∙_}
 use mathlib.Core.Logic.{_⊎_, inl, inr, ⊎-elim}
@@ -126,7 +126,7 @@ module _ (g : Grammar) (well : WellFormed g) (r : ℕ) (rule : Rule) (is-rule : 
   dim-few : (c : ℕ) → c < length dimensions → dimension g c ≤ 4
   dim-few c h = well .dimensions-are c h .1
 
-  -- 6
+  -- refusal 6
   pub category-passes : wrongCategory dimensions e ≡ false
   category-passes =
       or-off (leb (length dimensions) (rule .category) || ltb 3 (length ds)) (anyBelow (λ j. leb (length dimensions) (field e (2 + j))) (length ds))
@@ -153,7 +153,7 @@ module _ (g : Grammar) (well : WellFormed g) (r : ℕ) (rule : Rule) (is-rule : 
         let p = vars-out g 0 ds x (perm-mem (rr .complete l) i) in
         omega (arith, p .comp-in, dim-few (getD ds (p .k) 0) (w .daughters-are (getD ds (p .k) 0) (mem-getD ds 0 (p .k) (p .in-range))))
 
-    -- bytes
+    -- variables and lengths are bytes
     pub codes-small : (x : ℕ) → List·Memᴰ x codes → x < 256
     codes-small x i =
         let (u, j, q) = map-out codeOf (named (rule .components)) i in
@@ -195,7 +195,7 @@ module _ (g : Grammar) (well : WellFormed g) (r : ℕ) (rule : Rule) (is-rule : 
         let k′ : c < dimension g (getD ds j 0) = subst (λ (x : ℕ). c < dimension g x) q k in
         rw (eq-eqb (occurrences (4 * j + c) (fields e 11 (variables dimensions e))) 1 (ap (occurrences (4 * j + c)) fields-is ∙ once-at j c h k′)) tt))
 
-    -- 7, 8, 9
+    -- refusals 7, 8 and 9
     pub word-passes : wrongWord dimensions e (g .words) ≡ false
     word-passes = ap (λ (b : Bool). if b then false else not (eqb (dimensionIn dimensions (field e 0)) 1) || (leb (g .words) (wordOf e) && not (eqb (wordOf e) emptyWord))) has
 

@@ -1,4 +1,4 @@
--- The record of a rule of a well-formed grammar: its bytes, its length, the rule that it holds, and that it passes 6 to 9.
+-- The record of a rule: how long it is, what stands in each of its fields, and which bytes are 0.
 -- Assumes nothing.
 use mathlib.Core.Path.{_≡_, refl, ap, ap₂, sym, _∙_}
 use mathlib.Core.List.{List, [], _∷_, _++_, map}
@@ -17,66 +17,66 @@ use Rattle.grammar_to_file.specs.FileFor.{codeOf, recordFor}
 
 -- where the bytes stand
 module _ (rule : Rule) where
-  abbrev ds : List ℕ
+  abbrev pub ds : List ℕ
   ds = rule .daughters
 
-  abbrev lens : List ℕ
+  abbrev pub lens : List ℕ
   lens = map length (rule .components)
 
-  abbrev codes : List ℕ
+  abbrev pub codes : List ℕ
   codes = map codeOf (named (rule .components))
 
   abbrev e : List ℕ
   e = recordFor rule
 
-  abbrev E₄ : List ℕ
-  E₄ = padded 12 codes ++ (0 ∷ [])
+  abbrev pub fromVariables : List ℕ
+  fromVariables = padded 12 codes ++ (0 ∷ [])
 
-  abbrev E₃ : List ℕ
-  E₃ = padded 4 lens ++ E₄
+  abbrev pub fromLengths : List ℕ
+  fromLengths = padded 4 lens ++ fromVariables
 
-  abbrev E₂ : List ℕ
-  E₂ = little2 (rule .word) ++ E₃
+  abbrev pub fromWord : List ℕ
+  fromWord = little2 (rule .word) ++ fromLengths
 
-  abbrev E₁ : List ℕ
-  E₁ = padded 3 ds ++ E₂
+  abbrev pub fromDaughters : List ℕ
+  fromDaughters = padded 3 ds ++ fromWord
 
   pub long : length e ≡ 24
   long =
       omega (
         arith,
-        length-append (padded 3 ds) E₂,
+        length-append (padded 3 ds) fromWord,
         padded-length 3 ds,
-        length-append (little2 (rule .word)) E₃,
-        length-append (padded 4 lens) E₄,
+        length-append (little2 (rule .word)) fromLengths,
+        length-append (padded 4 lens) fromVariables,
         padded-length 4 lens,
         length-append (padded 12 codes) (0 ∷ []),
         padded-length 12 codes,
       )
 
-  from-2 : (p j : ℕ) → p ≡ 2 + j → getD e p 0 ≡ getD E₁ j 0
-  from-2 p j q = after-front (rule .category ∷ length ds ∷ []) E₁ 2 p j refl q
+  from-2 : (p j : ℕ) → p ≡ 2 + j → getD e p 0 ≡ getD fromDaughters j 0
+  from-2 p j q = after-front (rule .category ∷ length ds ∷ []) fromDaughters 2 p j refl q
 
-  pub from-5 : (p j : ℕ) → p ≡ 5 + j → getD e p 0 ≡ getD E₂ j 0
-  from-5 p j q = from-2 p (3 + j) (omega arith) ∙ after-front (padded 3 ds) E₂ 3 (3 + j) j (padded-length 3 ds) refl
+  pub from-5 : (p j : ℕ) → p ≡ 5 + j → getD e p 0 ≡ getD fromWord j 0
+  from-5 p j q = from-2 p (3 + j) (omega arith) ∙ after-front (padded 3 ds) fromWord 3 (3 + j) j (padded-length 3 ds) refl
 
-  from-7 : (p j : ℕ) → p ≡ 7 + j → getD e p 0 ≡ getD E₃ j 0
-  from-7 p j q = from-5 p (2 + j) (omega arith) ∙ after-front (little2 (rule .word)) E₃ 2 (2 + j) j refl refl
+  from-7 : (p j : ℕ) → p ≡ 7 + j → getD e p 0 ≡ getD fromLengths j 0
+  from-7 p j q = from-5 p (2 + j) (omega arith) ∙ after-front (little2 (rule .word)) fromLengths 2 (2 + j) j refl refl
 
-  from-11 : (p j : ℕ) → p ≡ 11 + j → getD e p 0 ≡ getD E₄ j 0
-  from-11 p j q = from-7 p (4 + j) (omega arith) ∙ after-front (padded 4 lens) E₄ 4 (4 + j) j (padded-length 4 lens) refl
+  from-11 : (p j : ℕ) → p ≡ 11 + j → getD e p 0 ≡ getD fromVariables j 0
+  from-11 p j q = from-7 p (4 + j) (omega arith) ∙ after-front (padded 4 lens) fromVariables 4 (4 + j) j (padded-length 4 lens) refl
 
   pub at-daughter : (p j : ℕ) → p ≡ 2 + j → j < 3 → getD e p 0 ≡ getD ds j 0
-  at-daughter p j q h = from-2 p j q ∙ List·getD-append (padded 3 ds) E₂ 0 j (omega (arith, padded-length 3 ds)) ∙ padded-at 3 ds j h
+  at-daughter p j q h = from-2 p j q ∙ List·getD-append (padded 3 ds) fromWord 0 j (omega (arith, padded-length 3 ds)) ∙ padded-at 3 ds j h
 
   pub at-length : (p j : ℕ) → p ≡ 7 + j → j < 4 → getD e p 0 ≡ getD lens j 0
-  at-length p j q h = from-7 p j q ∙ List·getD-append (padded 4 lens) E₄ 0 j (omega (arith, padded-length 4 lens)) ∙ padded-at 4 lens j h
+  at-length p j q h = from-7 p j q ∙ List·getD-append (padded 4 lens) fromVariables 0 j (omega (arith, padded-length 4 lens)) ∙ padded-at 4 lens j h
 
   pub at-variable : (p j : ℕ) → p ≡ 11 + j → j < 12 → getD e p 0 ≡ getD codes j 0
   at-variable p j q h = from-11 p j q ∙ List·getD-append (padded 12 codes) (0 ∷ []) 0 j (omega (arith, padded-length 12 codes)) ∙ padded-at 12 codes j h
 
-  pub at-weight : (p : ℕ) → p ≡ 23 → getD e p 0 ≡ 0
-  at-weight p q = from-11 p 12 (omega arith) ∙ after-front (padded 12 codes) (0 ∷ []) 12 12 0 (padded-length 12 codes) refl
+  pub at-last : (p : ℕ) → p ≡ 23 → getD e p 0 ≡ 0
+  at-last p q = from-11 p 12 (omega arith) ∙ after-front (padded 12 codes) (0 ∷ []) 12 12 0 (padded-length 12 codes) refl
 
   -- a field that holds a whole list
   whole : (l : List ℕ) (i n : ℕ) → length l ≡ n → i + n ≤ 24 → ((j : ℕ) → j < n → getD e (i + j) 0 ≡ getD l j 0) → fields e i n ≡ l
@@ -110,7 +110,7 @@ module _ (rule : Rule) where
   past-variables n q h = zeros (11 + n) (13 - n) (omega arith) (λ j k. go j (ℕ-discrete (n + j) 12) k)
     where
       go : (j : ℕ) → Dec (n + j ≡ 12) → j < 13 - n → getD e (11 + n + j) 0 ≡ 0
-      go j (yes f) k = at-weight (11 + n + j) (omega arith)
+      go j (yes f) k = at-last (11 + n + j) (omega arith)
       go j (no f) k = at-variable (11 + n + j) (n + j) (omega arith) (omega arith) ∙ List·getD-eq-default codes 0 (omega arith)
 
   pub word-zero : rule .word ≡ 0 → T (allZero (fields e 5 2))
@@ -126,4 +126,4 @@ module _ (rule : Rule) where
       go : (j : ℕ) → Dec (j < 4) → Dec (j < 16) → j < 17 → getD e (7 + j) 0 ≡ 0
       go j (yes h) q k = at-length (7 + j) j refl h ∙ ap (λ (c : List (List Variable)). getD (map length c) j 0) z
       go j (no h) (yes q) k = at-variable (7 + j) (j - 4) (omega arith) (omega arith) ∙ ap (λ (c : List (List Variable)). getD (map codeOf (named c)) (j - 4) 0) z
-      go j (no h) (no q) k = at-weight (7 + j) (omega arith)
+      go j (no h) (no q) k = at-last (7 + j) (omega arith)

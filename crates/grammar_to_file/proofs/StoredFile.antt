@@ -38,7 +38,7 @@ module _ (file : List ℕ) (bytes : T (allBytes file)) (accepted : grammarRefusa
   abbrev dimensions : List ℕ
   dimensions = dimensionsOf file
 
-  -- 9 and 10 of record r
+  -- refusals 9 and 10 of record r
   record Later (r : ℕ) : Type 0 where
     pub unused : unusedSet dimensions (recordOf file r) ≡ false
     pub single : repeated (recordOf file) r ≡ false
