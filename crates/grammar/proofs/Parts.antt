@@ -23,9 +23,6 @@ module _ (bytes : List ℕ) (i n : ℕ) where
   pub part-length : length (fields bytes i n) ≤ n
   part-length = simp length-take (omega arith)
 
-  pub part-full : i + n ≤ length bytes → length (fields bytes i n) ≡ n
-  part-full h = simp (length-take, length-drop) (omega arith)
-
   pub part-at : (j : ℕ) → j < n → getD (fields bytes i n) j 0 ≡ getD bytes (i + j) 0
   part-at j h = rw (getD-take, getD-drop)
 

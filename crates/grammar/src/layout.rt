@@ -8,7 +8,6 @@ use crate::bytes::fields;
 use crate::bytes::two_bytes;
 use model::Category;
 use model::RuleNumber;
-use model::Word;
 
 // The number of categories, C.
 pub fn categories(file: &[u8]) -> u8

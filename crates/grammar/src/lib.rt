@@ -18,7 +18,6 @@ pub use layout::record_of;
 pub use layout::rules;
 pub use layout::start;
 pub use layout::words;
-pub use lists::all_zero;
 pub use lists::block_check;
 pub use lists::occurrences;
 pub use lists::same_record;

@@ -7,7 +7,7 @@ ghost use Rattle.model.specs.GrammarFile.{allZero, fields, weighted, sameRecord
 use crate::bytes::fields;
 
 // Whether every byte is 0.
-pub fn all_zero(bytes: &[u8]) -> bool
+fn all_zero(bytes: &[u8]) -> bool
     ensures { λ r. ⌜ r ≡ allZero (now (bytes .entry)) ⌝ }
 {
     let mut i: usize = 0;

@@ -1,6 +1,6 @@
 -- The slots of the new predictions are those of the rule's variables.
 -- Assumes nothing.
-use mathlib.Core.Path.{_≡_, refl, sym, ap, _∙_}
+use mathlib.Core.Path.{_≡_, refl, sym, ap, ap₂, _∙_}
 use mathlib.Core.Bool.{Bool, true, false}
 use mathlib.Core.Option.{Option, none, some}
 use mathlib.Core.List.{List, [], _∷_, _++_, map, List·Memᴰ, List·Memᴰ·head, List·Memᴰ·tail}
@@ -103,7 +103,7 @@ module _ (g : Grammar) (right : Right g) where
       let z : zipped (map (indexOf ss j) (numbersFrom 0 (dimension g d))) (yield g u)
       ≡ map (λ c. varSlot ss ys (variable j c)) (numbersFrom 0 (dimension g d))
       = zip-numbers (indexOf ss j) (λ c. stringOf ys (variable j c)) 0 (dimension g d) (yield g u) len
-      (λ c l. let m : 0 + c ≡ c = omega arith in rw (m, y₀)) in
+      (λ c l. let m : c ≡ 0 + c = omega arith in ap₂ (λ (strings : List (List ℕ)) (k : ℕ). getD strings k []) (sym y₀) m) in
       let ih = daughters-slots n ss ys (suc j) ds us (and-r (hasRoot g u d) (hasRoots g us ds) h)
       (λ k l. let m : suc j + k ≡ j + suc k = omega arith in rw m (hc (suc k) (omega arith)))
       (λ k l. let m : suc j + k ≡ j + suc k = omega arith in rw m (hy (suc k) (omega arith))) in

@@ -120,10 +120,3 @@ left-tail d i j t = go (lex-cases d d (left i j) t)
     go : (d < d) ⊎ ((d ≡ d) × T (left i j)) → T (left i j)
     go (inl h) = let z : ⊥ = omega arith in absurd z
     go (inr h) = h .1
-
-pub before-untail : (d : ℕ) (i j : Index) → T (before (d ∷ i) (d ∷ j)) → T (before i j)
-before-untail d i j t = go (lex-cases d d (before i j) t)
-  where
-    go : (d < d) ⊎ ((d ≡ d) × T (before i j)) → T (before i j)
-    go (inl h) = let z : ⊥ = omega arith in absurd z
-    go (inr h) = h .1

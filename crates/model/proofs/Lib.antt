@@ -50,4 +50,5 @@ pub mod WriterAgain
 pub mod WriterBack
 pub mod WriterHeading
 pub mod Verdicts
+pub mod Room
 pub mod Refusals

@@ -5,10 +5,10 @@ use mathlib.Core.Logic.{_⊎_, inl, inr}
 use mathlib.Core.Bool.{Bool, true, false, not, _&&_}
 use mathlib.Core.Option.{Option, none, some}
 use mathlib.Core.List.{List, [], _∷_, _++_, map, List·Memᴰ, List·Memᴰ·head, List·Memᴰ·tail, List·Memᴰ·cases-cons}
-use Prim.Native.Nat.{ℕ, zero, suc, _-_, _*_}
+use Prim.Native.Nat.{ℕ, zero, suc, _-_, _*_, _≤_}
 use native.Mathlib.Omega.{arith}
 use lib.Dec.{ltb, leb, eqb}
-use lib.ListN.{length, drop}
+use lib.ListN.{length}
 use Rattle.model.specs.declared.Refusal.{Refusal}
 use Rattle.model.specs.declared.Refusal.the-variants.{Grammar as OfGrammar, Analysis as OfAnalysis, Desk as OfDesk}
 use Rattle.model.specs.declared.Verdict.{Verdict}
@@ -22,10 +22,11 @@ use Rattle.model.specs.Trace.{noNode, firstUnknown, sentenceRefusal, ste
 use Rattle.model.specs.Tree.{nodesRefusal, treeRefusal, spells, treeOfList}
 use Rattle.model.specs.Conversions.{treeOf, traceOf}
 use Rattle.model.specs.Counting.{count, effort, entry, limitsRefusal, effortRefusal}
-use Rattle.model.specs.Calls.{written, roomRefusal, writeRefusal, checkTraceRefusal, checkTreeRefusal, traceToTreeRefusal, treeToTraceRefusal, countRefusal, entryCallRefusal, surveyRefusal, SurveyOutcome}
-use Rattle.model.specs.Refusals.{Test, ofGrammar, ofAnalysis, ofDesk, ruleTests, fileTests, wordTests, sentenceTests, noRule, noFront, otherCategory, otherFront, otherWord, notNext, stepTests, stepsTests, traceTests, daughtersBy, nodesTests, treeTests, roomTests, limitTests, effortTests, writeTests, checkTraceTests, checkTreeTests, traceToTreeTests, treeToTraceTests, countTests, entryTests, surveyTests}
-use Rattle.model.specs.Demands.{_⇔_, NoneMeets, First, Decided, Wrote, Demand1}
-use Rattle.model.proofs.Tests.{none-some, not-both}
+use Rattle.model.specs.Calls.{written, roomRefusal, writeRefusal, checkTraceRefusal, checkTreeRefusal, traceToTreeRefusal, treeToTraceRefusal, countRefusal, entryCallRefusal, surveyRefusal}
+use Rattle.model.specs.Refusals.{Test, ofGrammar, ofAnalysis, ofDesk, ruleTests, fileTests, wordTests, sentenceTests, noRule, otherCategory, otherWord, stepTests, stepsTests, traceTests, daughtersBy, nodesTests, treeTests, roomTests, limitTests, effortTests, writeTests, checkTraceTests, checkTreeTests, traceToTreeTests, treeToTraceTests, countTests, entryTests, surveyTests}
+use Rattle.model.specs.Demands.{NoneMeets, First, Decided, Wrote, Demand1}
+use Rattle.model.proofs.Tests.{none-some}
+use Rattle.model.proofs.Room.{file-fits, tree-fits, trace-fits, entry-fits, figures-fit}
 
 -- the refusal of an author, with a number and a place
 abbrev refusalOf : Author → ℕ → ℕ → Refusal
@@ -150,9 +151,10 @@ count-by (some r) c e = refl
 by-tests : (ts : List Test) (o : Option Refusal) (n : ℕ) → firstMet ts ≡ o → Decided ts (n ∷ []) (verdictAnswer (verdict o n))
 by-tests ts o n e = subst (Decided ts (n ∷ [])) (verdict-by o n) (decided ts (n ∷ []) o e)
 
-wrote : (ts : List Test) (o : Option Refusal) (list out : List ℕ) → firstMet ts ≡ o → Wrote ts list out (written o list out)
-wrote ts none list out e = record { as-it-was = λ a n p f. none-some (sym (first-some ts a n p f) ∙ e); written = λ h. refl }
-wrote ts (some r) list out e = record { as-it-was = λ a n p f. refl; written = λ h. none-some (sym e ∙ none-met ts h) }
+wrote : (ts : List Test) (o : Option Refusal) (list out : List ℕ) → firstMet ts ≡ o → (o ≡ none → length list ≤ length out) → Wrote ts list out (written o list out)
+wrote ts none list out e room = record { as-it-was = λ a n p f. none-some (sym (first-some ts a n p f) ∙ e); written = λ h. refl; fits = λ h. room refl }
+wrote ts (some r) list out e room =
+    record { as-it-was = λ a n p f. refl; written = λ h. none-some (sym e ∙ none-met ts h); fits = λ h. none-some (sym e ∙ none-met ts h) }
 
 -- the tests of a call, part by part: the first that meets it gives o
 record Gives (ts : List Test) (o : Option Refusal) : Type 0 where
@@ -394,7 +396,7 @@ demand-1 =
       reader = λ file. by-tests (fileTests file) (grammarRefusal file) (rulesOf file) (file-gives file .first);
       writer = λ h records out. (
         by-tests (writeTests h records out) (writeRefusal h records out) (length (fileOf h records)) (write-gives h records out),
-        wrote (writeTests h records out) (writeRefusal h records out) (fileOf h records) out (write-gives h records out),
+        wrote (writeTests h records out) (writeRefusal h records out) (fileOf h records) out (write-gives h records out) (file-fits h records out),
       );
       trace-checker = λ file sentence trace.
           by-tests (checkTraceTests file sentence trace) (checkTraceRefusal file sentence trace) (length trace) (check-trace-gives file sentence trace .first);
@@ -403,12 +405,12 @@ demand-1 =
       trace-to-tree = λ file sentence trace out.
           let e = to-tree-gives file sentence trace out .first in (
             by-tests (traceToTreeTests file sentence trace out) (traceToTreeRefusal file sentence trace out) (length trace) e,
-            wrote (traceToTreeTests file sentence trace out) (traceToTreeRefusal file sentence trace out) (treeOf (grammarOf file) sentence trace) out e,
+            wrote (traceToTreeTests file sentence trace out) (traceToTreeRefusal file sentence trace out) (treeOf (grammarOf file) sentence trace) out e (tree-fits file sentence trace out),
           );
       tree-to-trace = λ file sentence tree out.
           let e = to-trace-gives file sentence tree out .first in (
             by-tests (treeToTraceTests file sentence tree out) (treeToTraceRefusal file sentence tree out) (length tree) e,
-            wrote (treeToTraceTests file sentence tree out) (treeToTraceRefusal file sentence tree out) (traceOf (grammarOf file) sentence tree) out e,
+            wrote (treeToTraceTests file sentence tree out) (treeToTraceRefusal file sentence tree out) (traceOf (grammarOf file) sentence tree) out e (trace-fits file sentence tree out),
           );
       counted = λ file sentence n limit.
           let c = count (grammarOf file) sentence n in
@@ -420,13 +422,13 @@ demand-1 =
           let e = entry-gives file sentence n limit m out .first in
           let x = entry (grammarOf file) sentence n m in (
             by-tests (entryTests file sentence n limit m out) (entryCallRefusal file sentence n limit m out) (length x) e,
-            wrote (entryTests file sentence n limit m out) (entryCallRefusal file sentence n limit m out) x out e,
+            wrote (entryTests file sentence n limit m out) (entryCallRefusal file sentence n limit m out) x out e (entry-fits file sentence n limit m out),
           );
       surveyed = λ file out answer after o.
           let e = survey-gives file out .first in (
             subst (λ (v : Verdict). Decided (surveyTests file out) (categoriesOf file ∷ []) (verdictAnswer v)) (sym (o .verdict-is))
                 (by-tests (surveyTests file out) (surveyRefusal file out) (categoriesOf file) e),
-            subst (λ (x : List ℕ). Wrote (surveyTests file out) (o .figures) out x) (sym (o .output-is)) (wrote (surveyTests file out) (surveyRefusal file out) (o .figures) out e),
+            subst (λ (x : List ℕ). Wrote (surveyTests file out) (o .figures) out x) (sym (o .output-is)) (wrote (surveyTests file out) (surveyRefusal file out) (o .figures) out e (λ none-is. figures-fit file out (o .figures) none-is (o .figures-right none-is))),
             λ h. o .figures-right (sym e ∙ none-met (surveyTests file out) h),
           );
     }

@@ -152,9 +152,6 @@ module _ (g : Grammar) where
   pub made-bound : (t t′ : RowState) (r steps : ℕ) → stepRow g t r ≡ moves t′ → t .made ≤ steps + t .pending → t′ .made ≤ suc steps + t′ .pending
   made-bound t t′ r steps e h = let c = step-counts t t′ r e in omega (arith, c .made, c .pending, h)
 
-  pub begin-bound : (sentence : List ℕ) → beginRow g sentence .made ≤ 0 + beginRow g sentence .pending
-  begin-bound sentence = omega arith
-
   -- of a run
   pub run-bound : (rs : List ℕ) (t t′ : RowState) (steps : ℕ) → runRow g t rs ≡ some t′ → t .made ≤ steps + t .pending → t′ .made ≤ steps + length rs + t′ .pending
   run-bound [] t t′ steps e h = let k : t ≡ t′ = cc in subst (λ (x : RowState). x .made ≤ steps + 0 + x .pending) k (omega (arith, h))

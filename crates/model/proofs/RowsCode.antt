@@ -1,23 +1,19 @@
--- What a loop over a row keeps, and a row whose slots are held as one number each.
+-- What a loop over a row keeps, and the parts of a slot that is held as one number.
 -- Assumes nothing.
 use mathlib.Core.Path.{_≡_, refl, sym, ap, ap₂, _∙_}
 use mathlib.Core.Bool.{Bool, true, false}
-use mathlib.Core.Option.{Option, none, some}
-use mathlib.Core.List.{List, [], _∷_, _++_, map, append-nil}
-use Prim.Native.Nat.{ℕ, zero, suc, _+_, _-_, _/_, _%_, _<_, _≤_}
+use mathlib.Core.Option.{Option, some}
+use mathlib.Core.List.{List, [], _∷_, _++_, append-nil}
+use Prim.Native.Nat.{ℕ, suc, _+_, _-_, _/_, _%_, _<_, _≤_}
 use native.Mathlib.Omega.{arith}
-use lib.Dec.{leb, eqb}
+use lib.Dec.{leb}
 use borrow.Author.Tests.{eq-eqb}
 use lib.ListN.{length, getD, take, drop, length-append, take-append-drop}
 use lib.Seq.{take-suc}
 use Rattle.model.specs.Base.{if_then_else_, each}
-use Rattle.model.specs.Grammar.{Variable, Rule, Grammar, ruleAt, isLexical, dimension}
-use Rattle.model.specs.GrammarFile.{grammarRefusal, grammarOf}
-use Rattle.model.specs.Rows.{Slot, RowState, moves, halts, scanRow, predictRow, applyRow, stepRow, extendByRow, extendRow, varSlot, block, expandSlot, expandRow, packed, packedVar, expandPackedSlot, expandPacked}
-use Rattle.model.proofs.Apart.{Every}
-use Rattle.model.proofs.FromFile.{dimensions-four, categories-few}
-use Rattle.model.proofs.RowsBounds.{Small, Reached, row-small}
-use Rattle.model.proofs.Lists.{map-append, each-append}
+use Rattle.model.specs.Grammar.{Rule, Grammar, ruleAt, isLexical}
+use Rattle.model.specs.Rows.{Slot, RowState, moves, halts, scanRow, predictRow, applyRow, stepRow, extendByRow, extendRow, packed}
+use Rattle.model.proofs.Lists.{each-append}
 
 -- one slot further
 
@@ -71,43 +67,3 @@ packed-cat s h = omega (arith, h .0, h .1)
 
 pub packed-comp : (s : Slot) → Fits s → packed s % 4 ≡ s .component
 packed-comp s h = omega (arith, h .0, h .1)
-
--- it is a number of 16 bits
-pub packed-bound : (s : Slot) → Fits s → s .owner < 256 → packed s < 65536
-packed-bound s h o = omega (arith, h .0, h .1, o)
-
-packed-block : (rule : Rule) (made : ℕ) (vs : List Variable) → map packed (map (varSlot rule made) vs) ≡ map (packedVar rule made) vs
-packed-block rule made [] = refl
-packed-block rule made (v ∷ vs) = ap (λ (l : List ℕ). packedVar rule made v ∷ l) (packed-block rule made vs)
-
-packed-slot : (rule : Rule) (made front : ℕ) (s : Slot) → Fits s → map packed (expandSlot rule made front s) ≡ expandPackedSlot rule made front (packed s)
-packed-slot rule made front s h = rw (packed-owner s h, packed-comp s h) (go (eqb (s .owner) front))
-  where
-    go : (b : Bool) → map packed (if b then block rule made (s .component) else s ∷ []) ≡ (if b then map (packedVar rule made) (getD (rule .components) (s .component) []) else packed s ∷ [])
-    go true = packed-block rule made (getD (rule .components) (s .component) [])
-    go false = refl
-
--- a step on numbers is the step on slots
-pub packed-row : (rule : Rule) (made front : ℕ) (row : List Slot) → Every Fits row → map packed (expandRow rule made front row) ≡ expandPacked rule made front (map packed row)
-packed-row rule made front [] h = refl
-packed-row rule made front (s ∷ row) h =
-    map-append packed (expandSlot rule made front s) (expandRow rule made front row)
-    ∙ ap₂ (λ (a b : List ℕ). a ++ b) (packed-slot rule made front s (h .0)) (packed-row rule made front row (h .1))
-
--- the slots of a grammar of at most 64 categories of at most 4 components fit
-
-in-range : (l : List ℕ) (i : ℕ) → 1 ≤ getD l i 0 → i < length l
-in-range [] i h = absurd (omega arith)
-in-range (x ∷ l) zero h = omega arith
-in-range (x ∷ l) (suc i) h = omega (arith, in-range l i h)
-
-pub small-fits : (g : Grammar) (made : ℕ) → length (g .dimensions) ≤ 64 → ((c : ℕ) → dimension g c ≤ 4) → (row : List Slot) → Every (Small g made) row → Every Fits row
-small-fits g made n d [] h = tt
-small-fits g made n d (s ∷ row) h = (
-  (omega (arith, in-range (g .dimensions) (s .category) (omega (arith, h .0 .1)), n), omega (arith, h .0 .1, d (s .category))),
-  small-fits g made n d row (h .1),
-)
-
-pub file-fits : (file : List ℕ) → grammarRefusal file ≡ none → (t : RowState) → Reached (grammarOf file) t → Every Fits (t .row)
-file-fits file accepted t h =
-    small-fits (grammarOf file) (t .made) (categories-few file accepted) (dimensions-four file accepted) (t .row) (row-small (grammarOf file) (h .0) t (h .1))

@@ -15,7 +15,6 @@ use Rattle.model.specs.Base.{if_then_else_}
 use Rattle.model.specs.Grammar.{Rule, Grammar, ruleAt}
 use Rattle.model.specs.WellFormed.{WellFormed}
 use Rattle.model.specs.Survey.{surveyRound, rounds, survey}
-use Rattle.model.specs.Examples.{copy}
 use Rattle.model.proofs.Lists.{number-below}
 use Rattle.model.proofs.Tests.{after-test}
 use Rattle.model.proofs.ByteLists.{zero-at}
@@ -137,7 +136,3 @@ module _ (g : Grammar) (well : WellFormed g) where
 
   pub survey-last : (m : ℕ) → length (g .dimensions) ≤ m → rounds g m ≡ survey g
   survey-last m = settled (length (g .dimensions)) m (closed-still g (suc (length (g .dimensions))) (survey g) survey-closed)
-
--- the survey of the copy grammar: A and B have trees of one node, P of height 2, S of height 3
-pub survey-copy : survey copy ≡ 3 ∷ 2 ∷ 1 ∷ 1 ∷ []
-survey-copy = refl

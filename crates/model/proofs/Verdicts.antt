@@ -13,7 +13,7 @@ use Rattle.model.specs.declared.Verdict.{Verdict}
 use Rattle.model.specs.declared.Tested.{Tested}
 use Rattle.model.specs.Base.{_orElse_}
 use Rattle.model.specs.declared.CountVerdict.{CountVerdict}
-use Rattle.model.specs.Verdict.{author, number, place, refusalAnswer, verdictAnswer, countAnswer, refuseIf, tested, verdict}
+use Rattle.model.specs.Verdict.{refusalAnswer, verdictAnswer, countAnswer, refuseIf, tested, verdict}
 use Rattle.model.specs.Grammar.{Grammar}
 use Rattle.model.specs.Trace.{firstUnknown, sentenceRefusal}
 use Rattle.model.specs.Calls.{roomRefusal}

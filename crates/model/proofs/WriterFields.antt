@@ -1,10 +1,11 @@
 -- The fields of the file that the writer makes are the numbers that it was given, and each block's check is right.
 -- Assumes nothing.
-use mathlib.Core.Path.{_≡_, refl, ap, _∙_}
+use mathlib.Core.Path.{_≡_, refl, ap, subst, _∙_}
 use mathlib.Core.Bool.{Bool, true, _&&_}
 use mathlib.Core.List.{List, [], _∷_, _++_}
 use Prim.Native.Nat.{ℕ, zero, suc, _+_, _-_, _*_, _/_, _%_, _<_, _≤_}
 use native.Mathlib.Omega.{arith}
+use native.Mathlib.Decide.{decLt}
 use lib.Dec.{T, ltb, eqb, ltb→lt, lt→ltb, eqb·suc-zero}
 use lib.ListN.{length, getD, replicate, getD-replicate, List·getD-append, List·getD-eq-default}
 use Rattle.model.specs.Base.{if_then_else_}
@@ -154,3 +155,19 @@ module _ (h : Heading) (records file : List ℕ) (w : Written h records file) wh
     pub written-check : (k : ℕ) → k < blocksFor (h .rules) → checkOf file k ≡ fourBytes file k 508
     written-check k hk =
         omega (arith, four-back (checkOf file k) (check-fits k hk), w .check k 0 hk (omega arith), w .check k 1 hk (omega arith), w .check k 2 hk (omega arith), w .check k 3 hk (omega arith))
+
+    -- the file is a list of bytes
+    pub written-bytes : Bytes file
+    written-bytes p = go (decLt p (length file)) (decLt (p % 512) 508)
+      where
+        go : Dec (p < length file) → Dec (p % 512 < 508) → getD file p 0 < 256
+        go (yes h) (yes i) =
+            let at : 512 * (p / 512) + p % 512 ≡ p = omega arith in
+            subst (λ (q : ℕ). getD file q 0 < 256) at (omega (arith, w .front (p / 512) (p % 512) (omega (arith, w .long)) i, content-bytes (p / 512) (p % 512)))
+        go (yes h) (no i) =
+            let at : 512 * (p / 512) + (508 + (p % 512 - 508)) ≡ p = omega arith in
+            let check = little2 (checkOf file (p / 512)) in
+            let bytes₄ = bytes-append check (little2 (checkOf file (p / 512) / 65536)) (bytes-little2 (checkOf file (p / 512))) (bytes-little2 (checkOf file (p / 512) / 65536)) in
+            subst (λ (q : ℕ). getD file q 0 < 256) at
+            (omega (arith, w .check (p / 512) (p % 512 - 508) (omega (arith, w .long)) (omega arith), bytes₄ (p % 512 - 508)))
+        go (no h) i = omega (arith, List·getD-eq-default file 0 {n = p} (omega arith))

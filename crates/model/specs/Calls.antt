@@ -20,7 +20,7 @@ use Rattle.model.specs.Conversions.{treeOf, traceOf}
 use Rattle.model.specs.Counting.{limitsRefusal, effortRefusal, entryRefusal, count, effort, entry}
 use Rattle.model.specs.Survey.{Surveyed}
 
--- "A refusal .. changes nothing lent"; "output past the last entry keeps its old numbers": the output after a call that writes `list` at its front
+-- "A refusal gives number and place (0 unless named) and changes nothing lent"; "output past the last entry keeps its old numbers": the output after a call that writes `list` at its front
 abbrev pub written : Option Refusal → List ℕ → List ℕ → List ℕ
 written none list out = list ++ drop (length list) out
 written (some r) list out = out

@@ -54,10 +54,11 @@ pub record Decided (tests : List Test) (result : List ℕ) (answer : Answer) : T
   pub refused : (author : Author) (number place : ℕ) → (answer ≡ refusal author number place) ⇔ First tests author number place
   pub accepted : (given : List ℕ) → (answer ≡ values given) ⇔ (NoneMeets tests × (given ≡ result))
 
--- an output goes by them too: after a refusal it is as it was, else `list` stands at its front and the rest is as it was
+-- an output goes by them too: after a refusal it is as it was, else `list`, which fits it, stands at its front and the rest is as it was
 pub record Wrote (tests : List Test) (list out after : List ℕ) : Type 0 where
   pub as-it-was : (author : Author) (number place : ℕ) → First tests author number place → after ≡ out
   pub written : NoneMeets tests → after ≡ list ++ drop (length list) out
+  pub fits : NoneMeets tests → length list ≤ length out
 
 -- Demand 1: "A malformed grammar, an overlong sentence or an unknown word in it, a broken trace or tree, a limit out of range, an effort limit that doesn't
 -- suffice, an entry past the count, a short buffer or what a later paper turns away is refused with the number and place in document 01 or that paper, and

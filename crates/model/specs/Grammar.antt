@@ -43,11 +43,11 @@ ruleAt g r = getElem? (g .rules) r
 abbrev pub variable : ℕ → ℕ → Variable
 variable j c = record { daughter = j; component = c }
 
--- "A lexical rule has no daughters, .. and it gives one word or the empty word."
+-- "A lexical rule has no daughters, A has dimension 1, and it gives one word or the empty word."
 abbrev pub lexical : ℕ → ℕ → Rule
 lexical category word = record { category = category; daughters = []; word = word; components = [] }
 
--- "A nonlexical rule has 1 to 3 daughters and, for each component of A, a sequence of variables."
+-- "A nonlexical rule has 1 to 3 daughters and, for each component of A, a sequence of variables, possibly of length 0."
 abbrev pub nonlexical : ℕ → List ℕ → List (List Variable) → Rule
 nonlexical category daughters components = record { category = category; daughters = daughters; word = 0; components = components }
 

@@ -44,7 +44,7 @@ weighted i (x ∷ xs) = i * x + weighted (suc i) xs
 abbrev pub checkOf : List ℕ → ℕ → ℕ
 checkOf file k = weighted 1 (fields file (512 * k) 508)
 
--- The heading: "byte 3 categories C; byte 4 start; bytes 5-6 words W; bytes 7-8 rules R; bytes 16-79 the dimensions"
+-- "Heading: byte 3 categories C (1 to 64); byte 4 start; bytes 5-6 words W (1 to 4,096); bytes 7-8 rules R (1 to 256); bytes 16-79 the dimensions."
 abbrev pub categoriesOf : List ℕ → ℕ
 categoriesOf file = byteOf file 0 3
 

@@ -12,7 +12,7 @@ use Rattle.model.specs.Verdict.{Author, grammarAuthor, analysisAuthor, d
 use Rattle.model.specs.Grammar.{Rule, Grammar, emptyWord, ruleAt, isLexical}
 use Rattle.model.specs.GrammarFile.{grammarOf, blocks, rulesOf, dimensionsOf, wordsOf, recordOf, wrongLength, wrongCheck, wrongBlock, wrongHeading, wrongBlocks, wrongCount, wrongRest, wrongCategory, wrongWord, wrongVariables, unusedSet, repeated}
 use Rattle.model.specs.Writer.{Heading, headingBlock, fileOf}
-use Rattle.model.specs.Step.{Prediction, State, Outcome, fails, leads, wordFits, step, begin}
+use Rattle.model.specs.Step.{Prediction, State, fails, leads, wordFits, step, begin}
 use Rattle.model.specs.Trace.{noNode}
 use Rattle.model.specs.Tree.{spells, treeOfList}
 use Rattle.model.specs.Counting.{count, effort}
@@ -102,8 +102,8 @@ stepTests rule s k =
     ∷ []
 
 module _ (g : Grammar) (sentence : List ℕ) where
-  -- "Step k from 0: 13 .. 17 queue longer than n-k-1 (place k+1). At the end 18 words left (words read)", from state s on. After a step that does not
-  -- apply there is no state to go on from.
+  -- "Step k from 0: 13 no such rule; 14 queue empty; 15 other category than the front; 16 word is not next; 17 queue longer than n-k-1 (place k+1). At
+  -- the end 18 words left (words read)", from state s on. After a step that does not apply there is no state to go on from.
   abbrev pub stepsTests : ℕ → State (Unit {0}) → List ℕ → List Test
   stepsTests k s [] = ofAnalysis 18 (length sentence - length (s .words)) (ltb 0 (length (s .words))) ∷ []
   stepsTests k s (r ∷ rs) =
@@ -144,8 +144,8 @@ module _ (g : Grammar) where
       andThen nodesTests 0 (g .start ∷ []) list
       andThen (ofAnalysis 22 0 (not (spells g sentence (treeOfList g list))) ∷ [])
 
--- "The desk, after the grammar and before 11: 23 output of fewer than 96 numbers. 24 N not 1 to 96, or effort limit not 1 to 1,000,000,000.
--- After 11: 25 effort above the limit. 26 entry m not below the count."
+-- "The desk, after the grammar and before 11": "23 output of fewer than 96 numbers"; "24 N not 1 to 96, or effort limit not 1 to 1,000,000,000". "After
+-- 11: 25 effort above the limit. 26 entry m not below the count."
 abbrev pub roomTests : List ℕ → List Test
 roomTests out = ofDesk 23 0 (ltb (length out) 96) ∷ []
 

@@ -2,7 +2,7 @@
 -- component of the front prediction, the variables of the rule's component; the front is the prediction that the first of the row belongs to.
 -- Nothing is sorted, and a component's rank is its place in the row.
 -- Assumes nothing.
-use Prim.Native.Nat.{ℕ, zero, suc, _+_, _-_, _*_, _/_, _%_}
+use Prim.Native.Nat.{ℕ, zero, suc, _+_, _-_, _*_}
 use mathlib.Core.Bool.{Bool, true, false}
 use mathlib.Core.List.{List, [], _∷_, _++_, map}
 use mathlib.Core.Option.{Option, none, some}
@@ -188,12 +188,3 @@ module _ (g : Grammar) where
 
 abbrev pub packed : Slot → ℕ
 packed s = (s .owner * 64 + s .category) * 4 + s .component
-
-abbrev pub packedVar : Rule → ℕ → Variable → ℕ
-packedVar rule made v = packed (varSlot rule made v)
-
-abbrev pub expandPackedSlot : Rule → ℕ → ℕ → ℕ → List ℕ
-expandPackedSlot rule made front x = if eqb (x / 256) front then map (packedVar rule made) (getD (rule .components) (x % 4) []) else x ∷ []
-
-abbrev pub expandPacked : Rule → ℕ → ℕ → List ℕ → List ℕ
-expandPacked rule made front row = each (expandPackedSlot rule made front) row

@@ -28,7 +28,7 @@ least [] = []
 least (i ∷ []) = i
 least (i ∷ j ∷ js) = lesser i (least (j ∷ js))
 
--- "A prediction is a category with one index per component." `node` is what the prediction stands for; no step looks at it.
+-- "A prediction is a category with one index per component"; `node` is what the prediction stands for; no step looks at it.
 pub record Prediction (A : Type 0) : Type 0 where
   pub category : ℕ
   pub indices : List Index
@@ -109,7 +109,7 @@ module _ {A : Type 0} where
   readWord w q [] = fails 16
   readWord w q (x ∷ xs) = if wordFits w x then leads (record { queue = q; words = xs }) else fails 16
 
-  -- "(the empty word takes none), and the front prediction goes"; "A scan drops no digit."
+  -- "(the empty word takes none), and the front prediction goes"; "A scan drops no digit"
   abbrev pub scan : ℕ → List (Prediction A) → List ℕ → Outcome A
   scan w q ws = if eqb w emptyWord then leads (record { queue = q; words = ws }) else readWord w q ws
 
@@ -126,7 +126,7 @@ module _ {A : Type 0} (child : A → ℕ → A) (g : Grammar) where
   abbrev pub expand : Rule → Prediction A → List (Prediction A)
   expand r p = daughtersFrom (p .node) (variableIndices (p .indices) (r .components)) 0 (r .daughters)
 
-  -- a nonlexical step: "The queue is sorted again. Then .. that digit is dropped"
+  -- a nonlexical step: "The queue is sorted again. Then, if every index begins with the same digit, that digit is dropped, one only."
   abbrev pub predict : Rule → Prediction A → List (Prediction A) → List ℕ → Outcome A
   predict r p q ws = leads (record { queue = trim (sort (expand r p ++ q)); words = ws })
 

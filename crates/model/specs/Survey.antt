@@ -34,7 +34,8 @@ pub record Fertile (g : Grammar) (category figure : ℕ) : Type 0 where
   pub from-one : 1 ≤ figure
   pub to-all : figure ≤ length (g .dimensions)
 
--- "Per category: 0 if no tree has it as root, otherwise a figure from 1 to C .. Which figure is free."
+-- "Per category: 0 if no tree has it as root, otherwise a figure from 1 to C such that a tree of at most that height exists (one node: height 1). Which
+-- figure is free."
 abbrev pub Figure : Grammar → ℕ → ℕ → Type 0
 Figure g category figure = ((figure ≡ 0) × Barren g category) ⊎ Fertile g category figure
 

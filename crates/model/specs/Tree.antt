@@ -22,7 +22,7 @@ mutual
     nil : Forest
     cons : Tree → Forest → Forest
 
--- "A tree is a list of .. rule numbers, parent before daughters, daughters in rule order."
+-- "A tree is a list of at most 96 rule numbers, parent before daughters, daughters in rule order."
 abbrev mutual
   pub preorder : Tree → List ℕ
   preorder (node r ts) = r ∷ preorders ts
@@ -31,7 +31,7 @@ abbrev mutual
   preorders nil = []
   preorders (cons t ts) = preorder t ++ preorders ts
 
--- "A lexical node's [yield] is its word, or the empty string for the empty word."
+-- "A lexical node's is its word, or the empty string for the empty word."
 abbrev pub wordString : ℕ → List ℕ
 wordString w = if eqb w emptyWord then [] else w ∷ []
 
@@ -52,8 +52,8 @@ abbrev mutual
   yields g nil = []
   yields g (cons t ts) = yield g t ∷ yields g ts
 
--- "the root's rule is of the [wanted] category, each daughter's rule is of the category that its parent's rule gives it, no number is missing or left
--- over": t is a tree with that category as root
+-- "each daughter's rule is of the category that its parent's rule gives it, no number is missing or left over", and the root's rule is of the category
+-- that is asked for: t is a tree with that category as root
 abbrev pub rootBy : Option Rule → ℕ → (List ℕ → Bool) → Bool
 rootBy none category roots = false
 rootBy (some rule) category roots = eqb (rule .category) category && roots (rule .daughters)

@@ -22,7 +22,7 @@ author (Grammar n p) = grammarAuthor
 author (Analysis n p) = analysisAuthor
 author (Desk n p) = desk
 
--- "a refusal gives number and place"
+-- "A refusal gives number and place (0 unless named)"
 abbrev pub number : Refusal → ℕ
 number (Grammar n p) = n
 number (Analysis n p) = n
@@ -60,7 +60,7 @@ abbrev pub tested : Option Refusal → Tested
 tested none = Passed
 tested (some r) = Met r
 
--- "a verdict is a node count or a refusal": the first refusal there is, or else the count
+-- a verdict is a refusal, the first there is, or else a count: "of the reader R", "of the survey C", "of the writer the file's length"
 abbrev pub verdict : Option Refusal → ℕ → Verdict
 verdict none n = Accepted n
 verdict (some r) n = Refused r

@@ -26,8 +26,8 @@ daughterVariables g j (d ∷ ds) = map (variable j) (numbersFrom 0 (dimension g 
 abbrev pub named : List (List Variable) → List Variable
 named components = each (λ c. c) components
 
--- "A lexical rule has no daughters, A has dimension 1"; "A nonlexical rule has .. for each component of A, a sequence of variables"; "Every variable
--- of every daughter occurs exactly once"; every daughter has a dimension from 1 on
+-- "A lexical rule has no daughters, A has dimension 1"; "for each component of A, a sequence of variables, possibly of length 0"; "Every
+-- variable of every daughter occurs exactly once"; every daughter has a dimension from 1 on
 pub record RightRule (g : Grammar) (rule : Rule) : Type 0 where
   pub word-alone : isLexical rule ≡ true → dimension g (rule .category) ≡ 1
   pub components : isLexical rule ≡ false → length (rule .components) ≡ dimension g (rule .category)

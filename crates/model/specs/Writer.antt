@@ -11,7 +11,7 @@ use Rattle.model.specs.Base.{_orElse_, each, numbersFrom, every}
 use Rattle.model.specs.Verdict.{refuseIf}
 use Rattle.model.specs.GrammarFile.{fields, weighted, blocksFor, recordsIn, recordOf, categoriesOf, startOf, wordsOf, rulesOf, wrongHeading, grammarRefusal}
 
--- "a heading's numbers, .. with the 64 dimension bytes"
+-- "a heading's numbers, each as wide as its field, with the 64 dimension bytes"
 pub record Heading : Type 0 where
   pub categories : ℕ
   pub start : ℕ
@@ -34,7 +34,7 @@ little2 n = n % 256 ∷ n / 256 % 256 ∷ []
 abbrev pub little4 : ℕ → List ℕ
 little4 n = little2 n ++ little2 (n / 65536)
 
--- "Unused bytes .. are 0": the bytes, with 0 up to n bytes
+-- "Unused bytes, and fields that a rule of its kind lacks, are 0": the bytes, with 0 up to n bytes
 abbrev pub padded : ℕ → List ℕ → List ℕ
 padded n bytes = fields (bytes ++ replicate n 0) 0 n
 

@@ -1,4 +1,4 @@
--- Tests and their answers: what a test that passed or failed makes of the tests joined with it, and of a loop of tests one turn further.
+-- Tests and their answers: one test, and a loop of tests one turn further.
 -- Assumes nothing.
 use mathlib.Core.Path.{_≡_, refl, sym}
 use mathlib.Core.Bool.{Bool, true, false, not}
@@ -9,11 +9,10 @@ use native.Mathlib.Numerals.{add-one}
 use borrow.Author.Tests.{leb-true, leb-false, lt-ltb, le-ltb}
 use lib.Dec.{leb, ltb}
 use Rattle.model.specs.declared.Refusal.{Refusal}
-use Rattle.model.specs.declared.Verdict.{Verdict}
-use Rattle.model.specs.declared.Verdict.the-variants.{Accepted, Refused}
-use Rattle.model.specs.Base.{_orElse_, firstFrom}
-use Rattle.model.specs.Verdict.{refuseIf, verdict}
-use Rattle.reader.specs.Reading.{tested}
+use Rattle.model.specs.declared.Tested.{Tested}
+use Rattle.model.specs.declared.Tested.the-variants.{Passed, Met}
+use Rattle.model.specs.Base.{firstFrom}
+use Rattle.model.specs.Verdict.{refuseIf, tested}
 
 -- "more than b" and "at most b"
 pub not-leb : (a b : ℕ) → not (leb a b) ≡ ltb b a
@@ -31,27 +30,10 @@ module _ (b : Bool) (r : Refusal) where
   pub refuse-off : b ≡ false → refuseIf b r ≡ none
   refuse-off e = rw e
 
--- what an answer says of the refusal
-pub none-by : (o : Option Refusal) {m : ℕ} → tested o ≡ Accepted m → o ≡ none
-none-by none e = refl
-none-by (some r) e = let z : _≡_ {A = ℕ} 0 1 = cc in absurd (omega arith)
-
-pub some-by : (o : Option Refusal) {r : Refusal} → tested o ≡ Refused r → o ≡ some r
-some-by none e = let z : _≡_ {A = ℕ} 0 1 = cc in absurd (omega arith)
-some-by (some q) e = cc
-
--- tests joined: the first refuses, or the rest decides
-module _ (a b : Option Refusal) (n : ℕ) where
-  pub join-stop : {r : Refusal} → a ≡ some r → verdict (a orElse b) n ≡ Refused r
-  join-stop e = rw e
-
-  pub join-pass : a ≡ none → verdict (a orElse b) n ≡ verdict b n
-  join-pass e = rw e
-
 -- a loop of tests, one turn further
 module _ (test : ℕ → Option Refusal) where
   -- what is left to test: from k to n, without n
-  abbrev pub left : ℕ → ℕ → Verdict
+  abbrev pub left : ℕ → ℕ → Tested
   left k n = tested (firstFrom test k (n - k))
 
   pub left-all : (n : ℕ) → tested (firstFrom test 0 n) ≡ left 0 n
@@ -60,8 +42,8 @@ module _ (test : ℕ → Option Refusal) where
   pub left-pass : (k n : ℕ) → k < n → test k ≡ none → left k n ≡ left (k + 1) n
   left-pass k n h e = let s : n - k ≡ suc (n - (k + 1)) = omega arith in rw (s, add-one k) (rw e)
 
-  pub left-stop : (k n : ℕ) {r : Refusal} → k < n → test k ≡ some r → left k n ≡ Refused r
+  pub left-stop : (k n : ℕ) {r : Refusal} → k < n → test k ≡ some r → left k n ≡ Met r
   left-stop k n h e = let s : n - k ≡ suc (n - (k + 1)) = omega arith in rw s (rw e)
 
-  pub left-end : (k n : ℕ) → n ≤ k → left k n ≡ Accepted 0
+  pub left-end : (k n : ℕ) → n ≤ k → left k n ≡ Passed
   left-end k n h = let e : n - k ≡ 0 = omega arith in rw e

@@ -15,9 +15,6 @@ use Rattle.reader.proofs.Answers.{not-leb}
 
 -- the number of 2 bytes, and of 4, at byte i of block k
 module _ (file : List ℕ) (k : ℕ) where
-  pub two-at : (i : ℕ) → getD file (512 * k + i) 0 + 256 * getD file (512 * k + i + 1) 0 ≡ twoBytes file k i
-  two-at i = let e : 512 * k + i + 1 ≡ 512 * k + (i + 1) = omega arith in rw e
-
   pub two-first : getD file (512 * k) 0 + 256 * getD file (512 * k + 1) 0 ≡ twoBytes file k 0
   two-first = let e : 512 * k + 0 ≡ 512 * k = omega arith in rw e
 

@@ -5,25 +5,21 @@ use mathlib.Core.Bool.{Bool, _&&_}
 use mathlib.Core.List.{List, _++_}
 use mathlib.Core.Option.{Option}
 use Rattle.model.specs.declared.Refusal.{Refusal}
-use Rattle.model.specs.declared.Verdict.{Verdict}
-use Rattle.model.specs.Base.{_orElse_, firstFrom}
-use Rattle.model.specs.Verdict.{refuseIf, verdict}
+use Rattle.model.specs.Base.{if_then_else_, _orElse_, firstFrom}
+use Rattle.model.specs.Verdict.{refuseIf}
 use lib.Dec.{ltb, eqb}
 use Rattle.model.specs.GrammarFile.{within, allZero, fields, categoriesOf, startOf, wordsOf, dimensionsOf, dimensionIn, field, variables, blocks, wrongCheck, wrongBlock, wrongHeading, wrongBlocks, wrongCount, wrongRest, ruleRefusal, rulesOf, wrongCategory, wrongWord, wrongVariables, unusedSet}
 
--- what a piece of the tests answers: `Accepted 0` where it refuses nothing
-abbrev pub tested : Option Refusal → Verdict
-tested refusal = verdict refusal 0
+-- whether the refusal of this number meets block k: 2 its check, 3 its number or kind, 5 its record count
+abbrev pub blockMeets : List ℕ → ℕ → ℕ → Bool
+blockMeets file number k = if eqb number 2 then wrongCheck file k else if eqb number 3 then wrongBlock file k else wrongCount file k
 
--- refusals 2 and 3 of n blocks, and 5 of n rule blocks
-abbrev pub checkRefusal : List ℕ → ℕ → Option Refusal
-checkRefusal file n = firstFrom (λ k. refuseIf (wrongCheck file k) (Refusal.Grammar 2 k)) 0 n
+-- the refusal of this number that meets block k, and that of the first of the blocks `from` to n - 1 that it meets
+abbrev pub blockRefusal : List ℕ → ℕ → ℕ → Option Refusal
+blockRefusal file number k = refuseIf (blockMeets file number k) (Refusal.Grammar number k)
 
-abbrev pub blockRefusal : List ℕ → ℕ → Option Refusal
-blockRefusal file n = firstFrom (λ k. refuseIf (wrongBlock file k) (Refusal.Grammar 3 k)) 0 n
-
-abbrev pub countRefusal : List ℕ → ℕ → Option Refusal
-countRefusal file n = firstFrom (λ k. refuseIf (wrongCount file k) (Refusal.Grammar 5 k)) 1 n
+abbrev pub blocksRefusal : List ℕ → ℕ → ℕ → ℕ → Option Refusal
+blocksRefusal file number from n = firstFrom (blockRefusal file number) from (n - from)
 
 -- refusal 4 in pieces: C, W and R in range; the start a category of dimension 1; the unused bytes 0
 abbrev pub numbersRight : List ℕ → Bool
@@ -62,9 +58,9 @@ abbrev pub fromRules : List ℕ → Option Refusal
 fromRules file = rulesRefusal file (rulesOf file) orElse refuseIf (wrongRest file) (Refusal.Grammar 9 (rulesOf file))
 
 abbrev pub fromCounts : List ℕ → Option Refusal
-fromCounts file = refuseIf (wrongBlocks file) (Refusal.Grammar 5 0) orElse countRefusal file (blocks file - 1) orElse fromRules file
+fromCounts file = refuseIf (wrongBlocks file) (Refusal.Grammar 5 0) orElse blocksRefusal file 5 1 (blocks file) orElse fromRules file
 
 abbrev pub fromBlocks : List ℕ → Option Refusal
 fromBlocks file =
-    checkRefusal file (blocks file) orElse blockRefusal file (blocks file) orElse refuseIf (wrongHeading file) (Refusal.Grammar 4 0)
+    blocksRefusal file 2 0 (blocks file) orElse blocksRefusal file 3 0 (blocks file) orElse refuseIf (wrongHeading file) (Refusal.Grammar 4 0)
     orElse fromCounts file

@@ -1,8 +1,8 @@
 // The tests of the blocks: refusals 1, 2, 3 and 5, and 9 of the rest of the last block.
 ghost use mathlib.Core.Path.{_≡_};
-ghost use Prim.Native.Nat.{_-_};
+ghost use Rattle.model.specs.Verdict.{tested};
 ghost use Rattle.model.specs.GrammarFile.{wrongLength, wrongCheck, wrongBlock, wrongCount, wrongBlocks, wrongRest, recordsIn, blocksFor};
-ghost use Rattle.reader.specs.Reading.{tested, checkRefusal, blockRefusal, countRefusal};
+ghost use Rattle.reader.specs.Reading.{blockMeets, blocksRefusal};
 use grammar::block_check;
 use grammar::byte;
 use grammar::fields;
@@ -12,7 +12,7 @@ use grammar::rules;
 use grammar::two_bytes;
 use grammar::zeros;
 use model::Refusal;
-use model::Verdict;
+use model::Tested;
 
 // Refusal 1: the length is not 512 times 1 to 14.
 pub fn wrong_length(file: &[u8]) -> bool
@@ -29,7 +29,7 @@ pub fn wrong_length(file: &[u8]) -> bool
 }
 
 // Refusal 2 of block k: the check is wrong.
-pub fn wrong_check(file: &[u8], k: u16) -> bool
+fn wrong_check(file: &[u8], k: u16) -> bool
     ensures { λ r. ⌜ r ≡ wrongCheck (now (file .entry)) k ⌝ }
 {
     let from = 512 * (k as usize);
@@ -37,7 +37,7 @@ pub fn wrong_check(file: &[u8], k: u16) -> bool
 }
 
 // Refusal 3 of block k: its number or its kind is wrong.
-pub fn wrong_block(file: &[u8], k: u16) -> bool
+fn wrong_block(file: &[u8], k: u16) -> bool
     ensures { λ r. ⌜ r ≡ wrongBlock (now (file .entry)) k ⌝ }
 {
     let from = 512 * (k as usize);
@@ -63,52 +63,37 @@ pub fn records_in(rules: u16, k: u16) -> usize
 }
 
 // Refusal 5 of rule block k: its record count is wrong.
-pub fn wrong_count(file: &[u8], k: u16) -> bool
+fn wrong_count(file: &[u8], k: u16) -> bool
     ensures { λ r. ⌜ r ≡ wrongCount (now (file .entry)) k ⌝ }
 {
     byte(file, 512 * (k as usize) + 3) as usize != records_in(rules(file), k)
 }
 
-// Refusal 2 of the first of n blocks.
-pub fn check_refusal(file: &[u8], n: u16) -> Verdict
-    ensures { λ r. ⌜ r ≡ tested (checkRefusal (now (file .entry)) n) ⌝ }
+// Whether the refusal of this number meets block k: 2 its check, 3 its number or kind, 5 its record count.
+fn block_meets(file: &[u8], number: u8, k: u16) -> bool
+    ensures { λ r. ⌜ r ≡ blockMeets (now (file .entry)) number k ⌝ }
 {
-    let mut k: u16 = 0;
-    while k < n {
-        if wrong_check(file, k) {
-            return Verdict::Refused(Refusal::Grammar(2, k));
-        }
-        k += 1;
+    if number == 2 {
+        return wrong_check(file, k);
     }
-    Verdict::Accepted(0)
+    if number == 3 {
+        return wrong_block(file, k);
+    }
+    wrong_count(file, k)
 }
 
-// Refusal 3 of the first of n blocks.
-pub fn block_refusal(file: &[u8], n: u16) -> Verdict
-    ensures { λ r. ⌜ r ≡ tested (blockRefusal (now (file .entry)) n) ⌝ }
+// The refusal of this number, 2, 3 or 5, at the first of the blocks `from` to n - 1 that it meets.
+pub fn blocks_refusal(file: &[u8], number: u8, from: u16, n: u16) -> Tested
+    ensures { λ t. ⌜ t ≡ tested (blocksRefusal (now (file .entry)) number from n) ⌝ }
 {
-    let mut k: u16 = 0;
+    let mut k: u16 = from;
     while k < n {
-        if wrong_block(file, k) {
-            return Verdict::Refused(Refusal::Grammar(3, k));
+        if block_meets(file, number, k) {
+            return Tested::Met(Refusal::Grammar(number, k));
         }
         k += 1;
     }
-    Verdict::Accepted(0)
-}
-
-// Refusal 5 of the first of the rule blocks, of n blocks.
-pub fn count_refusal(file: &[u8], n: u16) -> Verdict
-    ensures { λ r. ⌜ r ≡ tested (countRefusal (now (file .entry)) (n - 1)) ⌝ }
-{
-    let mut k: u16 = 1;
-    while k < n {
-        if wrong_count(file, k) {
-            return Verdict::Refused(Refusal::Grammar(5, k));
-        }
-        k += 1;
-    }
-    Verdict::Accepted(0)
+    Tested::Passed
 }
 
 // How many blocks so many rules take.

@@ -1,7 +1,8 @@
 // The tests of the rules: refusals 6 to 10.
 ghost use mathlib.Core.Path.{_≡_};
+ghost use Rattle.model.specs.Verdict.{tested};
 ghost use Rattle.model.specs.GrammarFile.{recordOf, repeated, ruleRefusal};
-ghost use Rattle.reader.specs.Reading.{tested, recordTests, rulesRefusal};
+ghost use Rattle.reader.specs.Reading.{recordTests, rulesRefusal};
 use crate::record_tests::unused_set;
 use crate::record_tests::wrong_category;
 use crate::record_tests::wrong_variables;
@@ -12,25 +13,25 @@ use grammar::same_record;
 use grammar::words;
 use model::Refusal;
 use model::RuleNumber;
-use model::Verdict;
+use model::Tested;
 
 // Refusals 6 to 9 of record e, which is that of rule r.
-pub fn record_refusal(dimensions: &[u8], words: u16, e: &[u8], r: RuleNumber) -> Verdict
-    ensures { λ v. ⌜ v ≡ tested (recordTests (now (dimensions .entry)) words (now (e .entry)) (r .0)) ⌝ }
+pub fn record_refusal(dimensions: &[u8], words: u16, e: &[u8], r: RuleNumber) -> Tested
+    ensures { λ t. ⌜ t ≡ tested (recordTests (now (dimensions .entry)) words (now (e .entry)) (r .0)) ⌝ }
 {
     if wrong_category(dimensions, e) {
-        return Verdict::Refused(Refusal::Grammar(6, r.0));
+        return Tested::Met(Refusal::Grammar(6, r.0));
     }
     if wrong_word(dimensions, e, words) {
-        return Verdict::Refused(Refusal::Grammar(7, r.0));
+        return Tested::Met(Refusal::Grammar(7, r.0));
     }
     if wrong_variables(dimensions, e) {
-        return Verdict::Refused(Refusal::Grammar(8, r.0));
+        return Tested::Met(Refusal::Grammar(8, r.0));
     }
     if unused_set(dimensions, e) {
-        return Verdict::Refused(Refusal::Grammar(9, r.0));
+        return Tested::Met(Refusal::Grammar(9, r.0));
     }
-    Verdict::Accepted(0)
+    Tested::Passed
 }
 
 // Refusal 10: the rule's record is equal to an earlier one.
@@ -50,30 +51,30 @@ fn repeated_rule(file: &[u8], r: RuleNumber) -> bool
 }
 
 // Refusals 6 to 10 of a rule.
-fn rule_refusal(file: &[u8], r: RuleNumber) -> Verdict
-    ensures { λ v. ⌜ v ≡ tested (ruleRefusal (now (file .entry)) (r .0)) ⌝ }
+fn rule_refusal(file: &[u8], r: RuleNumber) -> Tested
+    ensures { λ t. ⌜ t ≡ tested (ruleRefusal (now (file .entry)) (r .0)) ⌝ }
 {
-    let v = record_refusal(dimensions(file), words(file), record_of(file, r), r);
-    let Verdict::Accepted(_) = v else {
-        return v;
+    let alone = record_refusal(dimensions(file), words(file), record_of(file, r), r);
+    let Tested::Passed = alone else {
+        return alone;
     };
     if repeated_rule(file, r) {
-        return Verdict::Refused(Refusal::Grammar(10, r.0));
+        return Tested::Met(Refusal::Grammar(10, r.0));
     }
-    Verdict::Accepted(0)
+    Tested::Passed
 }
 
 // Refusals 6 to 10 of the first of n rules.
-pub fn rules_refusal(file: &[u8], n: u16) -> Verdict
-    ensures { λ v. ⌜ v ≡ tested (rulesRefusal (now (file .entry)) n) ⌝ }
+pub fn rules_refusal(file: &[u8], n: u16) -> Tested
+    ensures { λ t. ⌜ t ≡ tested (rulesRefusal (now (file .entry)) n) ⌝ }
 {
     let mut i: u16 = 0;
     while i < n {
-        let v = rule_refusal(file, RuleNumber(i));
-        let Verdict::Accepted(_) = v else {
-            return v;
+        let rule = rule_refusal(file, RuleNumber(i));
+        let Tested::Passed = rule else {
+            return rule;
         };
         i += 1;
     }
-    Verdict::Accepted(0)
+    Tested::Passed
 }

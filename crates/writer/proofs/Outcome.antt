@@ -9,17 +9,16 @@ use borrow.Author.Tests.{lt-ltb, le-ltb}
 use lib.Dec.{T, ltb, eqb, lt→ltb}
 use lib.ListN.{length, getD, drop}
 use Rattle.model.specs.declared.Refusal.{Refusal}
+use Rattle.model.specs.declared.Tested.{Tested}
 use Rattle.model.specs.declared.Verdict.{Verdict}
 use Rattle.model.specs.Base.{_orElse_}
-use Rattle.model.specs.Verdict.{refuseIf, verdict}
+use Rattle.model.specs.Verdict.{refuseIf, tested, verdict}
 use Rattle.model.specs.GrammarFile.{fields, blocksFor}
 use Rattle.model.specs.Writer.{Heading, allBytes, fitsFields, fileOf, writerRefusal}
 use Rattle.model.specs.Calls.{written, writeRefusal, writeVerdict, writeOutput}
 use Rattle.model.proofs.Tests.{every-by, and-both}
-use Rattle.model.proofs.Verdicts.{met}
 use Rattle.model.proofs.WriterFile.{file-length}
 use Rattle.model.proofs.WriterHeading.{wrongNumbers, writer-refusal}
-use Rattle.reader.specs.Reading.{tested}
 use Rattle.writer.specs.Writing.{heading, recordsRefusal}
 
 -- what is given is as wide as its fields
@@ -44,27 +43,27 @@ module _ (h : Heading) (records : List ℕ) (fits : T (fitsFields h)) (bytes : T
   abbrev byRecords : Option Refusal
   byRecords = recordsRefusal (fields (h .dimensions) 0 (h .categories)) (h .words) records (h .rules)
 
-  by-tests : {v : Verdict} → tested (refuseIf fewOrMany (Refusal.Grammar 4 0) orElse refuseIf (ltb 256 (h .rules)) (Refusal.Grammar 4 0)
-      orElse refuseIf (wrongNumbers h) (Refusal.Grammar 4 0) orElse refuseIf otherLength (Refusal.Grammar 5 0) orElse byRecords) ≡ v → v ≡ tested (writerRefusal h records)
+  by-tests : {t : Tested} → tested (refuseIf fewOrMany (Refusal.Grammar 4 0) orElse refuseIf (ltb 256 (h .rules)) (Refusal.Grammar 4 0)
+      orElse refuseIf (wrongNumbers h) (Refusal.Grammar 4 0) orElse refuseIf otherLength (Refusal.Grammar 5 0) orElse byRecords) ≡ t → t ≡ tested (writerRefusal h records)
   by-tests e = sym (ap tested (writer-refusal h records fits bytes) ∙ e)
 
-  pub no-dimensions : fewOrMany ≡ true → Verdict.Refused (Refusal.Grammar 4 0) ≡ tested (writerRefusal h records)
+  pub no-dimensions : fewOrMany ≡ true → Tested.Met (Refusal.Grammar 4 0) ≡ tested (writerRefusal h records)
   no-dimensions e = by-tests (rw e)
 
-  pub too-many-rules : fewOrMany ≡ false → ltb 256 (h .rules) ≡ true → Verdict.Refused (Refusal.Grammar 4 0) ≡ tested (writerRefusal h records)
+  pub too-many-rules : fewOrMany ≡ false → ltb 256 (h .rules) ≡ true → Tested.Met (Refusal.Grammar 4 0) ≡ tested (writerRefusal h records)
   too-many-rules d e = by-tests (rw (d, e))
 
-  pub no-heading : fewOrMany ≡ false → ltb 256 (h .rules) ≡ false → wrongNumbers h ≡ true → Verdict.Refused (Refusal.Grammar 4 0) ≡ tested (writerRefusal h records)
+  pub no-heading : fewOrMany ≡ false → ltb 256 (h .rules) ≡ false → wrongNumbers h ≡ true → Tested.Met (Refusal.Grammar 4 0) ≡ tested (writerRefusal h records)
   no-heading d r e = by-tests (rw (d, r) (ap (λ (b : Bool). tested (refuseIf b (Refusal.Grammar 4 0) orElse refuseIf otherLength (Refusal.Grammar 5 0) orElse byRecords)) e))
 
   module _ (d : fewOrMany ≡ false) (r : ltb 256 (h .rules) ≡ false) (n : wrongNumbers h ≡ false) where
-    after-heading : {v : Verdict} → tested (refuseIf otherLength (Refusal.Grammar 5 0) orElse byRecords) ≡ v → v ≡ tested (writerRefusal h records)
+    after-heading : {t : Tested} → tested (refuseIf otherLength (Refusal.Grammar 5 0) orElse byRecords) ≡ t → t ≡ tested (writerRefusal h records)
     after-heading e =
         by-tests
         (rw (d, r)
         (ap (λ (b : Bool). tested (refuseIf b (Refusal.Grammar 4 0) orElse refuseIf otherLength (Refusal.Grammar 5 0) orElse byRecords)) n ∙ e))
 
-    pub no-records : otherLength ≡ true → Verdict.Refused (Refusal.Grammar 5 0) ≡ tested (writerRefusal h records)
+    pub no-records : otherLength ≡ true → Tested.Met (Refusal.Grammar 5 0) ≡ tested (writerRefusal h records)
     no-records e = after-heading (rw e)
 
     pub records-decide : otherLength ≡ false → tested byRecords ≡ tested (writerRefusal h records)
@@ -82,8 +81,8 @@ module _ (h : Heading) (records out : List ℕ) where
   abbrev room : Option Refusal
   room = refuseIf (ltb (length out) (length (fileOf h records))) (Refusal.Desk 23 0)
 
-  pub refused-given : (v : Verdict) → v ≡ verdict (writerRefusal h records) 0 → {x : Refusal} → v ≡ Verdict.Refused x → Outcome v out
-  refused-given v e {x} f = refused x v (ap (λ (o : Option Refusal). o orElse room) (met (writerRefusal h records) 0 v e f)) f
+  pub refused-given : {x : Refusal} → writerRefusal h records ≡ some x → Outcome (Verdict.Refused x) out
+  refused-given {x} e = refused x (Verdict.Refused x) (ap (λ (o : Option Refusal). o orElse room) e) refl
 
   module _ (n : ℕ) (n-is : n ≡ 512 * blocksFor (h .rules)) (pass : writerRefusal h records ≡ none) where
     n-file : length (fileOf h records) ≡ n

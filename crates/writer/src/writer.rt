@@ -1,14 +1,15 @@
 // The writer: all tests in their order, and then the file.
 ghost use mathlib.Core.Path.{_≡_};
 ghost use Rattle.model.specs.Calls.{writeVerdict, writeOutput};
+ghost use Rattle.model.specs.Verdict.{tested};
 ghost use Rattle.model.specs.Writer.{writerRefusal};
-ghost use Rattle.reader.specs.Reading.{tested};
 ghost use Rattle.writer.specs.Writing.{heading};
 use crate::blocks::put_file;
 use crate::heading::wrong_numbers;
 use crate::records::records_refusal;
 use grammar::fields;
 use model::Refusal;
+use model::Tested;
 use model::Verdict;
 use reader::blocks_for;
 
@@ -20,20 +21,20 @@ fn given_refusal(
     rules: u16,
     dimensions: &[u8],
     records: &[u8],
-) -> Verdict
-    ensures { λ v. ⌜ v ≡ tested (writerRefusal (heading categories start words rules (now (dimensions .entry))) (now (records .entry))) ⌝ }
+) -> Tested
+    ensures { λ t. ⌜ t ≡ tested (writerRefusal (heading categories start words rules (now (dimensions .entry))) (now (records .entry))) ⌝ }
 {
     if dimensions.len() != 64 {
-        return Verdict::Refused(Refusal::Grammar(4, 0));
+        return Tested::Met(Refusal::Grammar(4, 0));
     }
     if 256 < rules {
-        return Verdict::Refused(Refusal::Grammar(4, 0));
+        return Tested::Met(Refusal::Grammar(4, 0));
     }
     if wrong_numbers(categories, start, words, rules, dimensions) {
-        return Verdict::Refused(Refusal::Grammar(4, 0));
+        return Tested::Met(Refusal::Grammar(4, 0));
     }
     if records.len() != 24 * (rules as usize) {
-        return Verdict::Refused(Refusal::Grammar(5, 0));
+        return Tested::Met(Refusal::Grammar(5, 0));
     }
     records_refusal(
         fields(dimensions, 0, categories as usize),
@@ -56,9 +57,9 @@ pub fn write_grammar(
     ensures { λ v. ⌜ (v ≡ writeVerdict (heading categories start words rules (now (dimensions .entry))) (now (records .entry)) (now (out .entry))) × (now (out .exit) ≡ writeOutput (heading categories start words rules (now (dimensions .entry))) (now (records .entry)) (now (out .entry))) ⌝ }
 {
     let given = given_refusal(categories, start, words, rules, dimensions, records);
-    let Verdict::Accepted(_) = given else {
-        return given;
-    };
+    if let Tested::Met(r) = given {
+        return Verdict::Refused(r);
+    }
     let n = 512 * blocks_for(rules);
     if out.len() < n {
         return Verdict::Refused(Refusal::Desk(23, 0));

@@ -2,9 +2,11 @@
 -- Assumes nothing.
 use mathlib.Core.Path.{_≡_, sym, _∙_}
 use Prim.Native.Nat.{_-_}
+use Rattle.model.specs.Verdict.{tested}
 use Rattle.model.specs.GrammarFile.{ruleRefusal}
-use Rattle.reader.specs.Reading.{tested, rulesRefusal}
-use Rattle.reader.proofs.Answers.{none-by, some-by, left, left-all, left-pass, left-stop, left-end}
+use Rattle.model.proofs.Verdicts.{tests-pass, tests-met}
+use Rattle.reader.specs.Reading.{rulesRefusal}
+use Rattle.reader.proofs.Answers.{left, left-all, left-pass, left-stop, left-end}
 use borrow.Author.Needs.{needs}
 use Rattle.reader.proofs.rule_tests.rules_refusal.Statement.{statement}
 use Rattle.reader.proofs.rule_tests.rules_refusal.Tie as tie
@@ -31,7 +33,7 @@ returns : tie.Need-returns Inv-loop μ-loop
 returns c =
     let file = c .before .before .before .before .before .before .args .file .now in
     let i = c .before .before .before .before .loop .i in
-    let stop = some-by (ruleRefusal file i) (sym (c .before .before .rule-refusal .ensures) ∙ c .enum-told2 .given .1) in
+    let stop = tests-met (ruleRefusal file i) (c .before .before .rule-refusal .result) (c .before .before .rule-refusal .ensures) (c .enum-told2 .given .1) in
     c .enum-told2 .given .1 ∙ sym (c .before .before .before .before .loop .inv ∙ left-stop (ruleRefusal file) i (c .before .before .before .before .before .before .args .n) (c .before .before .before .loop-test .taken) stop)
 
 add-i : tie.Need-add-i Inv-loop μ-loop
@@ -44,7 +46,7 @@ loop-again : tie.Need-loop-again Inv-loop μ-loop
 loop-again c =
     let file = c .before .before .before .before .before .before .args .file .now in
     let i = c .before .before .before .before .loop .i in
-    let pass = none-by (ruleRefusal file i) (sym (c .before .before .rule-refusal .ensures) ∙ c .enum-told .given .1) in
+    let pass = tests-pass (ruleRefusal file i) (c .before .before .rule-refusal .result) (c .before .before .rule-refusal .ensures) (c .enum-told .given .1) in
     c .before .before .before .before .loop .inv ∙ left-pass (ruleRefusal file) i (c .before .before .before .before .before .before .args .n) (c .before .before .before .loop-test .taken) pass
 
 returns-2 : tie.Need-returns-2 Inv-loop μ-loop

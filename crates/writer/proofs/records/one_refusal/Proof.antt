@@ -5,7 +5,8 @@ use mathlib.Core.List.{List}
 use Prim.Native.Nat.{ℕ}
 use Rattle.model.specs.declared.Refusal.{Refusal}
 use Rattle.model.specs.GrammarFile.{repeated}
-use Rattle.reader.specs.Reading.{tested, recordTests}
+use Rattle.model.specs.Verdict.{tested}
+use Rattle.reader.specs.Reading.{recordTests}
 use Rattle.reader.proofs.Answers.{refuse-on, refuse-off}
 use Rattle.writer.specs.Writing.{recordAt}
 use Rattle.reader.proofs.RuleTests.{record-stop, record-pass}
@@ -28,8 +29,8 @@ enum-told-2 c = search needs
 returns : tie.Need-returns
 returns c =
     let a = c .before .before .before .before .before .before .args in
-    let first = c .before .before .record-refusal .ensures ∙ ap (λ (e : List ℕ). tested (recordTests (a .dimensions .now) (a .words) e (a .i))) (c .before .before .before .record-at .ensures) in
-    c .enum-told2 .given .1 ∙ sym (record-stop (a .dimensions .now) (a .words) (recordAt (a .records .now)) (a .i) (sym first ∙ c .enum-told2 .given .1))
+    let first = c .before .before .record-refusal .ensures ∙ ap (λ (e : List ℕ). tested (recordTests (a .dimensions .now) (a .words) e (a .r .0))) (c .before .before .before .record-at .ensures) in
+    record-stop (a .dimensions .now) (a .words) (recordAt (a .records .now)) (a .r .0) (c .before .before .record-refusal .result) first (c .enum-told2 .given .1)
 
 repeated-record-requires : tie.Need-repeated-record-requires
 repeated-record-requires c κs = search needs
@@ -37,14 +38,16 @@ repeated-record-requires c κs = search needs
 returns-2 : tie.Need-returns-2
 returns-2 c =
     let a = c .before .before .before .before .before .before .before .before .args in
-    let first = c .before .before .before .before .record-refusal .ensures ∙ ap (λ (e : List ℕ). tested (recordTests (a .dimensions .now) (a .words) e (a .i))) (c .before .before .before .before .before .record-at .ensures) in
-    sym (record-pass (a .dimensions .now) (a .words) (recordAt (a .records .now)) (a .i) (sym first ∙ c .before .before .enum-told .given .1) ∙ ap tested (refuse-on (repeated (recordAt (a .records .now)) (a .i)) (Refusal.Grammar 10 (a .i)) (sym (c .before .repeated-record .ensures) ∙ c .if1 .taken)))
+    let first = c .before .before .before .before .record-refusal .ensures ∙ ap (λ (e : List ℕ). tested (recordTests (a .dimensions .now) (a .words) e (a .r .0))) (c .before .before .before .before .before .record-at .ensures) in
+    record-pass (a .dimensions .now) (a .words) (recordAt (a .records .now)) (a .r .0) (c .before .before .before .before .record-refusal .result) first (c .before .before .enum-told .given .1) _
+    (sym (ap tested (refuse-on (repeated (recordAt (a .records .now)) (a .r .0)) (Refusal.Grammar 10 (a .r .0)) (sym (c .before .repeated-record .ensures) ∙ c .if1 .taken))))
 
 returns-3 : tie.Need-returns-3
 returns-3 c =
     let a = c .before .before .before .before .before .before .before .before .args in
-    let first = c .before .before .before .before .record-refusal .ensures ∙ ap (λ (e : List ℕ). tested (recordTests (a .dimensions .now) (a .words) e (a .i))) (c .before .before .before .before .before .record-at .ensures) in
-    sym (record-pass (a .dimensions .now) (a .words) (recordAt (a .records .now)) (a .i) (sym first ∙ c .before .before .enum-told .given .1) ∙ ap tested (refuse-off (repeated (recordAt (a .records .now)) (a .i)) (Refusal.Grammar 10 (a .i)) (sym (c .before .repeated-record .ensures) ∙ c .if1 .left)))
+    let first = c .before .before .before .before .record-refusal .ensures ∙ ap (λ (e : List ℕ). tested (recordTests (a .dimensions .now) (a .words) e (a .r .0))) (c .before .before .before .before .before .record-at .ensures) in
+    record-pass (a .dimensions .now) (a .words) (recordAt (a .records .now)) (a .r .0) (c .before .before .before .before .record-refusal .result) first (c .before .before .enum-told .given .1) _
+    (sym (ap tested (refuse-off (repeated (recordAt (a .records .now)) (a .r .0)) (Refusal.Grammar 10 (a .r .0)) (sym (c .before .repeated-record .ensures) ∙ c .if1 .left))))
 
 pub one-refusal-spec : {M : Type 1} → statement M
 one-refusal-spec =

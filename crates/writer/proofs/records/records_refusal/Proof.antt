@@ -2,9 +2,10 @@
 -- Assumes nothing.
 use mathlib.Core.Path.{_≡_, sym, _∙_}
 use Prim.Native.Nat.{_-_}
+use Rattle.model.specs.Verdict.{tested}
 use Rattle.model.specs.GrammarFile.{recordRefusal}
-use Rattle.reader.specs.Reading.{tested}
-use Rattle.reader.proofs.Answers.{none-by, some-by, left, left-all, left-pass, left-stop, left-end}
+use Rattle.model.proofs.Verdicts.{tests-pass, tests-met}
+use Rattle.reader.proofs.Answers.{left, left-all, left-pass, left-stop, left-end}
 use Rattle.writer.specs.Writing.{recordAt, recordsRefusal}
 use borrow.Author.Needs.{needs}
 use Rattle.writer.proofs.records.records_refusal.Statement.{statement}
@@ -35,7 +36,7 @@ returns c =
     let a = c .before .before .before .before .before .before .before .args in
     let t = c .before .before .before .before in
     let test = recordRefusal (a .dimensions .now) (a .words) (recordAt (a .records .now)) in
-    let stop = some-by (test (t .loop .i)) (sym (c .before .before .one-refusal .ensures) ∙ c .enum-told2 .given .1) in
+    let stop = tests-met (test (t .loop .i)) (c .before .before .one-refusal .result) (c .before .before .one-refusal .ensures) (c .enum-told2 .given .1) in
     c .enum-told2 .given .1 ∙ sym (t .loop .inv ∙ left-stop test (t .loop .i) (a .n) (c .before .before .before .loop-test .taken) stop)
 
 add-i : tie.Need-add-i Inv-loop μ-loop
@@ -49,7 +50,7 @@ loop-again c =
     let a = c .before .before .before .before .before .before .before .args in
     let t = c .before .before .before .before in
     let test = recordRefusal (a .dimensions .now) (a .words) (recordAt (a .records .now)) in
-    let pass = none-by (test (t .loop .i)) (sym (c .before .before .one-refusal .ensures) ∙ c .enum-told .given .1) in
+    let pass = tests-pass (test (t .loop .i)) (c .before .before .one-refusal .result) (c .before .before .one-refusal .ensures) (c .enum-told .given .1) in
     t .loop .inv ∙ left-pass test (t .loop .i) (a .n) (c .before .before .before .loop-test .taken) pass
 
 returns-2 : tie.Need-returns-2 Inv-loop μ-loop

@@ -17,10 +17,10 @@ abbrev equal : List ℕ → ℕ → ℕ → Bool
 equal records i j = sameRecord (recordAt records j) (recordAt records i)
 
 abbrev Inv-loop : tie.InvT-loop
-Inv-loop records i e j₀ j = (j ≤ i) × (anyBelow (equal records i) j ≡ false)
+Inv-loop records e n j₀ j = (j ≤ n) × (anyBelow (equal records n) j ≡ false)
 
 abbrev μ-loop : tie.MeasureT-loop
-μ-loop records i e j₀ j = i - j
+μ-loop records e n j₀ j = n - j
 
 record-at-requires : tie.Need-record-at-requires Inv-loop μ-loop
 record-at-requires c κs = search needs
@@ -38,8 +38,8 @@ returns : tie.Need-returns Inv-loop μ-loop
 returns c =
     let a = c .before .before .before .before .before .before .before .args in
     let j = c .before .before .before .before .loop .j in
-    let found : equal (a .records .now) (a .i) j ≡ true = ap₂ sameRecord (sym (c .before .before .record-at2 .ensures)) (sym (c .before .before .before .before .before .record-at .ensures)) ∙ sym (c .before .same-record .ensures) ∙ c .if1 .taken in
-    sym (any-hit (equal (a .records .now) (a .i)) j (a .i) (c .before .before .before .loop-test .taken) found)
+    let found : equal (a .records .now) (a .r .0) j ≡ true = ap₂ sameRecord (sym (c .before .before .record-at2 .ensures)) (sym (c .before .before .before .before .before .record-at .ensures)) ∙ sym (c .before .same-record .ensures) ∙ c .if1 .taken in
+    sym (any-hit (equal (a .records .now) (a .r .0)) j (a .r .0) (c .before .before .before .loop-test .taken) found)
 
 add-j : tie.Need-add-j Inv-loop μ-loop
 add-j c = search needs
@@ -51,14 +51,14 @@ loop-again : tie.Need-loop-again Inv-loop μ-loop
 loop-again c =
     let a = c .before .before .before .before .before .before .before .args in
     let j = c .before .before .before .before .loop .j in
-    let other : equal (a .records .now) (a .i) j ≡ false = ap₂ sameRecord (sym (c .before .before .record-at2 .ensures)) (sym (c .before .before .before .before .before .record-at .ensures)) ∙ sym (c .before .same-record .ensures) ∙ c .if1 .left in
-    (omega arith, any-more (equal (a .records .now) (a .i)) j (c .before .before .before .before .loop .inv .1) other)
+    let other : equal (a .records .now) (a .r .0) j ≡ false = ap₂ sameRecord (sym (c .before .before .record-at2 .ensures)) (sym (c .before .before .before .before .before .record-at .ensures)) ∙ sym (c .before .same-record .ensures) ∙ c .if1 .left in
+    (omega arith, any-more (equal (a .records .now) (a .r .0)) j (c .before .before .before .before .loop .inv .1) other)
 
 returns-2 : tie.Need-returns-2 Inv-loop μ-loop
 returns-2 c =
     let a = c .before .before .before .before .args in
-    let end : c .before .loop .j ≡ a .i = omega arith in
-    sym (ap (anyBelow (equal (a .records .now) (a .i))) (sym end) ∙ c .before .loop .inv .1)
+    let end : c .before .loop .j ≡ a .r .0 = omega arith in
+    sym (ap (anyBelow (equal (a .records .now) (a .r .0))) (sym end) ∙ c .before .loop .inv .1)
 
 pub repeated-record-spec : {M : Type 1} → statement M
 repeated-record-spec =

@@ -7,7 +7,7 @@ use Prim.Native.Nat.{ℕ, _*_}
 use native.Mathlib.Omega.{arith}
 use borrow.Author.Tests.{lt-ltb, le-ltb, eq-eqb, ne-eqb}
 use lib.ListN.{length}
-use Rattle.reader.specs.Reading.{tested}
+use Rattle.model.specs.Verdict.{tested}
 use Rattle.writer.specs.Writing.{heading, recordsRefusal}
 use Rattle.writer.proofs.Outcome.{bytes-given, given-fits, no-dimensions, too-many-rules, no-heading, no-records, records-decide}
 use borrow.Author.Needs.{needs}

@@ -1,0 +1,154 @@
+-- The grammar of a file that the reader accepts can be stored, and its file is that file.
+-- Assumes nothing.
+use mathlib.Core.Path.{_≡_, refl, ap, ap₂, sym, subst, _∙_}
+use mathlib.Core.Bool.{Bool, true, false}
+use mathlib.Core.Option.{none, some}
+use mathlib.Core.List.{List, [], _∷_, _++_, map}
+use Prim.Native.Nat.{ℕ, _+_, _-_, _*_, _<_, zero, suc, _≤_}
+use native.Mathlib.Omega.{arith}
+use native.Mathlib.Decide.{decLt}
+use lib.Dec.{T, eqb, eqb-refl}
+use lib.ListN.{length, getD, List·getD-eq-default}
+use borrow.Author.Tests.{lt-ltb, le-ltb}
+use Rattle.model.specs.declared.Refusal.{Refusal}
+use Rattle.model.specs.Base.{if_then_else_, _orElse_, sameList, each, numbersFrom}
+use Rattle.model.specs.Verdict.{refuseIf}
+use Rattle.model.specs.Grammar.{Rule, Grammar, ruleAt, isLexical}
+use Rattle.model.specs.GrammarFile.{allZero, fields, field, daughtersOf, wordOf, dimensionIn, dimensionsOf, wordsOf, rulesOf, recordPlace, recordOf, lengthsOf, variables, sequences, sameRecord, repeated, unusedSet, wrongCategory, wrongWord, wrongVariables, ruleOf, grammarRefusal, grammarOf, categoriesOf, startOf}
+use Rattle.model.specs.Writer.{allBytes, padded, headingOf, fileOf}
+use Rattle.model.proofs.Tests.{and-both, not-both, no-refusal, first-of, rest-of, any-none}
+use Rattle.model.proofs.ByteLists.{bytes-at, bytes-fields, padded-length, padded-at, fields-length, fields-at}
+use Rattle.model.proofs.FileTests.{passed}
+use Rattle.model.proofs.FromFile.{rule-is, record-tested, dimensions-in, dimensions-length}
+use Rattle.model.proofs.RuleFromRecord.{daughters-length}
+use Rattle.model.proofs.WellFormed.{accepted-well, rules-length}
+use lib.Seq.{ext-getD}
+use Rattle.model.proofs.WriterBack.{written-again}
+use Rattle.grammar_to_file.specs.FileFor.{recordFor, headingFor, fileFor, Storable}
+use Rattle.grammar_to_file.proofs.RecordAgain.{record-again, zero-split, zero-field, zeros}
+
+list-same : (a : List ℕ) → T (sameList a a)
+list-same [] = tt
+list-same (x ∷ a) = and-both (eqb x x) (sameList a a) (eqb-refl x) (list-same a)
+
+module _ (file : List ℕ) (bytes : T (allBytes file)) (accepted : grammarRefusal file ≡ none) where
+  abbrev g : Grammar
+  g = grammarOf file
+
+  abbrev dimensions : List ℕ
+  dimensions = dimensionsOf file
+
+  -- refusals 9 and 10 of record r
+  record Later (r : ℕ) : Type 0 where
+    pub unused : unusedSet dimensions (recordOf file r) ≡ false
+    pub single : repeated (recordOf file) r ≡ false
+
+  later : (r : ℕ) → r < rulesOf file → Later r
+  later r h =
+      let a = passed file accepted .rule r h in
+      let e = recordOf file r in
+      let r₆ = refuseIf (wrongCategory dimensions e) (Refusal.Grammar 6 r) in
+      let r₇ = refuseIf (wrongWord dimensions e (wordsOf file)) (Refusal.Grammar 7 r) in
+      let r₈ = refuseIf (wrongVariables dimensions e) (Refusal.Grammar 8 r) in
+      let r₉ = refuseIf (unusedSet dimensions e) (Refusal.Grammar 9 r) in
+      let r₁₀ = refuseIf (repeated (recordOf file) r) (Refusal.Grammar 10 r) in
+      let b = rest-of r₈ (r₉ orElse r₁₀) (rest-of r₇ (r₈ orElse r₉ orElse r₁₀) (rest-of r₆ (r₇ orElse r₈ orElse r₉ orElse r₁₀) a)) in
+      record { unused = no-refusal (unusedSet dimensions e) (Refusal.Grammar 9 r) (first-of r₉ r₁₀ b); single = no-refusal (repeated (recordOf file) r) (Refusal.Grammar 10 r) (rest-of r₉ r₁₀ b) }
+
+  pub again : (r : ℕ) → r < rulesOf file → recordFor (ruleOf dimensions (recordOf file r)) ≡ recordOf file r
+  again r h = record-again g (recordOf file r) (record-tested file accepted r h) (dimensions-in file accepted) (later r h .unused) (bytes-fields file (recordPlace r) 24 (bytes-at file bytes))
+
+  -- no rule twice
+  apart : (i j : ℕ) → i < j → j < rulesOf file → ruleOf dimensions (recordOf file i) ≡ ruleOf dimensions (recordOf file j) → ⊥
+  apart i j h k e =
+      let same : recordOf file i ≡ recordOf file j = sym (again i (omega arith)) ∙ ap recordFor e ∙ again j k in
+      let t : T (sameRecord (recordOf file i) (recordOf file j)) = subst (λ (x : List ℕ). T (sameList (recordOf file i) x)) same (list-same (recordOf file i)) in
+      subst T (any-none (λ j′. sameRecord (recordOf file j′) (recordOf file j)) j (later j k .single) i h) t
+
+  differ : (r s : ℕ) (rule : Rule) → ruleAt g r ≡ some rule → ruleAt g s ≡ some rule → r ≡ s
+  differ r s rule e f = go (decLt r s) (decLt s r)
+    where
+      x : (r < rulesOf file) × (ruleOf dimensions (recordOf file r) ≡ rule)
+      x = rule-is file r rule e
+
+      y : (s < rulesOf file) × (ruleOf dimensions (recordOf file s) ≡ rule)
+      y = rule-is file s rule f
+
+      go : Dec (r < s) → Dec (s < r) → r ≡ s
+      go (yes h) k = absurd (apart r s h (y .0) (x .1 ∙ sym (y .1)))
+      go (no h) (yes k) = absurd (apart s r k (x .0) (y .1 ∙ sym (x .1)))
+      go (no h) (no k) = omega arith
+
+  -- no word where there are daughters, no components where there are none
+  some-daughter : (r : ℕ) → r < rulesOf file → isLexical (ruleOf dimensions (recordOf file r)) ≡ false → 0 < field (recordOf file r) 1
+  some-daughter r h l = go (daughtersOf (recordOf file r)) (daughters-length g (recordOf file r) (record-tested file accepted r h)) l
+    where
+      go : (x : List ℕ) → length x ≡ field (recordOf file r) 1 → _≡_ {A = Bool} (elim x [ [] ↦ true | d ∷ es ↦ false ]) false → 0 < field (recordOf file r) 1
+      go [] q e = not-both e
+      go (d ∷ x) q e = omega arith
+
+  no-daughter : (r : ℕ) → r < rulesOf file → isLexical (ruleOf dimensions (recordOf file r)) ≡ true → field (recordOf file r) 1 ≡ 0
+  no-daughter r h l = go (daughtersOf (recordOf file r)) (daughters-length g (recordOf file r) (record-tested file accepted r h)) l
+    where
+      go : (x : List ℕ) → length x ≡ field (recordOf file r) 1 → _≡_ {A = Bool} (elim x [ [] ↦ true | d ∷ es ↦ false ]) true → field (recordOf file r) 1 ≡ 0
+      go [] q e = sym q
+      go (d ∷ x) q e = not-both (sym e)
+
+  word-0 : (r : ℕ) (h : r < rulesOf file) → 0 < field (recordOf file r) 1 → wordOf (recordOf file r) ≡ 0
+  word-0 r h some-one =
+      let e = recordOf file r in
+      let n = field e 1 in
+      let m = dimensionIn dimensions (field e 0) in
+      let v = variables dimensions e in
+      let z = zeros g e (record-tested file accepted r h) (dimensions-in file accepted) (later r h .unused) (bytes-fields file (recordPlace r) 24 (bytes-at file bytes)) in
+      let all : T (allZero (fields e (2 + n) (3 - n) ++ fields e 5 2 ++ fields e (7 + m) (4 - m) ++ fields e (11 + v) (13 - v))) =
+      subst (λ (t : Bool). T (allZero (if t then fields e (2 + n) (3 - n) ++ fields e 5 2 ++ fields e (7 + m) (4 - m) ++ fields e (11 + v) (13 - v) else fields e 2 3 ++ fields e 7 17))) (lt-ltb 0 n some-one) z in
+      let a = zero-split (fields e (2 + n) (3 - n) ++ fields e 5 2 ++ fields e (7 + m) (4 - m)) (fields e (11 + v) (13 - v)) all .0 in
+      let b = zero-split (fields e (2 + n) (3 - n) ++ fields e 5 2) (fields e (7 + m) (4 - m)) a .0 in
+      let c = zero-split (fields e (2 + n) (3 - n)) (fields e 5 2) b .1 in
+      ap₂ (λ (x y : ℕ). x + 256 * y) (zero-field e 5 2 c 5 0 refl (omega arith)) (zero-field e 5 2 c 6 1 refl (omega arith))
+
+  pub stored : Storable g
+  stored =
+      record {
+        well = accepted-well file accepted;
+        no-word = λ r rule e l.
+            let x = rule-is file r rule e in
+            let l′ : isLexical (ruleOf dimensions (recordOf file r)) ≡ false = ap isLexical (x .1) ∙ l in
+            ap (λ (z : Rule). z .word) (sym (x .1)) ∙ word-0 r (x .0) (some-daughter r (x .0) l′);
+        no-components = λ r rule e l.
+            let x = rule-is file r rule e in
+            let l′ : isLexical (ruleOf dimensions (recordOf file r)) ≡ true = ap isLexical (x .1) ∙ l in
+            ap (λ (z : Rule). z .components) (sym (x .1))
+            ∙ ap (λ (t : Bool). if t then sequences (lengthsOf dimensions (recordOf file r)) (fields (recordOf file r) 11 12) else []) (le-ltb 0 (field (recordOf file r) 1) (omega (arith, no-daughter r (x .0) l′)));
+        differ = differ;
+      }
+
+  -- the grammar's heading is the file's, and its records are the file's
+  dimensions-again : padded 64 dimensions ≡ fields file 16 64
+  dimensions-again =
+      ext-getD 0 (padded 64 dimensions) (fields file 16 64) (padded-length 64 dimensions ∙ sym (fields-length file 16 64 room))
+      (λ j h. let k : j < 64 = omega (arith, padded-length 64 dimensions) in padded-at 64 dimensions j k ∙ at j (decLt j (categoriesOf file)) k ∙ sym (fields-at file 16 64 j k))
+    where
+      room : 16 + 64 ≤ length file
+      room = omega (arith, passed file accepted .long)
+
+      at : (j : ℕ) → Dec (j < categoriesOf file) → j < 64 → getD dimensions j 0 ≡ getD file (16 + j) 0
+      at j (yes h) k = fields-at file 16 (categoriesOf file) j h
+      at j (no h) k =
+          List·getD-eq-default dimensions 0 (omega (arith, dimensions-length file accepted))
+          ∙ sym (zero-field file (16 + categoriesOf file) (508 - (16 + categoriesOf file)) (passed file accepted .heading .rest) (16 + j) (j - categoriesOf file) (omega arith) (omega arith))
+
+  heading-again : headingFor g ≡ headingOf file
+  heading-again =
+      let c = dimensions-length file accepted in
+      let r = rules-length file in
+      let d = dimensions-again in
+      λ i. record { categories = c i; start = startOf file; words = wordsOf file; rules = r i; dimensions = d i }
+
+  records-again : (a n : ℕ) → a + n ≤ rulesOf file → each recordFor (map (λ i. ruleOf dimensions (recordOf file i)) (numbersFrom a n)) ≡ each (recordOf file) (numbersFrom a n)
+  records-again a zero h = refl
+  records-again a (suc n) h = ap₂ (λ (x y : List ℕ). x ++ y) (again a (omega arith)) (records-again (suc a) n (omega arith))
+
+  pub file-again : fileFor g ≡ file
+  file-again = ap₂ fileOf heading-again (records-again 0 (rulesOf file) (omega arith)) ∙ written-again file bytes accepted .0
