@@ -9,4 +9,4 @@ use Rattle.trees.specs.declared.tree_reader.Found.{Found}
 use Rattle.trees.specs.declared.tree_reader.Found.the-variants.{Rule, End}
 
 abbrev pub foundAt : List ℕ → ℕ → Found
-foundAt list place = if ltb place (length list) then Rule (getD list place 0) else End
+foundAt list place = if ltb place (length list) then Rule (record { 0 = getD list place 0 }) else End

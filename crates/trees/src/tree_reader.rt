@@ -3,6 +3,7 @@ ghost use mathlib.Core.Path.{_≡_};
 ghost use Prim.Native.Nat.{_+_, _<_, _≤_, _^_};
 ghost use lib.ListN.{length};
 ghost use Rattle.trees.specs.Found.{foundAt};
+use model::RuleNumber;
 
 // "parent before daughters, daughters in rule order": what stands at the place is the next node.
 pub struct TreeReader<'a> {
@@ -12,7 +13,7 @@ pub struct TreeReader<'a> {
 
 // A rule number, or the list has ended.
 pub enum Found {
-    Rule(u16),
+    Rule(RuleNumber),
     End,
 }
 
@@ -21,7 +22,7 @@ pub fn look(list: &[u16], place: usize) -> Found
     ensures { λ r. ⌜ r ≡ foundAt (now (list .entry)) place ⌝ }
 {
     if place < list.len() {
-        Found::Rule(list[place])
+        Found::Rule(RuleNumber(list[place]))
     } else {
         Found::End
     }

@@ -84,7 +84,7 @@ more t c =
 -- the rule number that is found at the node's place
 placed : (t : ℕ) (c : read-node-lts.After-known-told (read-node-calls t) (read-node-at t) read-node.Post)
     → let a = c .before .before .before .before .before .before .args in
-    (a .k < length (a .list .now)) × (c .before .found .given .0 .0 ≡ getD (a .list .now) (a .k) 0)
+    (a .k < length (a .list .now)) × (c .before .found .given .0 .0 .0 ≡ getD (a .list .now) (a .k) 0)
 placed t c = found-rule (c .before .before .before .before .before .before .args .list .now) (c .before .before .before .before .before .before .args .k) (c .before .found .given .0 .0) (sym (c .before .before .before .rule-at .ensures) ∙ c .before .found .given .1)
 
 read-daughters-daughter-count-requires : (t : ℕ) → read-daughters-lts.Need-daughter-count-requires (read-daughters-calls t) (read-daughters-at t) read-daughters.Post
@@ -147,8 +147,8 @@ read-node-enum-known-found t c = search needs
 read-node-enum-told : (t : ℕ) → read-node-lts.Need-enum-told (read-node-calls t) (read-node-at t) read-node.Post
 read-node-enum-told t c = search needs
 
-read-node-cast-t12 : (t : ℕ) → read-node-lts.Need-cast-t12 (read-node-calls t) (read-node-at t) read-node.Post
-read-node-cast-t12 t c = search needs
+read-node-cast-t11 : (t : ℕ) → read-node-lts.Need-cast-t11 (read-node-calls t) (read-node-at t) read-node.Post
+read-node-cast-t11 t c = search needs
 
 read-node-returns : (t : ℕ) → read-node-lts.Need-returns (read-node-calls t) (read-node-at t) read-node.Post
 read-node-returns t c =
@@ -160,8 +160,8 @@ read-node-returns t c =
 read-node-rules-requires : (t : ℕ) → read-node-lts.Need-rules-requires (read-node-calls t) (read-node-at t) read-node.Post
 read-node-rules-requires t c κs = search needs
 
-read-node-cast-t16 : (t : ℕ) → read-node-lts.Need-cast-t16 (read-node-calls t) (read-node-at t) read-node.Post
-read-node-cast-t16 t c = search needs
+read-node-cast-t15 : (t : ℕ) → read-node-lts.Need-cast-t15 (read-node-calls t) (read-node-at t) read-node.Post
+read-node-cast-t15 t c = search needs
 
 read-node-returns-2 : (t : ℕ) → read-node-lts.Need-returns-2 (read-node-calls t) (read-node-at t) read-node.Post
 read-node-returns-2 t c =
@@ -173,8 +173,8 @@ read-node-returns-2 t c =
 read-node-category-of-requires : (t : ℕ) → read-node-lts.Need-category-of-requires (read-node-calls t) (read-node-at t) read-node.Post
 read-node-category-of-requires t c κs = search needs
 
-read-node-cast-t19 : (t : ℕ) → read-node-lts.Need-cast-t19 (read-node-calls t) (read-node-at t) read-node.Post
-read-node-cast-t19 t c = search needs
+read-node-cast-t18 : (t : ℕ) → read-node-lts.Need-cast-t18 (read-node-calls t) (read-node-at t) read-node.Post
+read-node-cast-t18 t c = search needs
 
 read-node-returns-3 : (t : ℕ) → read-node-lts.Need-returns-3 (read-node-calls t) (read-node-at t) read-node.Post
 read-node-returns-3 t c =
@@ -203,7 +203,7 @@ read-node-cast-ends : (t : ℕ) → read-node-lts.Need-cast-ends (read-node-call
 read-node-cast-ends t c =
     let a = c .before .before .before .before .before .before .before .before .before .before .before .before .before .before .before .before .before .before .args in
     let p = c .before .before .before .before .before .before .before .before .before .before .before .before .before .before .before .before .before .before .pre .1 in
-    let f = subst (Reading (grammarOf (a .file .now)) (a .list .now) (drop 0 (below (grammarOf (a .file .now)) (c .before .before .before .before .before .before .before .before .before .before .before .before .before .found .given .0 .0))) (a .k + 1) (a .ends .now) _) (c .before .after .given .1) (c .before .before .before .read-daughters .ensures) in
+    let f = subst (Reading (grammarOf (a .file .now)) (a .list .now) (drop 0 (below (grammarOf (a .file .now)) (c .before .before .before .before .before .before .before .before .before .before .before .before .before .found .given .0 .0 .0))) (a .k + 1) (a .ends .now) _) (c .before .after .given .1) (c .before .before .before .read-daughters .ensures) in
     omega (arith, f .says .within, p .1)
 
 read-node-mul-ends : (t : ℕ) → read-node-lts.Need-mul-ends (read-node-calls t) (read-node-at t) read-node.Post
@@ -257,13 +257,13 @@ pub +read-daughters+read-node-spec : {M : Type 1} → statement M
     (read-node-rule-at-requires t)
     (read-node-enum-known-found t)
     (read-node-enum-told t)
-    (read-node-cast-t12 t)
+    (read-node-cast-t11 t)
     (read-node-returns t)
     (read-node-rules-requires t)
-    (read-node-cast-t16 t)
+    (read-node-cast-t15 t)
     (read-node-returns-2 t)
     (read-node-category-of-requires t)
-    (read-node-cast-t19 t)
+    (read-node-cast-t18 t)
     (read-node-returns-3 t)
     (read-node-add-read-daughters t)
     (read-node-read-daughters-requires t)
