@@ -7,7 +7,7 @@ ghost use lib.ListN.{length, drop};
 ghost use Rattle.model.specs.GrammarFile.{rulesOf, grammarRefusal, grammarOf};
 ghost use Rattle.trees.specs.Reader.{below, Reading, ReadAll};
 use crate::tree_reader::Found;
-use crate::tree_reader::rule_at;
+use crate::tree_reader::take_at;
 use grammar::category_of;
 use grammar::daughter;
 use grammar::daughter_count;
@@ -29,8 +29,8 @@ pub fn read_node(file: &[u8], list: &[u16], k: usize, a: Category, ends: &mut [u
     requires { ⌜ (grammarRefusal (now file) ≡ none) × (length (now list) ≤ 96) × (k ≤ length (now list)) × (length (now ends) ≡ 96) ⌝ }
     ensures { λ p. ⌜ Reading (grammarOf (now (file .entry))) (now (list .entry)) (a .0 ∷ []) k (now (ends .entry)) (now (ends .exit)) p ⌝ }
 {
-    let found = rule_at(list, k);
-    let Found::Rule(r) = found else {
+    let found = take_at(list, k);
+    let Found::Rule(r, next) = found else {
         return Place::Stop(Refusal::Analysis(19, list.len() as u16));
     };
     if rules(file) <= r.0 {
@@ -39,7 +39,7 @@ pub fn read_node(file: &[u8], list: &[u16], k: usize, a: Category, ends: &mut [u
     if category_of(file, r).0 != a.0 {
         return Place::Stop(Refusal::Analysis(20, k as u16));
     }
-    let after = read_daughters(file, list, r, 0, k + 1, ends);
+    let after = read_daughters(file, list, r, 0, next, ends);
     match after {
         Place::Next(e) => {
             ends[k] = e as u16;
