@@ -13,7 +13,7 @@ use Rattle.model.specs.GrammarFile.{grammarRefusal, grammarOf}
 use Rattle.model.specs.Trace.{sentenceRefusal}
 use Rattle.model.specs.Calls.{written, roomRefusal}
 use Rattle.model.proofs.Tests.{first-of, rest-of, last-apart}
-use Rattle.model.proofs.Verdicts.{met, stopped, sentence-short, room-long}
+use Rattle.model.proofs.Verdicts.{refused, sentence-short, room-long}
 use Rattle.derivation.specs.TreeRun.{beforeInput}
 
 module _ (file sentence out : List ℕ) where
@@ -48,7 +48,7 @@ module _ (file sentence out : List ℕ) where
         let a : own ≡ call = sym (call-is ∙ ap (λ (o : Option Refusal). o orElse own) e) in
         (f .0 ∙ ap (λ (o : Option Refusal). verdict o n) a, f .1 ∙ ap (λ (o : Option Refusal). written o list out) a)
 
-    pub refused-call : (v : Verdict) → v ≡ verdict B 0 → {x : Refusal} → v ≡ Verdict.Refused x → (v ≡ verdict call n) × (out ≡ written call list out)
-    refused-call v e {x} f =
-        let b : (B orElse own) ≡ some x = ap (λ (o : Option Refusal). o orElse own) (met B 0 v e f) in
-        (stopped B 0 v e own n f ∙ ap (λ (o : Option Refusal). verdict o n) (sym call-is), sym (ap (λ (o : Option Refusal). written o list out) (call-is ∙ b)))
+    pub refused-call : (x : Refusal) → B ≡ some x → (Verdict.Refused x ≡ verdict call n) × (out ≡ written call list out)
+    refused-call x e =
+        let met : call ≡ some x = call-is ∙ ap (λ (o : Option Refusal). o orElse own) e in
+        (refused call n x met, sym (ap (λ (o : Option Refusal). written o list out) met))

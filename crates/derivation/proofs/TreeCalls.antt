@@ -37,10 +37,10 @@ module _ (g : Grammar) (sentence list : List ℕ) where
     by-nodes o e =
         ap₂ (λ (b : Bool) (o : Option Refusal). refuseIf b (Refusal.Analysis 12 0) orElse o orElse refuseIf (not (spells g sentence (treeOfList g list))) (Refusal.Analysis 22 0)) (le-ltb 96 (length list) few) e
 
-    pub tree-met : (v : Verdict) → v ≡ verdict (nodesRefusal g 0 (g .start ∷ []) list) 0 → {x : Refusal} → v ≡ Verdict.Refused x → (after : List ℕ) → TreeSays g sentence list after v
-    tree-met v is {x} e after =
-        let f = by-nodes (some x) (met N 0 v is e) in
-        record { answer = e ∙ refused (treeRefusal g sentence list) (length list) x f; stored = λ z. none-some (sym f ∙ z) }
+    pub tree-met : (x : Refusal) → nodesRefusal g 0 (g .start ∷ []) list ≡ some x → (after : List ℕ) → TreeSays g sentence list after (Verdict.Refused x)
+    tree-met x e after =
+        let f = by-nodes (some x) e in
+        record { answer = refused (treeRefusal g sentence list) (length list) x f; stored = λ z. none-some (sym f ∙ z) }
 
     module _ (tested : nodesRefusal g 0 (g .start ∷ []) list ≡ none) (after : List ℕ) where
       by-yield : (b : Bool) → b ≡ spells g sentence (treeOfList g list) → treeRefusal g sentence list ≡ refuseIf (not b) (Refusal.Analysis 22 0)

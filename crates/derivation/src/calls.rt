@@ -8,7 +8,7 @@ ghost use Rattle.model.specs.Calls.{written, checkTreeVerdict, treeToTraceVerdi
 ghost use Rattle.model.specs.Conversions.{traceOf};
 ghost use Rattle.model.specs.GrammarFile.{grammarRefusal, grammarOf};
 ghost use Rattle.model.specs.Tree.{nodesRefusal, treeRefusal};
-ghost use Rattle.model.specs.Verdict.{verdict};
+ghost use Rattle.model.specs.Verdict.{tested, verdict};
 ghost use Rattle.trees.specs.Places.{Ended};
 ghost use Rattle.derivation.specs.TreeRun.{Spelled, TreeSays, beforeInput};
 use crate::run::run_tree;
@@ -16,8 +16,9 @@ use buffers::room_refusal;
 use buffers::write_front;
 use grammar::start;
 use model::Refusal;
+use model::Tested;
 use model::Verdict;
-use reader::read_grammar;
+use reader::grammar_refusal;
 use recognizer::sentence_refusal;
 use rows::row::first_row;
 use rows::rules::compile;
@@ -66,9 +67,9 @@ pub fn trace_tree(file: &[u8], sentence: &[u16], list: &[u16], trace: &mut [u16;
     }
     let mut ends = [0u16; 96];
     let nodes = read_tree(file, list, &mut ends);
-    let Verdict::Accepted(_) = nodes else {
-        return nodes;
-    };
+    if let Tested::Met(r) = nodes {
+        return Verdict::Refused(r);
+    }
     if spells(file, sentence, list, &ends, trace) {
         Verdict::Accepted(list.len() as u64)
     } else {
@@ -80,28 +81,28 @@ pub fn trace_tree(file: &[u8], sentence: &[u16], list: &[u16], trace: &mut [u16;
 pub fn check_tree(file: &[u8], sentence: &[u16], tree: &[u16]) -> Verdict
     ensures { λ v. ⌜ v ≡ checkTreeVerdict (now (file .entry)) (now (sentence .entry)) (now (tree .entry)) ⌝ }
 {
-    let read = read_grammar(file);
-    let Verdict::Accepted(_) = read else {
-        return read;
-    };
-    let known = sentence_refusal(file, sentence);
-    let Verdict::Accepted(_) = known else {
-        return known;
-    };
+    let grammar = grammar_refusal(file);
+    if let Tested::Met(r) = grammar {
+        return Verdict::Refused(r);
+    }
+    let words = sentence_refusal(file, sentence);
+    if let Tested::Met(r) = words {
+        return Verdict::Refused(r);
+    }
     let mut trace = [0u16; 96];
     trace_tree(file, sentence, tree, &mut trace)
 }
 
 // What a conversion tests before its input: the grammar, 23, 11.
-pub fn conversion_tests(file: &[u8], sentence: &[u16], out: &[u16]) -> Verdict
-    ensures { λ v. ⌜ v ≡ verdict (beforeInput (now (file .entry)) (now (sentence .entry)) (now (out .entry))) 0 ⌝ }
+pub fn conversion_tests(file: &[u8], sentence: &[u16], out: &[u16]) -> Tested
+    ensures { λ t. ⌜ t ≡ tested (beforeInput (now (file .entry)) (now (sentence .entry)) (now (out .entry))) ⌝ }
 {
-    let read = read_grammar(file);
-    let Verdict::Accepted(_) = read else {
-        return read;
+    let grammar = grammar_refusal(file);
+    let Tested::Passed = grammar else {
+        return grammar;
     };
     let room = room_refusal(out);
-    let Verdict::Accepted(_) = room else {
+    let Tested::Passed = room else {
         return room;
     };
     sentence_refusal(file, sentence)
@@ -129,7 +130,7 @@ pub fn tree_to_trace(file: &[u8], sentence: &[u16], tree: &[u16], out: &mut [u16
 {
     let tests = conversion_tests(file, sentence, out);
     match tests {
-        Verdict::Accepted(_) => write_trace(file, sentence, tree, out),
-        Verdict::Refused(_) => tests,
+        Tested::Passed => write_trace(file, sentence, tree, out),
+        Tested::Met(r) => Verdict::Refused(r),
     }
 }

@@ -26,7 +26,6 @@ use Rattle.model.proofs.RowsAgree.{rows-agree}
 use Rattle.rows.specs.Row.{stateOf, FirstRow}
 use Rattle.recognizer.specs.Traces.{Runs, takenRow}
 
--- every step of an accepted trace takes a prediction
 -- the first row is that of the beginning
 pub begins : (file sentence : List ℕ) {q : List ℕ} {c : ℕ} → c ≡ startOf file → FirstRow c q → stateOf q 0 1 1 1 sentence ≡ beginRow (grammarOf file) sentence
 begins file sentence start first =
@@ -34,6 +33,7 @@ begins file sentence start first =
     (first .row ∙ ap (λ (x : ℕ). record { owner = 0; category = x; component = 0 } ∷ []) start)
 
 module _ (g : Grammar) (sentence : List ℕ) where
+  -- every step of an accepted trace takes a prediction
   pub taken-length : (k : ℕ) (s : RowState) (rs : List ℕ) → stepsRefusalRow g sentence k s rs ≡ none → length (takenRow g s rs) ≡ length rs
   taken-length k s [] h = refl
   taken-length k s (r ∷ rs) h = go (stepRow g s r) h (λ s′ e. taken-length (suc k) s′ rs e)

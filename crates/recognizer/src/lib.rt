@@ -5,5 +5,4 @@ mod trace;
 
 pub use sentence::sentence_refusal;
 pub use trace::check_trace;
-pub use trace::run;
 pub use trace::run_trace;

@@ -35,7 +35,7 @@ pub fn fits(word: Word, place: u16) -> bool
 }
 
 // A lexical step: the word must be the next one, and the empty word takes none.
-pub fn scan(word: Word, sentence: &[u16], read: usize) -> Stepped
+fn scan(word: Word, sentence: &[u16], read: usize) -> Stepped
     ensures { λ s. ⌜ s ≡ scanAnswer (word .0) (now (sentence .entry)) read ⌝ }
 {
     if word.0 == 65535 {

@@ -23,7 +23,7 @@ use rows::rules::compile;
 
 // Steps k and after of the trace, from the row q[from..to], with so many words read. Answers the trace's verdict, and stores for each step the number of
 // the prediction that it takes.
-pub fn run(
+fn run(
     file: &[u8],
     t: &[u16; 8192],
     sentence: &[u16],
@@ -42,7 +42,8 @@ pub fn run(
 {
     if trace.len() <= k {
         if read < sentence.len() {
-            return Verdict::Refused(Refusal::Analysis(18, read as u16));
+            let place = read as u16;
+            return Verdict::Refused(Refusal::Analysis(18, place));
         }
         return Verdict::Accepted(k as u64);
     }

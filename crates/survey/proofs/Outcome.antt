@@ -9,30 +9,29 @@ use Rattle.model.specs.declared.Refusal.{Refusal}
 use Rattle.model.specs.declared.Verdict.{Verdict}
 use Rattle.model.specs.Base.{_orElse_}
 use Rattle.model.specs.Verdict.{verdict}
-use Rattle.model.specs.GrammarFile.{grammarRefusal, grammarOf, rulesOf, categoriesOf}
+use Rattle.model.specs.GrammarFile.{grammarRefusal, grammarOf, categoriesOf}
 use Rattle.model.specs.Survey.{Surveyed, survey}
 use Rattle.model.specs.Calls.{written, roomRefusal, surveyRefusal, SurveyOutcome}
 use Rattle.model.proofs.Tests.{none-some}
 use Rattle.model.proofs.FromFile.{dimensions-length}
 use Rattle.model.proofs.SurveyTrees.{file-surveyed}
-use Rattle.model.proofs.Verdicts.{met}
 
 module _ (file out : List ℕ) where
   -- a refusal that is met leaves the output as it was
-  refused : (x : Refusal) (v : Verdict) → surveyRefusal file out ≡ some x → v ≡ Verdict.Refused x → SurveyOutcome file out v out
-  refused x v e f =
+  refused : (x : Refusal) → surveyRefusal file out ≡ some x → SurveyOutcome file out (Verdict.Refused x) out
+  refused x e =
       record {
         figures = [];
         figures-right = λ n. none-some (sym e ∙ n);
-        verdict-is = f ∙ sym (ap (λ (o : Option Refusal). verdict o (categoriesOf file)) e);
+        verdict-is = sym (ap (λ (o : Option Refusal). verdict o (categoriesOf file)) e);
         output-is = sym (ap (λ (o : Option Refusal). written o [] out) e);
       }
 
-  pub refused-grammar : (v : Verdict) → v ≡ verdict (grammarRefusal file) (rulesOf file) → {x : Refusal} → v ≡ Verdict.Refused x → SurveyOutcome file out v out
-  refused-grammar v e {x} f = refused x v (ap (λ (o : Option Refusal). o orElse roomRefusal out) (met (grammarRefusal file) (rulesOf file) v e f)) f
+  pub refused-grammar : (x : Refusal) → grammarRefusal file ≡ some x → SurveyOutcome file out (Verdict.Refused x) out
+  refused-grammar x e = refused x (ap (λ (o : Option Refusal). o orElse roomRefusal out) e)
 
-  pub refused-room : grammarRefusal file ≡ none → (v : Verdict) → v ≡ verdict (roomRefusal out) 0 → {x : Refusal} → v ≡ Verdict.Refused x → SurveyOutcome file out v out
-  refused-room a v e {x} f = refused x v (ap (λ (o : Option Refusal). o orElse roomRefusal out) a ∙ met (roomRefusal out) 0 v e f) f
+  pub refused-room : grammarRefusal file ≡ none → (x : Refusal) → roomRefusal out ≡ some x → SurveyOutcome file out (Verdict.Refused x) out
+  refused-room a x e = refused x (ap (λ (o : Option Refusal). o orElse roomRefusal out) a ∙ e)
 
   pub surveyed-out : grammarRefusal file ≡ none → roomRefusal out ≡ none → (n : ℕ) (after : List ℕ) → n ≡ categoriesOf file → after ≡ survey (grammarOf file) ++ drop n out
       → SurveyOutcome file out (Verdict.Accepted n) after

@@ -6,14 +6,14 @@ ghost use Prim.Native.Nat.{_<_};
 ghost use lib.ListN.{length, replicate};
 ghost use Rattle.model.specs.GrammarFile.{grammarOf, grammarRefusal, rulesOf, categoriesOf, daughtersOf, recordOf};
 ghost use Rattle.model.specs.Calls.{SurveyOutcome};
-ghost use Rattle.model.specs.Survey.{ready, visit, surveyRound, rounds, survey};
+ghost use Rattle.model.specs.Survey.{ready, visit, surveyRound, survey};
 use buffers::number_at;
 use buffers::room_refusal;
 use grammar::categories;
-use model::Category;
 use model::RuleNumber;
+use model::Tested;
 use model::Verdict;
-use reader::read_grammar;
+use reader::grammar_refusal;
 
 // Every daughter of the rule has a figure, below that of the round.
 fn daughters_ready(file: &[u8], figures: &[u16], r: RuleNumber, round: u16) -> bool
@@ -102,14 +102,14 @@ fn clear(figures: &mut [u16])
 pub fn survey(file: &[u8], out: &mut [u16]) -> Verdict
     ensures { λ v. ⌜ SurveyOutcome (now (file .entry)) (now (out .entry)) v (now (out .exit)) ⌝ }
 {
-    let read = read_grammar(file);
-    let Verdict::Accepted(_) = read else {
-        return read;
-    };
+    let grammar = grammar_refusal(file);
+    if let Tested::Met(r) = grammar {
+        return Verdict::Refused(r);
+    }
     let room = room_refusal(out);
-    let Verdict::Accepted(_) = room else {
-        return room;
-    };
+    if let Tested::Met(r) = room {
+        return Verdict::Refused(r);
+    }
     let n = categories(file) as usize;
     write_figures(file, &mut out[0..n]);
     Verdict::Accepted(n as u64)

@@ -16,13 +16,13 @@ use lib.ListN.{length, getD, drop, set, length-set, drop-of-length-le}
 use lib.Seq.{drop-cons, getD-set-same, getD-set-other}
 use Rattle.model.specs.Base.{if_then_else_}
 use Rattle.model.specs.declared.Refusal.{Refusal}
-use Rattle.model.specs.declared.Verdict.{Verdict}
+use Rattle.model.specs.declared.Tested.{Tested}
 use Rattle.model.specs.Grammar.{Rule, Grammar, ruleAt}
 use Rattle.model.specs.GrammarFile.{startOf, rulesOf, recordOf, field, grammarRefusal, grammarOf}
 use Rattle.model.specs.Tree.{others, forest, nodesRefusal}
 use Rattle.trees.specs.Places.{endOf, Ended}
 use Rattle.model.proofs.Tests.{none-some}
-use Rattle.model.proofs.Verdicts.{refused, accepted}
+use Rattle.model.proofs.Verdicts.{met-is, passed-is}
 use Rattle.model.proofs.RuleFromRecord.{daughters-length}
 use Rattle.model.proofs.FromFile.{ruleRead, rule-read, record-tested}
 use Rattle.grammar.proofs.OfGrammar.{rule-none, daughter-is}
@@ -211,20 +211,20 @@ module _ (file list before after : List ℕ) (c : ℕ) (start : c ≡ startOf fi
     known-as : {p : Place} → answer ≡ p → Reading (grammarOf file) list (c ∷ []) 0 before after p
     known-as e = subst (Reading (grammarOf file) list (c ∷ []) 0 before after) e h
 
-    pub nodes-left : (e : ℕ) → answer ≡ Next e → e < length list → ReadAll (grammarOf file) list after (Verdict.Refused (Refusal.Analysis 21 e))
+    pub nodes-left : (e : ℕ) → answer ≡ Next e → e < length list → ReadAll (grammarOf file) list after (Tested.Met (Refusal.Analysis 21 e))
     nodes-left e q l =
         let r = known-as q in
         let f : nodes ≡ some (Refusal.Analysis 21 e) = tests-all (some (Refusal.Analysis 21 e)) (r .says .tests [] ∙ ap (nodesRefusal (grammarOf file) e []) (drop-cons list e 0 l)) in
-        record { long = r .long; answer = refused nodes 0 (Refusal.Analysis 21 e) f; ended = λ z. none-some (sym f ∙ z) }
+        record { long = r .long; answer = met-is nodes (Refusal.Analysis 21 e) f; ended = λ z. none-some (sym f ∙ z) }
 
-    pub all-nodes : (e : ℕ) → answer ≡ Next e → length list ≤ e → ReadAll (grammarOf file) list after (Verdict.Accepted 0)
+    pub all-nodes : (e : ℕ) → answer ≡ Next e → length list ≤ e → ReadAll (grammarOf file) list after Tested.Passed
     all-nodes e q l =
         let r = known-as q in
         let f : nodes ≡ none = tests-all none (r .says .tests [] ∙ ap (nodesRefusal (grammarOf file) e []) (drop-of-length-le list {i = e} l)) in
-        record { long = r .long; answer = accepted nodes 0 0 f refl; ended = λ z i lo hi. r .says .ended i lo (omega arith) }
+        record { long = r .long; answer = passed-is nodes f; ended = λ z i lo hi. r .says .ended i lo (omega arith) }
 
-    pub node-met : (x : Refusal) → answer ≡ Stop x → ReadAll (grammarOf file) list after (Verdict.Refused x)
+    pub node-met : (x : Refusal) → answer ≡ Stop x → ReadAll (grammarOf file) list after (Tested.Met x)
     node-met x q =
         let r = known-as q in
         let f : nodes ≡ some x = tests-all (some x) (r .says []) in
-        record { long = r .long; answer = refused nodes 0 x f; ended = λ z. none-some (sym f ∙ z) }
+        record { long = r .long; answer = met-is nodes x f; ended = λ z. none-some (sym f ∙ z) }

@@ -1,4 +1,4 @@
--- What stands at a place of a tree's list: a rule number, or the list has ended.
+-- What stands at a place of a tree's list: a rule number, with the place where the reading goes on; or the list has ended.
 -- Assumes nothing.
 use Prim.Native.Nat.{ℕ}
 use mathlib.Core.List.{List}
@@ -8,5 +8,5 @@ use Rattle.model.specs.Base.{if_then_else_}
 use Rattle.trees.specs.declared.tree_reader.Found.{Found}
 use Rattle.trees.specs.declared.tree_reader.Found.the-variants.{Rule, End}
 
-abbrev pub foundAt : List ℕ → ℕ → Found
-foundAt list place = if ltb place (length list) then Rule (getD list place 0) else End
+abbrev pub foundAt : List ℕ → ℕ → ℕ → Found
+foundAt list place next = if ltb place (length list) then Rule (record { 0 = getD list place 0 }) next else End

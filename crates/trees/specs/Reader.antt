@@ -7,8 +7,8 @@ use mathlib.Core.List.{List, [], _∷_, _++_}
 use Prim.Native.Nat.{ℕ, _+_, _<_, _≤_}
 use lib.ListN.{length, getD, drop}
 use Rattle.model.specs.declared.Refusal.{Refusal}
-use Rattle.model.specs.declared.Verdict.{Verdict}
-use Rattle.model.specs.Verdict.{verdict}
+use Rattle.model.specs.declared.Tested.{Tested}
+use Rattle.model.specs.Verdict.{tested}
 use Rattle.model.specs.Grammar.{Rule, Grammar, ruleAt}
 use Rattle.model.specs.Tree.{others, forest, nodesRefusal}
 use Rattle.trees.specs.Places.{Ended}
@@ -46,9 +46,9 @@ pub record Reading (g : Grammar) (list cs : List ℕ) (k : ℕ) (before after : 
   pub kept : (i : ℕ) → i < k → getD after i 0 ≡ getD before i 0
   pub says : Says g list cs k after answer
 
--- the whole list is read as one tree with the start category as root: v is the verdict of the tests of its nodes, 21 among them, and where they pass
+-- the whole list is read as one tree with the start category as root: t is the answer of the tests of its nodes, 21 among them, and where they pass
 -- the table has the end of every node
-pub record ReadAll (g : Grammar) (list table : List ℕ) (v : Verdict) : Type 0 where
+pub record ReadAll (g : Grammar) (list table : List ℕ) (t : Tested) : Type 0 where
   pub long : length table ≡ 96
-  pub answer : v ≡ verdict (nodesRefusal g 0 (g .start ∷ []) list) 0
+  pub answer : t ≡ tested (nodesRefusal g 0 (g .start ∷ []) list)
   pub ended : nodesRefusal g 0 (g .start ∷ []) list ≡ none → Ended g list table 0 (length list)

@@ -7,7 +7,7 @@ ghost use lib.ListN.{length, drop};
 ghost use Rattle.model.specs.GrammarFile.{rulesOf, grammarRefusal, grammarOf};
 ghost use Rattle.trees.specs.Reader.{below, Reading, ReadAll};
 use crate::tree_reader::Found;
-use crate::tree_reader::rule_at;
+use crate::tree_reader::take_at;
 use grammar::category_of;
 use grammar::daughter;
 use grammar::daughter_count;
@@ -16,7 +16,7 @@ use grammar::start;
 use model::Category;
 use model::Refusal;
 use model::RuleNumber;
-use model::Verdict;
+use model::Tested;
 
 // The place after what is read, or the refusal that it meets.
 pub enum Place {
@@ -29,18 +29,17 @@ pub fn read_node(file: &[u8], list: &[u16], k: usize, a: Category, ends: &mut [u
     requires { ⌜ (grammarRefusal (now file) ≡ none) × (length (now list) ≤ 96) × (k ≤ length (now list)) × (length (now ends) ≡ 96) ⌝ }
     ensures { λ p. ⌜ Reading (grammarOf (now (file .entry))) (now (list .entry)) (a .0 ∷ []) k (now (ends .entry)) (now (ends .exit)) p ⌝ }
 {
-    let found = rule_at(list, k);
-    let Found::Rule(n) = found else {
+    let found = take_at(list, k);
+    let Found::Rule(r, next) = found else {
         return Place::Stop(Refusal::Analysis(19, list.len() as u16));
     };
-    let r = RuleNumber(n);
     if rules(file) <= r.0 {
         return Place::Stop(Refusal::Analysis(13, k as u16));
     }
     if category_of(file, r).0 != a.0 {
         return Place::Stop(Refusal::Analysis(20, k as u16));
     }
-    let after = read_daughters(file, list, r, 0, k + 1, ends);
+    let after = read_daughters(file, list, r, 0, next, ends);
     match after {
         Place::Next(e) => {
             ends[k] = e as u16;
@@ -72,19 +71,19 @@ pub fn read_daughters(
     }
 }
 
-// Reads the whole list as one tree with the start category as root: refusals 19, 13, 20 and 21, or Accepted(0).
-pub fn read_tree(file: &[u8], list: &[u16], ends: &mut [u16; 96]) -> Verdict
+// Reads the whole list as one tree with the start category as root: refusals 19, 13, 20 and 21.
+pub fn read_tree(file: &[u8], list: &[u16], ends: &mut [u16; 96]) -> Tested
     requires { ⌜ (grammarRefusal (now file) ≡ none) × (length (now list) ≤ 96) × (length (now ends) ≡ 96) ⌝ }
-    ensures { λ v. ⌜ ReadAll (grammarOf (now (file .entry))) (now (list .entry)) (now (ends .exit)) v ⌝ }
+    ensures { λ t. ⌜ ReadAll (grammarOf (now (file .entry))) (now (list .entry)) (now (ends .exit)) t ⌝ }
 {
     let p = read_node(file, list, 0, start(file), ends);
     match p {
         Place::Next(e) => {
             if e < list.len() {
-                return Verdict::Refused(Refusal::Analysis(21, e as u16));
+                return Tested::Met(Refusal::Analysis(21, e as u16));
             }
-            Verdict::Accepted(0)
+            Tested::Passed
         }
-        Place::Stop(x) => Verdict::Refused(x),
+        Place::Stop(x) => Tested::Met(x),
     }
 }

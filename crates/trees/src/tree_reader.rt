@@ -1,8 +1,9 @@
-// A tree reader: the list of a tree and a place in it. The functions over it are thin: each takes it apart, or makes it, and leaves the work to `look`.
+// A tree reader: the list of a tree and a place in it. The functions over it are thin: each makes it, moves it or takes it apart, and leaves the work to
+// `look`.
 ghost use mathlib.Core.Path.{_≡_};
-ghost use Prim.Native.Nat.{_+_, _<_, _≤_, _^_};
-ghost use lib.ListN.{length};
+ghost use Prim.Native.Nat.{_+_, _<_, _^_};
 ghost use Rattle.trees.specs.Found.{foundAt};
+use model::RuleNumber;
 
 // "parent before daughters, daughters in rule order": what stands at the place is the next node.
 pub struct TreeReader<'a> {
@@ -10,18 +11,18 @@ pub struct TreeReader<'a> {
     pub place: usize,
 }
 
-// A rule number, or the list has ended.
+// A rule number and the place where the reading goes on, or the list has ended.
 pub enum Found {
-    Rule(u16),
+    Rule(RuleNumber, usize),
     End,
 }
 
-// What stands at a place of a list.
-pub fn look(list: &[u16], place: usize) -> Found
-    ensures { λ r. ⌜ r ≡ foundAt (now (list .entry)) place ⌝ }
+// What stands at a place of a list, to go on at place `next`.
+pub fn look(list: &[u16], place: usize, next: usize) -> Found
+    ensures { λ r. ⌜ r ≡ foundAt (now (list .entry)) place next ⌝ }
 {
     if place < list.len() {
-        Found::Rule(list[place])
+        Found::Rule(RuleNumber(list[place]), next)
     } else {
         Found::End
     }
@@ -34,11 +35,15 @@ pub fn reader_at<'a>(list: &'a [u16], place: usize) -> TreeReader<'a>
     TreeReader { list, place }
 }
 
-// What the reader finds at its place.
-pub fn here<'a>(r: TreeReader<'a>) -> Found
-    ensures { λ s. ⌜ s ≡ foundAt (now (r .entry .list)) (r .entry .place) ⌝ }
+// The reader moved on by one node: from a node to its first daughter.
+pub fn moved_on<'a>(r: TreeReader<'a>) -> TreeReader<'a>
+    requires { ⌜ r .place + 1 < 2 ^ 64 ⌝ }
+    ensures { λ q. ⌜ (q .list ≡ r .entry .list) × (q .place ≡ r .entry .place + 1) ⌝ }
 {
-    look(r.list, r.place)
+    TreeReader {
+        list: r.list,
+        place: r.place + 1,
+    }
 }
 
 // The place of the reader.
@@ -48,44 +53,18 @@ pub fn place_of<'a>(r: TreeReader<'a>) -> usize
     r.place
 }
 
-// The list that it reads.
-pub fn list_of<'a>(r: TreeReader<'a>) -> &'a [u16]
-    ensures { λ s. ⌜ s ≡ r .entry .list ⌝ }
+// What the reader finds at its place, to go on at place `next`.
+pub fn here<'a>(r: TreeReader<'a>, next: usize) -> Found
+    ensures { λ s. ⌜ s ≡ foundAt (now (r .entry .list)) (r .entry .place) next ⌝ }
 {
-    r.list
+    look(r.list, r.place, next)
 }
 
-// The reader of the same list at another place: at a sister, where the tree before it ends.
-pub fn moved<'a>(r: TreeReader<'a>, place: usize) -> TreeReader<'a>
-    ensures { λ q. ⌜ (q .list ≡ r .entry .list) × (q .place ≡ place) ⌝ }
+// What a reader takes at a place of a list: the node that stands there, and where the reader stands after it. For callers that hold no reader.
+pub fn take_at(list: &[u16], place: usize) -> Found
+    requires { ⌜ place + 1 < 2 ^ 64 ⌝ }
+    ensures { λ s. ⌜ s ≡ foundAt (now (list .entry)) place (place + 1) ⌝ }
 {
-    TreeReader {
-        list: r.list,
-        place,
-    }
-}
-
-// Moves the reader on by n nodes: by one, to the first daughter.
-pub fn move_on<'s, 'a>(r: &'s mut TreeReader<'a>, n: usize)
-    requires { ⌜ now r .place + n < 2 ^ 64 ⌝ }
-    ensures { λ _. ⌜ (now (r .exit) .list ≡ now (r .entry) .list) × (now (r .exit) .place ≡ now (r .entry) .place + n) ⌝ }
-{
-    r.place = r.place + n;
-}
-
-impl<'a> TreeReader<'a> {
-    // How many entries are left in the list.
-    pub fn left(self) -> usize
-        requires { ⌜ self .place ≤ length (now (self .list)) ⌝ }
-        ensures { λ n. ⌜ n + self .entry .place ≡ length (now (self .entry .list)) ⌝ }
-    {
-        self.list.len() - self.place
-    }
-}
-
-// What a reader finds at a place of a list: for callers that hold no reader.
-pub fn rule_at(list: &[u16], place: usize) -> Found
-    ensures { λ s. ⌜ s ≡ foundAt (now (list .entry)) place ⌝ }
-{
-    here(reader_at(list, place))
+    let r = reader_at(list, place);
+    here(r, place_of(moved_on(r)))
 }

@@ -16,6 +16,7 @@ use buffers::number_at;
 use derivation::conversion_tests;
 use grammar::daughter_count;
 use model::RuleNumber;
+use model::Tested;
 use model::Verdict;
 use recognizer::run_trace;
 use rows::rules::wide;
@@ -104,7 +105,7 @@ pub fn trace_to_tree(file: &[u8], sentence: &[u16], trace: &[u16], out: &mut [u1
 {
     let tests = conversion_tests(file, sentence, out);
     match tests {
-        Verdict::Accepted(_) => converted(file, sentence, trace, out),
-        Verdict::Refused(_) => tests,
+        Tested::Passed => converted(file, sentence, trace, out),
+        Tested::Met(r) => Verdict::Refused(r),
     }
 }

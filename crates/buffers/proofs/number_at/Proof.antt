@@ -5,8 +5,6 @@ use lib.ListN.{List·getD-eq-default}
 use borrow.Author.Needs.{needs}
 use Rattle.buffers.proofs.number_at.Statement.{statement}
 use Rattle.buffers.proofs.number_at.Tie as tie
-use Rattle.buffers.proofs.number_at.Reads as reads
-use Rattle.buffers.proofs.number_at.Lts as lts
 
 mul-result : tie.Need-mul-result
 mul-result c = search needs

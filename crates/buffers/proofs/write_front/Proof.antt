@@ -10,8 +10,6 @@ use native.Mathlib.Numerals.{add-one}
 use Rattle.buffers.proofs.Copied.{copied}
 use Rattle.buffers.proofs.write_front.Statement.{statement}
 use Rattle.buffers.proofs.write_front.Tie as tie
-use Rattle.buffers.proofs.write_front.Reads as reads
-use Rattle.buffers.proofs.write_front.Lts as lts
 
 abbrev Inv-loop : tie.InvT-loop
 Inv-loop list n out₀ i₀ out i = (i ≤ n) × (length out ≡ length out₀) × (out ≡ take i list ++ drop i out₀)

@@ -11,8 +11,6 @@ use lib.Seq.{drop-length}
 use Rattle.survey.proofs.Cleared.{cleared}
 use Rattle.survey.proofs.clear.Statement.{statement}
 use Rattle.survey.proofs.clear.Tie as tie
-use Rattle.survey.proofs.clear.Reads as reads
-use Rattle.survey.proofs.clear.Lts as lts
 
 abbrev Inv-loop : tie.InvT-loop
 Inv-loop figures₀ n i₀ figures i = (n ≡ length figures₀) × (i ≤ n) × (length figures ≡ length figures₀) × (figures ≡ replicate i 0 ++ drop i figures₀)

@@ -11,11 +11,6 @@ use Rattle.model.specs.Survey.{ready}
 use Rattle.survey.proofs.Ready.{daughter-number, ready-at, no-figure, late-figure, early-figure}
 use Rattle.survey.proofs.daughters_ready.Statement.{statement}
 use Rattle.survey.proofs.daughters_ready.Tie as tie
-use Rattle.survey.proofs.daughters_ready.Reads as reads
-use Rattle.survey.proofs.daughters_ready.Lts as lts
-use Rattle.buffers.proofs.number_at.Reads as number-at-reads
-use Rattle.grammar.proofs.daughter.Reads as daughter-reads
-use Rattle.grammar.proofs.daughter_count.Reads as daughter-count-reads
 
 abbrev Inv-loop : tie.InvT-loop
 Inv-loop file figures r round n j₀ j =

@@ -10,10 +10,6 @@ use Rattle.model.specs.Survey.{rounds}
 use Rattle.survey.proofs.Rounds.{first-round, next-round, last-round, idle-round}
 use Rattle.survey.proofs.fill.Statement.{statement}
 use Rattle.survey.proofs.fill.Tie as tie
-use Rattle.survey.proofs.fill.Reads as reads
-use Rattle.survey.proofs.fill.Lts as lts
-use Rattle.grammar.proofs.categories.Reads as categories-reads
-use Rattle.survey.proofs.visit_all.Reads as visit-all-reads
 
 abbrev Inv-loop : tie.InvT-loop
 Inv-loop file figures₀ last round₀ figures round =

@@ -15,10 +15,6 @@ use Rattle.model.proofs.WellFormed.{rules-length}
 use Rattle.model.proofs.Tests.{not-both}
 use Rattle.survey.proofs.visit_all.Statement.{statement}
 use Rattle.survey.proofs.visit_all.Tie as tie
-use Rattle.survey.proofs.visit_all.Reads as reads
-use Rattle.survey.proofs.visit_all.Lts as lts
-use Rattle.grammar.proofs.rules.Reads as rules-reads
-use Rattle.survey.proofs.visit_rule.Reads as visit-rule-reads
 
 abbrev Inv-loop : tie.InvT-loop
 Inv-loop file figures₀ round rules changed₀ r₀ figures changed r =

@@ -10,11 +10,6 @@ use Rattle.survey.proofs.Visit.{category-below, visit-figured, visit-un
 use Rattle.model.proofs.Tests.{not-both}
 use Rattle.survey.proofs.visit_rule.Statement.{statement}
 use Rattle.survey.proofs.visit_rule.Tie as tie
-use Rattle.survey.proofs.visit_rule.Reads as reads
-use Rattle.survey.proofs.visit_rule.Lts as lts
-use Rattle.buffers.proofs.number_at.Reads as number-at-reads
-use Rattle.grammar.proofs.category_of.Reads as category-of-reads
-use Rattle.survey.proofs.daughters_ready.Reads as daughters-ready-reads
 
 category-of-requires : tie.Need-category-of-requires
 category-of-requires c κs = search needs

@@ -6,10 +6,6 @@ use lib.ListN.{replicate}
 use borrow.Author.Needs.{needs}
 use Rattle.survey.proofs.write_figures.Statement.{statement}
 use Rattle.survey.proofs.write_figures.Tie as tie
-use Rattle.survey.proofs.write_figures.Reads as reads
-use Rattle.survey.proofs.write_figures.Lts as lts
-use Rattle.survey.proofs.clear.Reads as clear-reads
-use Rattle.survey.proofs.fill.Reads as fill-reads
 
 clear-requires : tie.Need-clear-requires
 clear-requires c κs = search needs

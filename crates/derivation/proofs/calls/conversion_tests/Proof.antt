@@ -1,16 +1,16 @@
 -- `derivation::calls::conversion_tests` meets its contract.
 -- Assumes nothing.
 use Rattle.model.specs.Base.{_orElse_}
-use Rattle.model.specs.GrammarFile.{grammarRefusal, grammarOf, rulesOf}
+use Rattle.model.specs.GrammarFile.{grammarRefusal, grammarOf}
 use Rattle.model.specs.Trace.{sentenceRefusal}
 use Rattle.model.specs.Calls.{roomRefusal}
-use Rattle.model.proofs.Verdicts.{passed, stopped, after-pass}
+use Rattle.model.proofs.Verdicts.{tests-pass, tests-stop, tests-after}
 use borrow.Author.Needs.{needs}
 use Rattle.derivation.proofs.calls.conversion_tests.Statement.{statement}
 use Rattle.derivation.proofs.calls.conversion_tests.Tie as tie
 
-read-grammar-requires : tie.Need-read-grammar-requires
-read-grammar-requires c κs = search needs
+grammar-refusal-requires : tie.Need-grammar-refusal-requires
+grammar-refusal-requires c κs = search needs
 
 enum-told : tie.Need-enum-told
 enum-told c = search needs
@@ -24,8 +24,8 @@ returns c =
     let G = grammarRefusal (a .file .now) in
     let O = roomRefusal (a .out .now) in
     let W = sentenceRefusal (grammarOf (a .file .now)) (a .sentence .now) in
-    let k = c .before .before .read-grammar in
-    stopped G (rulesOf (a .file .now)) (k .result) (k .ensures) (O orElse W) 0 (c .enum-told2 .given .1)
+    let k = c .before .before .grammar-refusal in
+    tests-stop G (k .result) (k .ensures) (O orElse W) (c .enum-told2 .given .1)
 
 room-refusal-requires : tie.Need-room-refusal-requires
 room-refusal-requires c κs = search needs
@@ -42,9 +42,9 @@ returns-2 c =
     let G = grammarRefusal (a .file .now) in
     let O = roomRefusal (a .out .now) in
     let W = sentenceRefusal (grammarOf (a .file .now)) (a .sentence .now) in
-    let g = c .before .before .before .before .before .read-grammar in
+    let g = c .before .before .before .before .before .grammar-refusal in
     let k = c .before .before .room-refusal in
-    after-pass G (O orElse W) 0 (k .result) (passed G (rulesOf (a .file .now)) (g .result) (g .ensures) (c .before .before .before .enum-told .given .1)) (stopped O 0 (k .result) (k .ensures) W 0 (c .enum-told4 .given .1))
+    tests-after G (O orElse W) (k .result) (tests-pass G (g .result) (g .ensures) (c .before .before .before .enum-told .given .1)) (tests-stop O (k .result) (k .ensures) W (c .enum-told4 .given .1))
 
 sentence-refusal-requires : tie.Need-sentence-refusal-requires
 sentence-refusal-requires c κs = search needs
@@ -55,17 +55,17 @@ returns-3 c =
     let G = grammarRefusal (a .file .now) in
     let O = roomRefusal (a .out .now) in
     let W = sentenceRefusal (grammarOf (a .file .now)) (a .sentence .now) in
-    let g = c .before .before .before .before .before .before .read-grammar in
+    let g = c .before .before .before .before .before .before .grammar-refusal in
     let o = c .before .before .before .room-refusal in
     let k = c .sentence-refusal in
-    after-pass G (O orElse W) 0 (k .result) (passed G (rulesOf (a .file .now)) (g .result) (g .ensures) (c .before .before .before .before .enum-told .given .1))
-    (after-pass O W 0 (k .result) (passed O 0 (o .result) (o .ensures) (c .before .enum-told3 .given .1)) (k .ensures))
+    tests-after G (O orElse W) (k .result) (tests-pass G (g .result) (g .ensures) (c .before .before .before .before .enum-told .given .1))
+    (tests-after O W (k .result) (tests-pass O (o .result) (o .ensures) (c .before .enum-told3 .given .1)) (k .ensures))
 
 pub conversion-tests-spec : {M : Type 1} → statement M
 conversion-tests-spec =
     tie.close
     (tie.spec
-    read-grammar-requires
+    grammar-refusal-requires
     enum-told
     enum-told-2
     returns

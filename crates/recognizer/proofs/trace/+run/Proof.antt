@@ -57,8 +57,8 @@ row-goes : (t : ℕ) (c : run-lts.After-known-told3 (calls t) (run-at t) run.Pos
     × (n ≤ 384) × (d ≤ 3)
 row-goes t c = rw (c .before .s3 .given .1) at (c .before .before .before .step .ensures .says)
 
-run-cast-t25 : (t : ℕ) → run-lts.Need-cast-t25 (calls t) (run-at t) run.Post
-run-cast-t25 t c = search needs
+run-cast-place : (t : ℕ) → run-lts.Need-cast-place (calls t) (run-at t) run.Post
+run-cast-place t c = search needs
 
 run-returns : (t : ℕ) → run-lts.Need-returns (calls t) (run-at t) run.Post
 run-returns t c =
@@ -77,8 +77,8 @@ run-returns-2 t c =
       taken = λ z. sym (ap (sets (a .taken .now) (a .k)) (none-taken (grammarOf (a .file .now)) (a .sentence .now) (a .trace .now) (a .k) (stateOf (a .q .now) (a .from) (a .to) (a .made) (a .pending) (drop (a .read) (a .sentence .now))) (a .read) (c .before .if1 .taken) refl));
     }
 
-run-mul-t21 : (t : ℕ) → run-lts.Need-mul-t21 (calls t) (run-at t) run.Post
-run-mul-t21 t c = search needs
+run-mul-t22 : (t : ℕ) → run-lts.Need-mul-t22 (calls t) (run-at t) run.Post
+run-mul-t22 t c = search needs
 
 run-shared-slice-read-t29 : (t : ℕ) → run-lts.Need-shared-slice-read-t29 (calls t) (run-at t) run.Post
 run-shared-slice-read-t29 t c = search needs
@@ -260,10 +260,10 @@ pub +run-spec : {M : Type 1} → statement M
 +run-spec = close μ-run λ t. run-lts.spec (calls t)
     (run-at t)
     run.Post
-    (run-cast-t25 t)
+    (run-cast-place t)
     (run-returns t)
     (run-returns-2 t)
-    (run-mul-t21 t)
+    (run-mul-t22 t)
     (run-shared-slice-read-t29 t)
     (run-sub-left t)
     (run-sub-left-2 t)
