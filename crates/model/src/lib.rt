@@ -33,6 +33,9 @@ pub struct Category(pub u8);
 
 pub struct Word(pub u16);
 
+// The number of the empty word, which is none of the grammar's words.
+pub const EMPTY_WORD: u16 = 65535;
+
 pub struct RuleNumber(pub u16);
 
 // The number of a refusal.

@@ -18,6 +18,7 @@ use grammar::total;
 use grammar::variables;
 use grammar::zeros;
 use model::Category;
+use model::EMPTY_WORD;
 
 // Whether there is no such category.
 fn no_category(dimensions: &[u8], a: Category) -> bool
@@ -68,7 +69,7 @@ pub fn wrong_word(dimensions: &[u8], e: &[u8], words: u16) -> bool
     if w.0 < words {
         return false;
     }
-    w.0 != 65535
+    w.0 != EMPTY_WORD
 }
 
 // Whether every variable of every daughter occurs exactly once.

@@ -9,6 +9,7 @@ ghost use Rattle.rows.specs.Row.{stateOf, Held};
 ghost use Rattle.recognizer.specs.Steps.{scanAnswer, Stands, StepSays};
 ghost use Rattle.rows.specs.Table.{Compiled};
 use grammar::rules;
+use model::EMPTY_WORD;
 use model::RuleNumber;
 use model::Word;
 use rows::row::category as slot_category;
@@ -38,7 +39,7 @@ pub fn fits(word: Word, place: u16) -> bool
 fn scan(word: Word, sentence: &[u16], read: usize) -> Stepped
     ensures { λ s. ⌜ s ≡ scanAnswer (word .0) (now (sentence .entry)) read ⌝ }
 {
-    if word.0 == 65535 {
+    if word.0 == EMPTY_WORD {
         return Stepped::Scanned(read);
     }
     if sentence.len() <= read {

@@ -7,9 +7,6 @@ use Rattle.model.specs.Rows.{Slot, packed}
 use Rattle.model.proofs.RowsCode.{Fits, packed-owner, packed-cat, packed-comp}
 use Rattle.rows.specs.Row.{unpacked, raised}
 
-pub packed-unpacked : (x : ℕ) → packed (unpacked x) ≡ x
-packed-unpacked x = omega arith
-
 -- of a category below 64 and a component below 4
 pub unpacked-packed : (s : Slot) → Fits s → unpacked (packed s) ≡ s
 unpacked-packed s h =

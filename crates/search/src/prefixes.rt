@@ -7,15 +7,13 @@ ghost use Rattle.search.specs.Tally.{completed, noted};
 use crate::chain::NO_RULE;
 use crate::chain::first_rule;
 use crate::chain::next_rule;
+use model::EMPTY_WORD;
 use model::RuleNumber;
 use recognizer::step::fits;
 use rows::row::category;
 use rows::row::expand;
 use rows::rules::daughters;
 use rows::rules::word;
-
-// The number of the empty word.
-const EMPTY_WORD: u16 = 65535;
 
 // A complete trace that ends at a place: it is counted, and its end is kept if it is the entry asked for.
 fn complete(sheet: &mut [u64; 100], place: usize)
