@@ -12,7 +12,7 @@ use Rattle.model.specs.Base.{if_then_else_}
 use Rattle.model.specs.Grammar.{Rule, Grammar, emptyWord, ruleAt, isLexical, dimension}
 use Rattle.model.specs.GrammarFile.{grammarRefusal, grammarOf}
 use Rattle.model.specs.Step.{Index, Prediction, State, Outcome, fails, leads, step, begin}
-use Rattle.model.specs.Rows.{Slot, RowState, RowOutcome, halts, moves, predictRow, readWordRow, scanRow, applyRow, stepRow, beginRow, runRow}
+use Rattle.model.specs.Rows.{Slot, RowState, RowOutcome, halts, moves, predictRow, readWordRow, scanRow, applyRow, stepRow, beginRow}
 use Rattle.model.specs.WellFormed.{Right}
 use Rattle.model.specs.RowsAgree.{number, IndexedSlot, slotIn, indexedFrom, indexedOf, indexedSlots, SameOutcome}
 use Rattle.model.proofs.Perm.{perm-sym, perm-length}
@@ -151,13 +151,3 @@ module _ (g : Grammar) where
   -- `made` is at most the steps taken and `pending`: what a loop over steps keeps
   pub made-bound : (t t′ : RowState) (r steps : ℕ) → stepRow g t r ≡ moves t′ → t .made ≤ steps + t .pending → t′ .made ≤ suc steps + t′ .pending
   made-bound t t′ r steps e h = let c = step-counts t t′ r e in omega (arith, c .made, c .pending, h)
-
-  -- of a run
-  pub run-bound : (rs : List ℕ) (t t′ : RowState) (steps : ℕ) → runRow g t rs ≡ some t′ → t .made ≤ steps + t .pending → t′ .made ≤ steps + length rs + t′ .pending
-  run-bound [] t t′ steps e h = let k : t ≡ t′ = cc in subst (λ (x : RowState). x .made ≤ steps + 0 + x .pending) k (omega (arith, h))
-  run-bound (r ∷ rs) t t′ steps e h = go (stepRow g t r) refl e (λ t″ f. run-bound rs t″ t′ (suc steps) f)
-    where
-      go : (o : RowOutcome) → stepRow g t r ≡ o → _≡_ {A = Option RowState} (elim o [ halts n ↦ none | moves t″ ↦ runRow g t″ rs ]) (some t′)
-          → ((t″ : RowState) → runRow g t″ rs ≡ some t′ → t″ .made ≤ suc steps + t″ .pending → t′ .made ≤ suc steps + length rs + t′ .pending) → t′ .made ≤ steps + suc (length rs) + t′ .pending
-      go (halts n) d f ih = let z : _≡_ {A = ℕ} 0 1 = cc in absurd (omega arith)
-      go (moves t″) d f ih = omega (arith, ih t″ f (made-bound t t″ r steps d h))

@@ -1,12 +1,10 @@
 -- The queue after a sort: the same predictions, in order of their least index. And the least index is one of the indices.
 -- Assumes nothing.
-use mathlib.Core.Path.{_≡_, refl, sym, ap, subst, _∙_}
+use mathlib.Core.Path.{_≡_, refl, sym, subst}
 use mathlib.Core.Logic.{_⊎_, inl, inr}
 use mathlib.Core.Bool.{Bool, true, false}
 use mathlib.Core.List.{List, [], _∷_, List·Memᴰ, List·Memᴰ·head, List·Memᴰ·tail, List·Memᴰ·cases-cons}
-use Prim.Native.Nat.{suc}
 use lib.Dec.{T}
-use lib.ListN.{length}
 use Rattle.model.specs.Base.{if_then_else_}
 use Rattle.model.specs.Step.{Index, before, least, Prediction, leastOf, insert, sort}
 use Rattle.model.proofs.Order.{before-irrefl}
@@ -82,18 +80,6 @@ module _ {A : Type 0} where
   pub sort-in : {q : List (Prediction A)} {x : Prediction A} → List·Memᴰ x q → List·Memᴰ x (sort q)
   sort-in {x = x} (List·Memᴰ·head {x = p} {xs = q} e) = subst (λ (y : Prediction A). List·Memᴰ y (insert p (sort q))) (sym e) (insert-self p (sort q))
   sort-in (List·Memᴰ·tail {x = p} m) = insert-in p (sort-in m)
-
-  pub insert-length : (p : Prediction A) (q : List (Prediction A)) → length (insert p q) ≡ suc (length q)
-  insert-length p [] = refl
-  insert-length p (y ∷ q) = go (before (leastOf y) (leastOf p)) (insert-length p q)
-    where
-      go : (b : Bool) → length (insert p q) ≡ suc (length q) → length (if b then y ∷ insert p q else p ∷ y ∷ q) ≡ suc (suc (length q))
-      go true e = ap suc e
-      go false e = refl
-
-  pub sort-length : (q : List (Prediction A)) → length (sort q) ≡ length q
-  sort-length [] = refl
-  sort-length (p ∷ q) = insert-length p (sort q) ∙ ap suc (sort-length q)
 
   -- no prediction has a least index before that of one that stands before it
   abbrev pub Sorted : List (Prediction A) → Type 0

@@ -105,14 +105,6 @@ module _ (o : Option Refusal) (n : ℕ) (v : Verdict) (is : v ≡ verdict o n) w
       go none f = let z : _≡_ {A = ℕ} 0 1 = cc in absurd (omega arith)
       go (some y) f = cc
 
-  -- a refusal stands whatever is tested after it
-  pub stopped : (p : Option Refusal) (m : ℕ) {x : Refusal} → v ≡ Verdict.Refused x → v ≡ verdict (o orElse p) m
-  stopped p m {x} e = is ∙ go o (sym is ∙ e)
-    where
-      go : (o : Option Refusal) → verdict o n ≡ Verdict.Refused x → verdict o n ≡ verdict (o orElse p) m
-      go none f = let z : _≡_ {A = ℕ} 0 1 = cc in absurd (omega arith)
-      go (some y) f = refl
-
 -- after a test that passed
 pub after-pass : (o p : Option Refusal) (m : ℕ) (v : Verdict) → o ≡ none → v ≡ verdict p m → v ≡ verdict (o orElse p) m
 after-pass o p m v e f = f ∙ sym (ap (λ (q : Option Refusal). verdict (q orElse p) m) e)

@@ -12,17 +12,15 @@ use Rattle.model.specs.declared.Refusal.{Refusal}
 use Rattle.model.specs.declared.Verdict.{Verdict}
 use Rattle.model.specs.declared.CountVerdict.{CountVerdict}
 use Rattle.model.specs.Grammar.{Grammar}
-use Rattle.model.specs.GrammarFile.{grammarOf}
+use Rattle.model.specs.GrammarFile.{grammarOf, rulesOf, categoriesOf}
 use Rattle.model.specs.Step.{State}
 use Rattle.model.specs.Trace.{noNode, run}
 use Rattle.model.specs.Tree.{Tree, preorder, derives}
 use Rattle.model.specs.Conversions.{BelongsTo, treeOf, traceOf}
-use Rattle.model.specs.Counting.{start, listing}
+use Rattle.model.specs.Counting.{start, listing, count, effort, entry}
 use Rattle.model.specs.LivePrefixes.{Live, InOrder, Different}
 use Rattle.model.specs.Verdict.{Author, Answer, values, refusal, verdictAnswer, countAnswer}
-use Rattle.model.specs.GrammarFile.{rulesOf, categoriesOf}
 use Rattle.model.specs.Writer.{Heading, fileOf}
-use Rattle.model.specs.Counting.{count, effort, entry}
 use Rattle.model.specs.Survey.{Surveyed}
 use Rattle.model.specs.Calls.{readVerdict, writeVerdict, writeOutput, checkTraceVerdict, checkTreeVerdict, traceToTreeVerdict, traceToTreeOutput, treeToTraceVerdict, treeToTraceOutput, countCall, entryVerdict, entryOutput, SurveyOutcome}
 use Rattle.model.specs.Refusals.{Test, fileTests, writeTests, checkTraceTests, checkTreeTests, traceToTreeTests, treeToTraceTests, countTests, entryTests, surveyTests}

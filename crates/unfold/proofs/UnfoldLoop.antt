@@ -11,7 +11,6 @@ use Rattle.model.specs.Base.{numbersFrom}
 use Rattle.model.specs.Tree.{Tree, Forest, node, nil, cons, preorder, preorders}
 use Rattle.model.proofs.Lists.{length-numbers}
 use Rattle.model.proofs.Analyses.{tree-counts}
-use Rattle.model.proofs.Analyses.{tree-counts}
 use Rattle.unfold.specs.Unfold.{Grows, GrowsAll}
 
 -- two forests, one after the other

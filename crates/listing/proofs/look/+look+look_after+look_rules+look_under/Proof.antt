@@ -1,7 +1,7 @@
 -- `listing::look::look`, `listing::look::look_after`, `listing::look::look_rules` and `listing::look::look_under` meet their contracts.
 -- Assumes nothing.
 use mathlib.Core.Path.{_≡_, refl, sym, ap, _∙_}
-use Prim.Native.Nat.{_+_, _-_, _*_, _≤_}
+use Prim.Native.Nat.{_+_, _-_, _*_, _≤_, ℕ, _<_}
 use native.Mathlib.Omega.{arith}
 use lib.ListN.{length, getD}
 use Rattle.model.specs.GrammarFile.{grammarOf}
@@ -15,7 +15,6 @@ use Rattle.listing.proofs.LookRules.{took, left-out, up-on, up-strictly
 use Rattle.listing.proofs.LookLoop.{came-first, fronted, on-now, strictly-now, later, came-next, stops, came-last}
 use Rattle.listing.proofs.LookTurns.{at-end, next-on, next-strictly, with-rules, no-more, on-there, halted, longer, moved}
 use borrow.Author.Needs.{needs}
-use Prim.Native.Nat.{ℕ, _<_}
 use borrow.Fn.Kinds.{In}
 use borrow.Fn.PlainCycle.{Measures, is, falls, and}
 use Rattle.listing.proofs.look.look.Reads as look

@@ -1,9 +1,8 @@
 -- `report::text::put_count` meets its contract.
 -- Assumes nothing.
 use mathlib.Core.Bool.{true, false}
-use Rattle.report.proofs.Placed.{item-long}
+use Rattle.report.proofs.Placed.{item-long, put-long, put-join, put-same, count-line}
 use native.Mathlib.Omega.{arith}
-use Rattle.report.proofs.Placed.{put-long, put-join, put-same, count-line}
 use borrow.Author.Needs.{needs}
 use Rattle.report.proofs.text.put_count.Statement.{statement}
 use Rattle.report.proofs.text.put_count.Tie as tie

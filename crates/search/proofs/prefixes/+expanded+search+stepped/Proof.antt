@@ -3,7 +3,7 @@
 use mathlib.Core.Path.{_≡_, refl, sym, ap, subst, _∙_}
 use mathlib.Core.Bool.{true, false}
 use mathlib.Core.List.{List}
-use Prim.Native.Nat.{_+_, _-_, _*_, _≤_}
+use Prim.Native.Nat.{_+_, _-_, _*_, _≤_, ℕ, _<_}
 use native.Mathlib.Omega.{arith}
 use lib.ListN.{length, getD, length-set}
 use lib.Seq.{getD-set-other}
@@ -16,7 +16,6 @@ use Rattle.search.proofs.Turns.{rule-small, head-here, fit, empty-ready
 use Rattle.search.proofs.AtState.{no-budget, all-read, words-left, rules-ready, below-rules}
 use Rattle.search.proofs.Loop.{came-first, fronted, ready-now, came-next, later, over-budget, came-last}
 use borrow.Author.Needs.{needs}
-use Prim.Native.Nat.{ℕ, _<_}
 use borrow.Fn.Kinds.{In}
 use borrow.Fn.PlainCycle.{Measures, is, falls, and}
 use Rattle.search.proofs.prefixes.expanded.Reads as expanded
