@@ -7,6 +7,7 @@ ghost use lib.ListN.{length, drop};
 ghost use Rattle.model.specs.GrammarFile.{rulesOf, grammarRefusal, grammarOf};
 ghost use Rattle.trees.specs.Reader.{below, Reading, ReadAll};
 use crate::tree_reader::Found;
+use crate::tree_reader::TreeReader;
 use crate::tree_reader::take_at;
 use grammar::category_of;
 use grammar::daughter;
@@ -69,6 +70,19 @@ pub fn read_daughters(
         Place::Next(e) => read_daughters(file, list, r, j + 1, e, ends),
         Place::Stop(_) => first,
     }
+}
+
+// Reads the tree at the reader's place, whose root is wanted of category a: the reader is taken apart, and its node is read.
+pub fn read<'f, 'a, 'e>(
+    file: &'f [u8],
+    r: TreeReader<'a>,
+    a: Category,
+    ends: &'e mut [u16; 96],
+) -> Place
+    requires { ⌜ (grammarRefusal (now file) ≡ none) × (length (now (r .list)) ≤ 96) × (r .place ≤ length (now (r .list))) × (length (now ends) ≡ 96) ⌝ }
+    ensures { λ p. ⌜ Reading (grammarOf (now (file .entry))) (now (r .entry .list)) (a .0 ∷ []) (r .entry .place) (now (ends .entry)) (now (ends .exit)) p ⌝ }
+{
+    read_node(file, r.list, r.place, a, ends)
 }
 
 // Reads the whole list as one tree with the start category as root: refusals 19, 13, 20 and 21.
