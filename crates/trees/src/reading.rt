@@ -5,7 +5,7 @@ ghost use mathlib.Core.Path.{_≡_};
 ghost use Prim.Native.Nat.{_<_, _≤_};
 ghost use lib.ListN.{length, drop};
 ghost use Rattle.model.specs.GrammarFile.{rulesOf, grammarRefusal, grammarOf};
-ghost use Rattle.trees.specs.Reader.{below, Reading, ReadAll};
+ghost use Rattle.trees.specs.Reader.{Readable, below, Reading, ReadAll};
 use crate::tree_reader::Found;
 use crate::tree_reader::TreeReader;
 use crate::tree_reader::reader_at;
@@ -28,7 +28,7 @@ pub enum Place {
 
 // Reads the tree at place k of the list, whose root is wanted of category a, and stores for each of its nodes the place after the node's tree.
 pub fn read_node(file: &[u8], list: &[u16], k: usize, a: Category, ends: &mut [u16; 96]) -> Place
-    requires { ⌜ (grammarRefusal (now file) ≡ none) × (length (now list) ≤ 96) × (k ≤ length (now list)) × (length (now ends) ≡ 96) ⌝ }
+    requires { ⌜ Readable (now file) (now list) k (now ends) ⌝ }
     ensures { λ p. ⌜ Reading (grammarOf (now (file .entry))) (now (list .entry)) (a .0 ∷ []) k (now (ends .entry)) (now (ends .exit)) p ⌝ }
 {
     let found = take_at(list, k);
@@ -80,7 +80,7 @@ pub fn read<'f, 'a, 'e>(
     a: Category,
     ends: &'e mut [u16; 96],
 ) -> Place
-    requires { ⌜ (grammarRefusal (now file) ≡ none) × (length (now (r .list)) ≤ 96) × (r .place ≤ length (now (r .list))) × (length (now ends) ≡ 96) ⌝ }
+    requires { ⌜ Readable (now file) (now (r .list)) (r .place) (now ends) ⌝ }
     ensures { λ p. ⌜ Reading (grammarOf (now (file .entry))) (now (r .entry .list)) (a .0 ∷ []) (r .entry .place) (now (ends .entry)) (now (ends .exit)) p ⌝ }
 {
     read_node(file, r.list, r.place, a, ends)
@@ -93,7 +93,7 @@ pub fn read_first<'f, 'a, 'e>(
     a: Category,
     ends: &'e mut [u16; 96],
 ) -> Place
-    requires { ⌜ (grammarRefusal (now file) ≡ none) × (length (now list) ≤ 96) × (length (now ends) ≡ 96) ⌝ }
+    requires { ⌜ Readable (now file) (now list) 0 (now ends) ⌝ }
     ensures { λ p. ⌜ Reading (grammarOf (now (file .entry))) (now (list .entry)) (a .0 ∷ []) 0 (now (ends .entry)) (now (ends .exit)) p ⌝ }
 {
     read(file, reader_at(list, 0), a, ends)

@@ -2,8 +2,7 @@
 -- The file, the reader and the category are Copy: what each owns is had twice, once for the callee and once for the exit. The `&mut` goes to the callee at its own lifetime, share and ghost name, and is given up for good (`gave-ref`).
 -- Assumes nothing.
 use mathlib.Core.Path.{_≡_, refl}
-use mathlib.Core.Option.{none}
-use Prim.Native.Nat.{ℕ, _≤_, _<_, _^_}
+use Prim.Native.Nat.{ℕ, _<_, _^_}
 use mathlib.Core.List.{List, [], _∷_}
 use lib.Dec.{T as Holds}
 use lib.ListN.{length}
@@ -19,7 +18,7 @@ use ghost.Atoms.{Atoms, sem}
 use contract.Lifetimes.{Lfts, Shares}
 use contract.Monad.{Fun, fact}
 use contract.Running.{givenOf, tables, tablesOf}
-use types.Kit.{Given, Item, ‵, raw, _⊛_, given, ⋆, some, later, _$_, _∵_, !, qed, by, move, drop, use1, use2, split, join, learn, pick, fsplit, fjoin, suffices, frame, await, done}
+use types.Kit.{Given, Item, ‵, raw, _⊛_, given, ⋆, some, later, _$_, _∵_, !, qed, by, move, drop, use1, use2, split, learn, pick, fsplit, fjoin, suffices, frame, await, done}
 use types.Part.{whole, sub, look-in}
 use types.Run.{look, init, forget, stop, hop, fld, from, load, addr, of-opd, and-then, no-more, assigns, land, returns, enter, alloc1, alloc0, params1, pass1, pass0, free1, free0}
 use sound.WpLaws.{FmC, fmOf, WpFn-mono}
@@ -45,12 +44,12 @@ use denote.Triple.Walked.{says, needs, Stays, stay-none, stay-none-slice, gave-r
 use denote.Triple.Clauses.{Lasts, ensured, lasts}
 use denote.Exit.{yes}
 use Rattle.model.specs.declared.Category.{Category}
-use Rattle.model.specs.GrammarFile.{grammarRefusal, grammarOf}
+use Rattle.model.specs.GrammarFile.{grammarOf}
 use Rattle.model.proofs.Category as C
 use Rattle.model.proofs.Category.Laws as C′
 use Rattle.trees.specs.declared.reading.Place.{Place}
 use Rattle.trees.specs.declared.tree_reader.TreeReader.{TreeReader}
-use Rattle.trees.specs.Reader.{Reading}
+use Rattle.trees.specs.Reader.{Readable, Reading}
 use Rattle.trees.proofs.reading.Place as P
 use Rattle.trees.proofs.reading.Place.Laws as P′
 use Rattle.trees.proofs.tree_reader.TreeReader as T
@@ -83,11 +82,7 @@ module _ {M : Type 1} (𝓤 : URA M) (H : Heap 𝓤) (A : Atoms 𝓤) (mem : Mem
   abbrev ReadNode : Contract 𝓤
   ReadNode = tripleOf 𝓤 H A read-node.signature (read-node.spec 𝓤 H A mem run)
 
--- what both require
-abbrev Asks : List ℕ → TreeReader → List ℕ → Type 0
-Asks file r ends = (grammarRefusal file ≡ none) × (length (now (r .list)) ≤ 96) × (r .place ≤ length (now (r .list))) × (length ends ≡ 96)
-
-module _ {M : Type 1} (𝓤 : URA M) (H : Heap 𝓤) (A : Atoms 𝓤) (W : Given 𝓤 H A) (mem : Memory → SProp 𝓤) (run : Routine → Fun 𝓤) (κf κa κe : Lft) (qf qa qe : Share) (f : RefT (List ℕ)) (d : TreeReader) (a : Category) (b o : ℕ) (γ : GName) (h : List ℕ) (ok : Asks (f .now) d h) where
+module _ {M : Type 1} (𝓤 : URA M) (H : Heap 𝓤) (A : Atoms 𝓤) (W : Given 𝓤 H A) (mem : Memory → SProp 𝓤) (run : Routine → Fun 𝓤) (κf κa κe : Lft) (qf qa qe : Share) (f : RefT (List ℕ)) (d : TreeReader) (a : Category) (b o : ℕ) (γ : GName) (h : List ℕ) (ok : Readable (f .now) (now (d .list)) (d .place) h) where
   abbrev κs : Lfts 3
   κs = (κf, (κa, (κe, tt)))
 
@@ -213,7 +208,7 @@ module _ {M : Type 1} (𝓤 : URA M) (H : Heap 𝓤) (A : Atoms 𝓤) (W : Given
   read-walks Cs Λ fm known = walked 𝓤 H A read.ended stayed (read.clauses 𝓤 H A mem run) (WpFn 𝓤 H Cs Λ code.function)
       (λ κs. (slice-vals, (LL.vals (T.the-type (namedLft 3 1 tt κs)) (T′.the-laws (namedLft 3 1 tt κs)), (LL.vals C.the-type C′.the-laws, (ptr-vals, tt)))))
       (λ κs. (shr-slice-tells (named 0) (κs .0) u8, (LL.tells (T.the-type (namedLft 3 1 tt κs)) (T′.the-laws (namedLft 3 1 tt κs)), (LL.tells C.the-type C′.the-laws, (mut-tells (named 2) (κs .1 .1 .0) Arr, tt)))))
-      (λ κs qs bounds a g are. needs 𝓤 (Asks (a .0 .now) (a .1 .0) (a .1 .1 .1 .0 .now)) _ (λ ok.
+      (λ κs qs bounds a g are. needs 𝓤 (Readable (a .0 .now) (now (a .1 .0 .list)) (a .1 .0 .place) (a .1 .1 .1 .0 .now)) _ (λ ok.
       walk 𝓤 H A W mem run (κs .0) (κs .1 .0) (κs .1 .1 .0) (qs .0) (qs .1 .0) (qs .1 .1 .0) (a .0) (a .1 .0) (a .1 .1 .0) (a .1 .1 .1 .0 .ptr .0) (a .1 .1 .1 .0 .ptr .1) (a .1 .1 .1 .0 .name) (a .1 .1 .1 .0 .now) ok Cs Λ fm known (are .0)
       (LL.lawful (T.the-type (namedLft 3 1 tt κs)) (T′.the-laws (namedLft 3 1 tt κs)) 𝓤 H A W .typed (a .1 .0) _ (are .1 .0) .0) (LL.lawful C.the-type C′.the-laws 𝓤 H A W .typed (a .1 .1 .0) _ (are .1 .1 .0) .0)))
 

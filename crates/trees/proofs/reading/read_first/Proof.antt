@@ -2,9 +2,7 @@
 -- The file, the list and the category are Copy: what each owns is had twice, once for the callees and once for the exit. The `&mut` goes to `read` at its own lifetime, share and ghost name, and is given up for good (`gave-ref`).
 -- Assumes nothing.
 use mathlib.Core.Path.{_≡_, refl}
-use mathlib.Core.Option.{none}
-use Prim.Native.Nat.{ℕ, _≤_}
-use native.Mathlib.Omega.{arith}
+use Prim.Native.Nat.{ℕ}
 use mathlib.Core.List.{List, [], _∷_}
 use lib.Dec.{T as Holds, lit<}
 use lib.ListN.{length}
@@ -28,7 +26,7 @@ use denote.Laws.{Is, shows}
 use denote.Plain.{uint-makes}
 use denote.Builtin.{u8, u16, usize, Array, ArrayOf}
 use denote.Ref.{RefT, NamedLft, MutRef, ptr-vals, mut-tells}
-use denote.Signature.{Slot, plain, namedLft}
+use denote.Signature.{Slot, plain}
 use denote.Slice.{sliceVal, ShrSlice, slice-vals, shr-slice-tells, shr-slice-lawful, shr-slice-copy}
 use denote.Steps.{owned, peeks, heard, nothing}
 use denote.Enum.Laws as EL
@@ -42,12 +40,12 @@ use denote.Triple.Walked.{says, needs, Stays, stay-none, stay-none-slice, gave-r
 use denote.Triple.Clauses.{Lasts, ensured, lasts}
 use denote.Exit.{yes}
 use Rattle.model.specs.declared.Category.{Category}
-use Rattle.model.specs.GrammarFile.{grammarRefusal, grammarOf}
+use Rattle.model.specs.GrammarFile.{grammarOf}
 use Rattle.model.proofs.Category as C
 use Rattle.model.proofs.Category.Laws as C′
 use Rattle.trees.specs.declared.reading.Place.{Place}
 use Rattle.trees.specs.declared.tree_reader.TreeReader.{TreeReader}
-use Rattle.trees.specs.Reader.{Reading}
+use Rattle.trees.specs.Reader.{Readable, Reading}
 use Rattle.trees.proofs.reading.Place as P
 use Rattle.trees.proofs.reading.Place.Laws as P′
 use Rattle.trees.proofs.tree_reader.TreeReader as T
@@ -87,10 +85,7 @@ module _ {M : Type 1} (𝓤 : URA M) (H : Heap 𝓤) (A : Atoms 𝓤) (mem : Mem
   abbrev ReadAt : Contract 𝓤
   ReadAt = tripleOf 𝓤 H A read.signature (read.spec 𝓤 H A mem run)
 
-abbrev Asks : List ℕ → List ℕ → List ℕ → Type 0
-Asks file list ends = (grammarRefusal file ≡ none) × (length list ≤ 96) × (length ends ≡ 96)
-
-module _ {M : Type 1} (𝓤 : URA M) (H : Heap 𝓤) (A : Atoms 𝓤) (W : Given 𝓤 H A) (mem : Memory → SProp 𝓤) (run : Routine → Fun 𝓤) (κf κa κe : Lft) (qf qa qe : Share) (f s : RefT (List ℕ)) (a : Category) (b o : ℕ) (γ : GName) (h : List ℕ) (ok : Asks (f .now) (s .now) h) where
+module _ {M : Type 1} (𝓤 : URA M) (H : Heap 𝓤) (A : Atoms 𝓤) (W : Given 𝓤 H A) (mem : Memory → SProp 𝓤) (run : Routine → Fun 𝓤) (κf κa κe : Lft) (qf qa qe : Share) (f s : RefT (List ℕ)) (a : Category) (b o : ℕ) (γ : GName) (h : List ℕ) (ok : Readable (f .now) (s .now) 0 h) where
   abbrev κs : Lfts 3
   κs = (κf, (κa, (κe, tt)))
 
@@ -186,7 +181,7 @@ module _ {M : Type 1} (𝓤 : URA M) (H : Heap 𝓤) (A : Atoms 𝓤) (W : Given
   Passed u = owns (ShrSlice (named 0) κf u8 ∷ B κa ∷ C.the-row ∷ MutRef (named 2) κe Arr ∷ []) y (vf ∷ [], (u ∷ [], (va ∷ [], (vptr b o ∷ [], tt))))
 
   asked : (u : Val) → ent 𝓤 (⋆ 𝓤 H A (Tok ∷ ‵ (Passed u) ∷ [])) (ReadAt 𝓤 H A mem run .pre (to-read u))
-  asked u = qed W (Tok ∷ ‵ (Passed u) ∷ []) ∵ says ! (ok .0, ok .1, omega arith, ok .2) $ frame ! $ done !
+  asked u = qed W (Tok ∷ ‵ (Passed u) ∷ []) ∵ says ! ok $ frame ! $ done !
 
   goes-read : (u : Val) → ent 𝓤 (⋆ 𝓤 H A ((‵ (R r₀ u) ⊛ Ta) ∷ Keep ∷ [])) (sep 𝓤 (ReadAt 𝓤 H A mem run .pre (to-read u)) (sep 𝓤 (sem 𝓤 H A K) (sep 𝓤 (sem 𝓤 H A F) (sem 𝓤 H A S))))
   goes-read u =
@@ -249,7 +244,7 @@ module _ {M : Type 1} (𝓤 : URA M) (H : Heap 𝓤) (A : Atoms 𝓤) (W : Given
   read-first-walks Cs Λ fm known-reader known-read = walked 𝓤 H A read-first.ended stayed (read-first.clauses 𝓤 H A mem run) (WpFn 𝓤 H Cs Λ code.function)
       (λ κs. (slice-vals, (slice-vals, (LL.vals C.the-type C′.the-laws, (ptr-vals, tt)))))
       (λ κs. (shr-slice-tells (named 0) (κs .0) u8, (shr-slice-tells (named 1) (κs .1 .0) u16, (LL.tells C.the-type C′.the-laws, (mut-tells (named 2) (κs .1 .1 .0) Arr, tt)))))
-      (λ κs qs bounds a g are. needs 𝓤 (Asks (a .0 .now) (a .1 .0 .now) (a .1 .1 .1 .0 .now)) _ (λ ok.
+      (λ κs qs bounds a g are. needs 𝓤 (Readable (a .0 .now) (a .1 .0 .now) 0 (a .1 .1 .1 .0 .now)) _ (λ ok.
       walk 𝓤 H A W mem run (κs .0) (κs .1 .0) (κs .1 .1 .0) (qs .0) (qs .1 .0) (qs .1 .1 .0) (a .0) (a .1 .0) (a .1 .1 .0) (a .1 .1 .1 .0 .ptr .0) (a .1 .1 .1 .0 .ptr .1) (a .1 .1 .1 .0 .name) (a .1 .1 .1 .0 .now) ok Cs Λ fm known-reader known-read (are .0) (are .1 .0)
       (LL.lawful C.the-type C′.the-laws 𝓤 H A W .typed (a .1 .1 .0) _ (are .1 .1 .0) .0)))
 
