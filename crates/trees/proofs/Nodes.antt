@@ -20,7 +20,7 @@ use Rattle.model.specs.declared.Tested.{Tested}
 use Rattle.model.specs.Grammar.{Rule, Grammar, ruleAt}
 use Rattle.model.specs.GrammarFile.{startOf, rulesOf, recordOf, field, grammarRefusal, grammarOf}
 use Rattle.model.specs.Tree.{others, forest, nodesRefusal}
-use Rattle.trees.specs.Places.{endOf, Ended}
+use Rattle.trees.specs.Places.{endOf}
 use Rattle.model.proofs.Tests.{none-some}
 use Rattle.model.proofs.Verdicts.{met-is, passed-is}
 use Rattle.model.proofs.RuleFromRecord.{daughters-length}
@@ -30,10 +30,6 @@ use Rattle.trees.specs.declared.reading.Place.{Place}
 use Rattle.trees.specs.declared.reading.Place.the-variants.{Next, Stop}
 use Rattle.trees.specs.Reader.{daughtersBy, below, Passes, Meets, Says, Reading, ReadAll}
 use Rattle.trees.proofs.Places.{others-next, end-is}
-
--- a part of the table is kept where what is written later stands behind it
-ended-kept : (g : Grammar) (list before after : List ℕ) (k e : ℕ) → ((i : ℕ) → i < e → getD after i 0 ≡ getD before i 0) → Ended g list before k e → Ended g list after k e
-ended-kept g list before after k e same h i lo hi = same i hi ∙ h i lo hi
 
 module _ (g : Grammar) (list : List ℕ) where
   -- no trees

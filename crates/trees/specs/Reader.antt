@@ -10,10 +10,15 @@ use Rattle.model.specs.declared.Refusal.{Refusal}
 use Rattle.model.specs.declared.Tested.{Tested}
 use Rattle.model.specs.Verdict.{tested}
 use Rattle.model.specs.Grammar.{Rule, Grammar, ruleAt}
+use Rattle.model.specs.GrammarFile.{grammarRefusal}
 use Rattle.model.specs.Tree.{others, forest, nodesRefusal}
 use Rattle.trees.specs.Places.{Ended}
 use Rattle.trees.specs.declared.reading.Place.{Place}
 use Rattle.trees.specs.declared.reading.Place.the-variants.{Next, Stop}
+
+-- a tree can be read at place k of the list: the grammar is accepted, the list is no longer than a tree's, and the table has room
+abbrev pub Readable : List ℕ → List ℕ → ℕ → List ℕ → Type 0
+Readable file list k table = (grammarRefusal file ≡ none) × (length list ≤ 96) × (k ≤ length list) × (length table ≡ 96)
 
 -- the categories that a rule gives its daughters
 abbrev pub daughtersBy : Option Rule → List ℕ

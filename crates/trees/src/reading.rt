@@ -5,8 +5,10 @@ ghost use mathlib.Core.Path.{_≡_};
 ghost use Prim.Native.Nat.{_<_, _≤_};
 ghost use lib.ListN.{length, drop};
 ghost use Rattle.model.specs.GrammarFile.{rulesOf, grammarRefusal, grammarOf};
-ghost use Rattle.trees.specs.Reader.{below, Reading, ReadAll};
+ghost use Rattle.trees.specs.Reader.{Readable, below, Reading, ReadAll};
 use crate::tree_reader::Found;
+use crate::tree_reader::TreeReader;
+use crate::tree_reader::reader_at;
 use crate::tree_reader::take_at;
 use grammar::category_of;
 use grammar::daughter;
@@ -26,7 +28,7 @@ pub enum Place {
 
 // Reads the tree at place k of the list, whose root is wanted of category a, and stores for each of its nodes the place after the node's tree.
 pub fn read_node(file: &[u8], list: &[u16], k: usize, a: Category, ends: &mut [u16; 96]) -> Place
-    requires { ⌜ (grammarRefusal (now file) ≡ none) × (length (now list) ≤ 96) × (k ≤ length (now list)) × (length (now ends) ≡ 96) ⌝ }
+    requires { ⌜ Readable (now file) (now list) k (now ends) ⌝ }
     ensures { λ p. ⌜ Reading (grammarOf (now (file .entry))) (now (list .entry)) (a .0 ∷ []) k (now (ends .entry)) (now (ends .exit)) p ⌝ }
 {
     let found = take_at(list, k);
@@ -71,12 +73,38 @@ pub fn read_daughters(
     }
 }
 
+// Reads the tree at the reader's place, whose root is wanted of category a: the reader is taken apart, and its node is read.
+pub fn read<'f, 'a, 'e>(
+    file: &'f [u8],
+    r: TreeReader<'a>,
+    a: Category,
+    ends: &'e mut [u16; 96],
+) -> Place
+    requires { ⌜ Readable (now file) (now (r .list)) (r .place) (now ends) ⌝ }
+    ensures { λ p. ⌜ Reading (grammarOf (now (file .entry))) (now (r .entry .list)) (a .0 ∷ []) (r .entry .place) (now (ends .entry)) (now (ends .exit)) p ⌝ }
+{
+    read_node(file, r.list, r.place, a, ends)
+}
+
+// Reads the tree at the front of the list, by a reader at its first place: for callers that hold no reader.
+pub fn read_first<'f, 'a, 'e>(
+    file: &'f [u8],
+    list: &'a [u16],
+    a: Category,
+    ends: &'e mut [u16; 96],
+) -> Place
+    requires { ⌜ Readable (now file) (now list) 0 (now ends) ⌝ }
+    ensures { λ p. ⌜ Reading (grammarOf (now (file .entry))) (now (list .entry)) (a .0 ∷ []) 0 (now (ends .entry)) (now (ends .exit)) p ⌝ }
+{
+    read(file, reader_at(list, 0), a, ends)
+}
+
 // Reads the whole list as one tree with the start category as root: refusals 19, 13, 20 and 21.
 pub fn read_tree(file: &[u8], list: &[u16], ends: &mut [u16; 96]) -> Tested
     requires { ⌜ (grammarRefusal (now file) ≡ none) × (length (now list) ≤ 96) × (length (now ends) ≡ 96) ⌝ }
     ensures { λ t. ⌜ ReadAll (grammarOf (now (file .entry))) (now (list .entry)) (now (ends .exit)) t ⌝ }
 {
-    let p = read_node(file, list, 0, start(file), ends);
+    let p = read_first(file, list, start(file), ends);
     match p {
         Place::Next(e) => {
             if e < list.len() {
