@@ -19,7 +19,14 @@ use report::fill;
 use rows::rules::compile;
 use search::chain_rules;
 
-// How many of a file's bytes stand in a buffer, and whether the length of the whole file is even.
+// What is read of the files: of a grammar one byte more than an accepted one can have, of a sentence N and one word more than an accepted one can have.
+const GRAMMAR_BYTES: usize = 7169;
+
+const SENTENCE_BYTES: usize = 195;
+
+const SENTENCE_WORDS: usize = 97;
+
+// How many of a file's bytes stand in a buffer, and whether as many bytes as were read of it is an even number.
 struct Loaded {
     bytes: usize,
     even: bool,
@@ -83,9 +90,8 @@ fn append(chunk: &[u8], n: usize, buf: &mut [u8], done: usize) -> usize
     done + most
 }
 
+// The lesser of two numbers.
 fn least(a: usize, b: usize) -> usize
-    ensures { λ r. ⌜ r ≤ a ⌝ }
-    ensures { λ r. ⌜ r ≤ b ⌝ }
     ensures { λ r. ⌜ r ≡ min a b ⌝ }
 {
     if a < b { a } else { b }
@@ -217,7 +223,14 @@ fn write_on(text: &[u8], done: usize) -> Written
     }
 }
 
-// Writes a text to standard output, and answers whether all of it is written. The loop counts its turns down from a number that no run uses up.
+// Says on standard error that a write to standard output failed. The answer of what cannot write all.
+fn not_written() -> bool {
+    os::fail(b"count_analyses: standard output");
+    false
+}
+
+// Writes a text to standard output, and answers whether all of it is written; where it is not, that is said on standard error. The loop counts its turns down
+// from a number that no run uses up.
 fn write_text(text: &[u8]) -> bool {
     let mut done: usize = 0;
     let mut turns = u64::MAX;
@@ -227,7 +240,7 @@ fn write_text(text: &[u8]) -> bool {
         }
         let next = write_on(text, done);
         let Written::To(d) = next else {
-            return false;
+            return not_written();
         };
         done = d;
         turns -= 1;
@@ -242,13 +255,14 @@ fn print_refusal(r: Refusal) {
     write_text(&out[0..n]);
 }
 
-// The listing goes on after an entry of so many steps, or it ends here.
+// The listing goes on after an entry of so many steps; or all of it is written; or a page cannot be written.
 enum Next {
     After(usize),
-    Stop,
+    Ended,
+    Broken,
 }
 
-// Writes one page of the listing, after what stands before place `at` of the buffer. Stops after the last page, and where a page cannot be written.
+// Writes one page of the listing, after what stands before place `at` of the buffer.
 fn print_page(
     file: &[u8],
     t: &[u16; 8192],
@@ -261,19 +275,22 @@ fn print_page(
     at: usize,
 ) -> Next
     requires { ⌜ Lists (now file) (now t) (now chain) (now sentence) n (now path) len × (at + 576 < length (now out)) ⌝ }
-    ensures { λ r. ⌜ NextSays (grammarOf (now (file .entry))) (now (sentence .entry)) n (take len (now (path .entry))) (now (path .exit)) r ⌝ }
+    ensures { λ r. ⌜ NextSays (grammarOf (now (file .entry))) (now (sentence .entry)) n (take len (now (path .entry))) (now (path .exit)) (now (out .entry)) at (now (out .exit)) r ⌝ }
 {
     let page = fill(file, t, chain, sentence, n, path, len, out, at);
     match page {
         Page::Last(end) => {
-            write_text(&out[0..end]);
-            Next::Stop
+            if write_text(&out[0..end]) {
+                Next::Ended
+            } else {
+                Next::Broken
+            }
         }
         Page::More(end, k) => {
             if write_text(&out[0..end]) {
                 Next::After(k)
             } else {
-                Next::Stop
+                Next::Broken
             }
         }
     }
@@ -314,9 +331,9 @@ fn print_all(file: &[u8], sentence: &[u16], n: u8, even: bool) {
 }
 
 fn main() {
-    let mut file = [0u8; 7169];
-    let mut bytes = [0u8; 195];
-    let mut words = [0u16; 97];
+    let mut file = [0u8; GRAMMAR_BYTES];
+    let mut bytes = [0u8; SENTENCE_BYTES];
+    let mut words = [0u16; SENTENCE_WORDS];
     let m = load_grammar(&mut file);
     let s = load_sentence(&mut bytes);
     let b = s.bytes;

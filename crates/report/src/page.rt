@@ -4,8 +4,12 @@ ghost use lib.ListN.{length, take};
 ghost use Rattle.model.specs.GrammarFile.{grammarOf};
 ghost use Rattle.report.specs.Page.{Lists, LineSays, PageSays};
 use crate::text::put_line;
+use crate::verdict::EFFORT_LIMIT;
 use listing::Followed;
 use listing::follow;
+
+// A line of 96 numbers has at most so many bytes and a newline.
+const LINE_BYTES: usize = 576;
 
 // A line is written: the place after it, and how many steps its entry has. Or there is no entry left.
 pub enum Line {
@@ -34,7 +38,7 @@ fn put_next(
     requires { ⌜ Lists (now file) (now t) (now chain) (now sentence) n (now path) len × (at + 576 < length (now out)) ⌝ }
     ensures { λ l. ⌜ LineSays (grammarOf (now (file .entry))) (now (sentence .entry)) n (take len (now (path .entry))) (now (path .exit)) (now (out .entry)) at (now (out .exit)) l ⌝ }
 {
-    let f = follow(file, t, chain, sentence, n, 1000000, len, path);
+    let f = follow(file, t, chain, sentence, n, EFFORT_LIMIT, len, path);
     match f {
         Followed::Next(k) => Line::Put(put_line(path, k, out, at), k),
         Followed::Last => Line::Last,
@@ -60,7 +64,7 @@ pub fn fill(
 {
     let mut p = at;
     let mut k = len;
-    while 576 < out.len() - p {
+    while LINE_BYTES < out.len() - p {
         let l = put_next(file, t, chain, sentence, n, path, k, out, p);
         match l {
             Line::Put(q, m) => {

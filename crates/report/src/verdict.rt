@@ -7,6 +7,9 @@ use model::Refusal;
 use model::Tested;
 use reader::grammar_refusal;
 
+// "effort limit 1,000,000"
+pub const EFFORT_LIMIT: u64 = 1000000;
+
 // The refusal of the grammar, of a sentence file of even length, or of the count with the program's effort limit; else count and effort.
 pub fn program_verdict(file: &[u8], sentence: &[u16], n: u64, even: bool) -> CountVerdict
     ensures { λ v. ⌜ v ≡ verdictOf (now (file .entry)) (now (sentence .entry)) n even ⌝ }
@@ -18,5 +21,5 @@ pub fn program_verdict(file: &[u8], sentence: &[u16], n: u64, even: bool) -> Cou
     if even {
         return CountVerdict::NotCounted(Refusal::Analysis(11, 0));
     }
-    count(file, sentence, n, 1000000)
+    count(file, sentence, n, EFFORT_LIMIT)
 }

@@ -35,7 +35,7 @@ pub fn reader_at<'a>(list: &'a [u16], place: usize) -> TreeReader<'a>
     TreeReader { list, place }
 }
 
-// The reader moved on by one node: from a node to its first daughter.
+// The reader moved on by one, to the next node of the list: the first daughter of a node that has daughters.
 pub fn moved_on<'a>(r: TreeReader<'a>) -> TreeReader<'a>
     requires { ⌜ r .place + 1 < 2 ^ 64 ⌝ }
     ensures { λ q. ⌜ (q .list ≡ r .entry .list) × (q .place ≡ r .entry .place + 1) ⌝ }

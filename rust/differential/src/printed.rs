@@ -25,7 +25,11 @@ pub fn compare(program: &str, seed: u64, tally: &mut Tally) -> Result<(), String
     let outcome = (0..RUNS).try_for_each(|run| {
         tally.programs += 1;
         let mut rng = Rng::new(seed, 1_000_000_007 + run);
-        let (grammar, sentence) = if run == 0 { too_much_effort() } else { files(&mut rng) };
+        let (grammar, sentence) = match run {
+            0 => too_much_effort(),
+            1 => many_pages(),
+            _ => files(&mut rng),
+        };
         one(&program, &folder, grammar.as_deref(), sentence.as_deref()).map_err(|report| format!("program, run {run}: {report}"))
     });
     fs::remove_dir_all(&folder).map_err(|error| error.to_string())?;
@@ -35,6 +39,11 @@ pub fn compare(program: &str, seed: u64, tally: &mut Tally) -> Result<(), String
 /// More than 1,000,000 live prefixes.
 fn too_much_effort() -> (Option<Vec<u8>>, Option<Vec<u8>>) {
     (Some(Made::of_text(PAIR).file), Some(sentence_file(27, &[0; 14])))
+}
+
+/// A listing of 4,862 traces, which the program writes in several pieces.
+fn many_pages() -> (Option<Vec<u8>>, Option<Vec<u8>>) {
+    (Some(Made::of_text(PAIR).file), Some(sentence_file(19, &[0; 10])))
 }
 
 /// A grammar file and a sentence file, now and then damaged or not there.

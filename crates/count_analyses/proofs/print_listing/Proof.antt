@@ -64,9 +64,6 @@ print-page-requires c κs = let i = c .before .before .before .before .loop in (
 enum-known-next : tie.Need-enum-known-next Inv-loop μ-loop
 enum-known-next c = search needs
 
-enum-told : tie.Need-enum-told Inv-loop μ-loop
-enum-told c = search needs
-
 returns : tie.Need-returns Inv-loop μ-loop
 returns c = search needs
 
@@ -96,7 +93,6 @@ print-listing-spec =
     loop-holds
     print-page-requires
     enum-known-next
-    enum-told
     returns
     loop-less
     loop-again)

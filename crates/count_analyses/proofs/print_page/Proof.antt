@@ -4,10 +4,6 @@ use borrow.Author.Needs.{needs}
 use Rattle.report.proofs.Pages.{page-lists}
 use Rattle.count_analyses.proofs.print_page.Statement.{statement}
 use Rattle.count_analyses.proofs.print_page.Tie as tie
-use Rattle.count_analyses.proofs.print_page.Reads as reads
-use Rattle.count_analyses.proofs.print_page.Lts as lts
-use Rattle.count_analyses.proofs.write_text.Reads as write-text-reads
-use Rattle.report.proofs.fill.Reads as fill-reads
 
 fill-requires : tie.Need-fill-requires
 fill-requires c κs = search needs
@@ -46,22 +42,28 @@ same-length : tie.Need-same-length
 same-length c = search needs
 
 returns : tie.Need-returns
-returns c = search needs
+returns c = (_, rw (c .before .before .before .before .before .page .given .1) at (c .before .before .before .before .before .before .before .before .before .fill .ensures))
 
 same-length-2 : tie.Need-same-length-2
 same-length-2 c = search needs
 
 returns-2 : tie.Need-returns-2
-returns-2 c =
-    let w = rw (c .before .before .before .before .before .page2 .given .1) at (c .before .before .before .before .before .before .before .before .before .fill .ensures) in
-    let s = c .before .before .before .before .before .before .before .before .before .before .before .before .before .before .before in
-    (w .0 .listed, w .0 .path-long, page-lists w (s .pre .1))
+returns-2 c = search needs
 
 same-length-3 : tie.Need-same-length-3
 same-length-3 c = search needs
 
 returns-3 : tie.Need-returns-3
-returns-3 c = search needs
+returns-3 c =
+    let w = rw (c .before .before .before .before .before .page2 .given .1) at (c .before .before .before .before .before .before .before .before .before .fill .ensures) in
+    let s = c .before .before .before .before .before .before .before .before .before .before .before .before .before .before .before in
+    (w .0 .listed, w .0 .path-long, page-lists w (s .pre .1))
+
+same-length-4 : tie.Need-same-length-4
+same-length-4 c = search needs
+
+returns-4 : tie.Need-returns-4
+returns-4 c = search needs
 
 pub print-page-spec : {M : Type 1} → statement M
 print-page-spec =
@@ -83,4 +85,6 @@ print-page-spec =
     same-length-2
     returns-2
     same-length-3
-    returns-3)
+    returns-3
+    same-length-4
+    returns-4)

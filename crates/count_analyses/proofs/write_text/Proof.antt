@@ -27,6 +27,9 @@ enum-known-next c = search needs
 enum-told : tie.Need-enum-told Inv-loop μ-loop
 enum-told c = search needs
 
+not-written-requires : tie.Need-not-written-requires Inv-loop μ-loop
+not-written-requires c κs = search needs
+
 returns-2 : tie.Need-returns-2 Inv-loop μ-loop
 returns-2 c = search needs
 
@@ -53,6 +56,7 @@ write-text-spec =
     write-on-requires
     enum-known-next
     enum-told
+    not-written-requires
     returns-2
     sub-turns
     loop-less
