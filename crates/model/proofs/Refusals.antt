@@ -14,7 +14,7 @@ use Rattle.model.specs.declared.Refusal.the-variants.{Grammar as OfGramm
 use Rattle.model.specs.declared.Verdict.{Verdict}
 use Rattle.model.specs.Base.{if_then_else_, _orElse_, firstFrom, each, numbersFrom}
 use Rattle.model.specs.Verdict.{Author, grammarAuthor, analysisAuthor, desk, author, number, place, Answer, values, refusal, refusalAnswer, verdictAnswer, countAnswer, refuseIf, verdict, countVerdict}
-use Rattle.model.specs.Grammar.{Rule, Grammar, emptyWord, ruleAt, isLexical}
+use Rattle.model.specs.Grammar.{Rule, Grammar, emptyWord, ruleAt, isLexical, daughtersBy}
 use Rattle.model.specs.GrammarFile.{grammarOf, categoriesOf, grammarRefusal, ruleRefusal, blocks, rulesOf, dimensionsOf, wordsOf, recordOf, wrongCategory, wrongWord, wrongVariables, unusedSet, repeated, wrongLength, wrongCheck, wrongBlock, wrongHeading, wrongBlocks, wrongCount, wrongRest}
 use Rattle.model.specs.Writer.{Heading, fileOf, headingBlock}
 use Rattle.model.specs.Step.{Prediction, State, Outcome, fails, leads, wordFits, readWord, scan, predict, apply, step, begin}
@@ -23,7 +23,7 @@ use Rattle.model.specs.Tree.{nodesRefusal, treeRefusal, spells, treeOfLi
 use Rattle.model.specs.Conversions.{treeOf, traceOf}
 use Rattle.model.specs.Counting.{count, effort, entry, limitsRefusal, effortRefusal}
 use Rattle.model.specs.Calls.{written, roomRefusal, writeRefusal, checkTraceRefusal, checkTreeRefusal, traceToTreeRefusal, treeToTraceRefusal, countRefusal, entryCallRefusal, surveyRefusal}
-use Rattle.model.specs.Refusals.{Test, ofGrammar, ofAnalysis, ofDesk, ruleTests, fileTests, wordTests, sentenceTests, noRule, otherCategory, otherWord, stepTests, stepsTests, traceTests, daughtersBy, nodesTests, treeTests, roomTests, limitTests, effortTests, writeTests, checkTraceTests, checkTreeTests, traceToTreeTests, treeToTraceTests, countTests, entryTests, surveyTests}
+use Rattle.model.specs.Refusals.{Test, ofGrammar, ofAnalysis, ofDesk, ruleTests, fileTests, wordTests, sentenceTests, noSuchRule, otherCategory, otherWord, stepTests, stepsTests, traceTests, nodesTests, treeTests, roomTests, limitTests, effortTests, writeTests, checkTraceTests, checkTreeTests, traceToTreeTests, treeToTraceTests, countTests, entryTests, surveyTests}
 use Rattle.model.specs.Demands.{NoneMeets, First, Decided, Wrote, Demand1}
 use Rattle.model.proofs.Tests.{none-some}
 use Rattle.model.proofs.Room.{file-fits, tree-fits, trace-fits, entry-fits, figures-fit}
@@ -311,9 +311,9 @@ module _ (g : Grammar) (sentence : List ℕ) where
   nodes-first (r ∷ rs) (c ∷ wanted) k = go (ruleAt g r) (λ ds. nodes-first rs (ds ++ wanted) (suc k))
     where
       go : (o : Option Rule) → ((ds : List ℕ) → firstMet (nodesTests g (suc k) (ds ++ wanted) rs) ≡ nodesRefusal g (suc k) (ds ++ wanted) rs)
-          → (refuseIf (noRule o) (Refusal.Analysis 13 k)
+          → (refuseIf (noSuchRule o) (Refusal.Analysis 13 k)
           orElse refuseIf (otherCategory o c) (Refusal.Analysis 20 k)
-          orElse firstMet (nodesTests g (suc k) (daughtersBy g o ++ wanted) rs))
+          orElse firstMet (nodesTests g (suc k) (daughtersBy o ++ wanted) rs))
           ≡ elim o [
             | none ↦ some (Refusal.Analysis 13 k)
             | some rule ↦

@@ -3,7 +3,7 @@
 use Prim.Native.Nat.{ℕ}
 use mathlib.Core.List.{List, [], _∷_}
 use mathlib.Core.Bool.{Bool, true, false}
-use mathlib.Core.Option.{Option}
+use mathlib.Core.Option.{Option, none, some}
 use lib.ListN.{getD, getElem?}
 
 -- "A variable names a daughter position and one of that daughter's components."
@@ -38,6 +38,11 @@ dimension g category = getD (g .dimensions) category 0
 -- the rule of a number, if there is one
 abbrev pub ruleAt : Grammar → ℕ → Option Rule
 ruleAt g r = getElem? (g .rules) r
+
+-- the categories that a rule gives its daughters; none where there is no rule
+abbrev pub daughtersBy : Option Rule → List ℕ
+daughtersBy none = []
+daughtersBy (some rule) = rule .daughters
 
 -- component c of the daughter at position j
 abbrev pub variable : ℕ → ℕ → Variable

@@ -9,7 +9,7 @@ use lib.Dec.{ltb, leb, eqb}
 use lib.ListN.{length}
 use Rattle.model.specs.Base.{each, numbersFrom}
 use Rattle.model.specs.Verdict.{Author, grammarAuthor, analysisAuthor, desk}
-use Rattle.model.specs.Grammar.{Rule, Grammar, emptyWord, ruleAt, isLexical}
+use Rattle.model.specs.Grammar.{Rule, Grammar, emptyWord, ruleAt, daughtersBy, isLexical}
 use Rattle.model.specs.GrammarFile.{grammarOf, blocks, rulesOf, dimensionsOf, wordsOf, recordOf, wrongLength, wrongCheck, wrongBlock, wrongHeading, wrongBlocks, wrongCount, wrongRest, wrongCategory, wrongWord, wrongVariables, unusedSet, repeated}
 use Rattle.model.specs.Writer.{Heading, headingBlock, fileOf}
 use Rattle.model.specs.Step.{Prediction, State, fails, leads, wordFits, step, begin}
@@ -69,9 +69,9 @@ abbrev pub sentenceTests : Grammar → List ℕ → List Test
 sentenceTests g sentence = (ofAnalysis 11 96 (ltb 96 (length sentence)) ∷ []) andThen wordTests (g .words) 0 sentence
 
 -- "13 no such rule; 14 queue empty; 15 other category than the front; 16 word is not next"
-abbrev pub noRule : Option Rule → Bool
-noRule none = true
-noRule (some r) = false
+abbrev pub noSuchRule : Option Rule → Bool
+noSuchRule none = true
+noSuchRule (some r) = false
 
 abbrev pub noFront : List (Prediction (Unit {0})) → Bool
 noFront [] = true
@@ -95,7 +95,7 @@ notNext (some r) words = isLexical r && not (eqb (r .word) emptyWord) && otherWo
 
 abbrev pub stepTests : Option Rule → State (Unit {0}) → ℕ → List Test
 stepTests rule s k =
-    ofAnalysis 13 k (noRule rule)
+    ofAnalysis 13 k (noSuchRule rule)
     ∷ ofAnalysis 14 k (noFront (s .queue))
     ∷ ofAnalysis 15 k (otherFront rule (s .queue))
     ∷ ofAnalysis 16 k (notNext rule (s .words))
@@ -121,10 +121,6 @@ module _ (g : Grammar) (sentence : List ℕ) where
       andThen stepsTests 0 (begin noNode g tt sentence) trace
 
 module _ (g : Grammar) where
-  abbrev pub daughtersBy : Option Rule → List ℕ
-  daughtersBy none = []
-  daughtersBy (some rule) = rule .daughters
-
   -- "Tree, per node: 19 list ended (its length); 13; 20 category other than wanted. Then 21 nodes left over (first)": `wanted` are the categories of the
   -- nodes still to come
   abbrev pub nodesTests : ℕ → List ℕ → List ℕ → List Test
@@ -133,7 +129,7 @@ module _ (g : Grammar) where
   nodesTests k (c ∷ wanted) [] = ofAnalysis 19 k true ∷ []
   nodesTests k (c ∷ wanted) (r ∷ rs) =
       ofAnalysis 19 k false
-      ∷ ofAnalysis 13 k (noRule (ruleAt g r))
+      ∷ ofAnalysis 13 k (noSuchRule (ruleAt g r))
       ∷ ofAnalysis 20 k (otherCategory (ruleAt g r) c)
       ∷ nodesTests (suc k) (daughtersBy (ruleAt g r) ++ wanted) rs
 

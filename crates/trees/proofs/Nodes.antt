@@ -17,7 +17,7 @@ use lib.Seq.{drop-cons, getD-set-same, getD-set-other}
 use Rattle.model.specs.Base.{if_then_else_}
 use Rattle.model.specs.declared.Refusal.{Refusal}
 use Rattle.model.specs.declared.Tested.{Tested}
-use Rattle.model.specs.Grammar.{Rule, Grammar, ruleAt}
+use Rattle.model.specs.Grammar.{Rule, Grammar, ruleAt, daughtersBy}
 use Rattle.model.specs.GrammarFile.{startOf, rulesOf, recordOf, field, grammarRefusal, grammarOf}
 use Rattle.model.specs.Tree.{others, forest, nodesRefusal}
 use Rattle.trees.specs.Places.{endOf}
@@ -28,7 +28,7 @@ use Rattle.model.proofs.FromFile.{ruleRead, rule-read, record-tested}
 use Rattle.grammar.proofs.OfGrammar.{rule-none, daughter-is}
 use Rattle.trees.specs.declared.reading.Place.{Place}
 use Rattle.trees.specs.declared.reading.Place.the-variants.{Next, Stop}
-use Rattle.trees.specs.Reader.{daughtersBy, below, Passes, Meets, Says, Reading, ReadAll}
+use Rattle.trees.specs.Reader.{below, Passes, Meets, Says, Reading, ReadAll}
 use Rattle.trees.proofs.Places.{others-next, end-is}
 
 module _ (g : Grammar) (list : List ℕ) where

@@ -2,14 +2,14 @@
 -- 13 and 20).
 -- Assumes nothing.
 use mathlib.Core.Path.{_≡_}
-use mathlib.Core.Option.{Option, none, some}
+use mathlib.Core.Option.{none, some}
 use mathlib.Core.List.{List, [], _∷_, _++_}
 use Prim.Native.Nat.{ℕ, _+_, _<_, _≤_}
 use lib.ListN.{length, getD, drop}
 use Rattle.model.specs.declared.Refusal.{Refusal}
 use Rattle.model.specs.declared.Tested.{Tested}
 use Rattle.model.specs.Verdict.{tested}
-use Rattle.model.specs.Grammar.{Rule, Grammar, ruleAt}
+use Rattle.model.specs.Grammar.{Grammar, ruleAt, daughtersBy}
 use Rattle.model.specs.GrammarFile.{grammarRefusal}
 use Rattle.model.specs.Tree.{others, forest, nodesRefusal}
 use Rattle.trees.specs.Places.{Ended}
@@ -20,11 +20,7 @@ use Rattle.trees.specs.declared.reading.Place.the-variants.{Next, Stop}
 abbrev pub Readable : List ℕ → List ℕ → ℕ → List ℕ → Type 0
 Readable file list k table = (grammarRefusal file ≡ none) × (length list ≤ 96) × (k ≤ length list) × (length table ≡ 96)
 
--- the categories that a rule gives its daughters
-abbrev pub daughtersBy : Option Rule → List ℕ
-daughtersBy none = []
-daughtersBy (some rule) = rule .daughters
-
+-- the categories that rule r gives its daughters
 abbrev pub below : Grammar → ℕ → List ℕ
 below g r = daughtersBy (ruleAt g r)
 

@@ -1,5 +1,5 @@
--- Demand 2 of document 01 as a statement about the outcomes of the calls: "trace to tree to trace, tree to trace to tree are identities on accepted
--- ones". They hold for every file, sentence, list and output (proofs/RoundTrips.antt).
+-- The round trips of demand 2 as statements about the outcomes of the calls: "For accepted ones, trace to tree to trace gives back the trace; tree to trace
+-- to tree gives back the tree." They hold for every file, sentence, list and output (proofs/RoundTrips.antt).
 -- Assumes nothing.
 use mathlib.Core.Path.{_≡_}
 use mathlib.Core.List.{List, _++_}
