@@ -1,4 +1,4 @@
--- The numbers of a block, and the tests of a block one by one.
+-- The numbers that stand in a block, the tests of a block's number and kind and of the length one by one, and how many records a block holds.
 -- Assumes nothing.
 use mathlib.Core.Path.{_≡_, ap, _∙_}
 use mathlib.Core.Bool.{Bool, true, false, _&&_, not}

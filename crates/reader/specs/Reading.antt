@@ -1,4 +1,5 @@
--- The reader's tests in pieces: the refusals of one kind, and what is tested from a kind on (document 01, refusals 1 to 10).
+-- The reader's tests in pieces: the tests of the blocks, of the heading, of a record and of the rules, and what is tested from one of these on
+-- (document 01, refusals 1 to 10).
 -- Assumes nothing.
 use Prim.Native.Nat.{ℕ, _+_, _-_}
 use mathlib.Core.Bool.{Bool, _&&_}
@@ -59,7 +60,7 @@ recordTests dimensions words e i =
     orElse refuseIf (wrongVariables dimensions e) (Refusal.Grammar 8 i)
     orElse refuseIf (unusedSet dimensions e) (Refusal.Grammar 9 i)
 
--- refusals 6 to 10 of n rules
+-- refusals 6 to 10 of the rules 0 to n - 1, rule after rule: the first there is
 abbrev pub rulesRefusal : List ℕ → ℕ → Option Refusal
 rulesRefusal file n = firstFrom (ruleRefusal file) 0 n
 

@@ -119,7 +119,7 @@ pub fn blocks_for(rules: u16) -> usize
     1 + (rules as usize + 20) / 21
 }
 
-// Refusal 5: the number of blocks.
+// Refusal 5 at place 0: the number of blocks is wrong.
 pub fn wrong_blocks(file: &[u8]) -> bool
     ensures { λ r. ⌜ r ≡ wrongBlocks (now (file .entry)) ⌝ }
 {
