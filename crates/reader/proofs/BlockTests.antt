@@ -62,7 +62,7 @@ module _ (file : List ℕ) where
 pub full : (rules k : ℕ) → 21 * k < rules → recordsIn rules k ≡ 21
 full rules k h = rw (lt-ltb (21 * k) rules h)
 
--- t is the answer of a test of the blocks up to n, and n is the number of all blocks
+-- t is the answer of a test of the blocks `from` to n - 1, where n is the number of all blocks
 pub all-blocks : (file : List ℕ) (test : BlockTest) (from : ℕ) {n : ℕ} {t : Tested} → n ≡ blocks file → t ≡ tested (blocksRefusal file test from n)
     → t ≡ tested (blocksRefusal file test from (blocks file))
 all-blocks file test from all is = is ∙ ap (λ (k : ℕ). tested (blocksRefusal file test from k)) all
