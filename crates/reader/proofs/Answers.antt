@@ -14,7 +14,7 @@ use Rattle.model.specs.declared.Tested.the-variants.{Passed, Met}
 use Rattle.model.specs.Base.{firstFrom}
 use Rattle.model.specs.Verdict.{refuseIf, tested}
 
--- "more than b" and "at most b"
+-- a number that is not at most b is above b
 pub not-leb : (a b : ℕ) → not (leb a b) ≡ ltb b a
 not-leb a b = go (leb a b) refl
   where

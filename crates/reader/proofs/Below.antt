@@ -1,4 +1,4 @@
--- A test of some, or of all, of the numbers below n: one number further, and at the first that decides.
+-- A test of some, or of all, of the numbers below n: one number further, and at a number that decides.
 -- Assumes nothing.
 use mathlib.Core.Path.{_≡_, refl, sym, ap, _∙_}
 use mathlib.Core.Bool.{Bool, true, false, _&&_, _||_}

@@ -1,4 +1,4 @@
--- The numbers of a block, and the tests of a block one by one.
+-- The numbers that stand in a block, refusals 1 and 3 one by one, how many records a full block holds, and the answer of a test of all blocks.
 -- Assumes nothing.
 use mathlib.Core.Path.{_≡_, ap, _∙_}
 use mathlib.Core.Bool.{Bool, true, false, _&&_, not}
@@ -10,7 +10,11 @@ use lib.Dec.{eqb, ltb}
 use lib.ListN.{length, getD}
 use Rattle.model.specs.Base.{if_then_else_}
 use Rattle.model.proofs.Tests.{not-off, and-r, within-low}
+use Rattle.model.specs.declared.Tested.{Tested}
+use Rattle.model.specs.Verdict.{tested}
 use Rattle.model.specs.GrammarFile.{within, blocks, byteOf, twoBytes, fourBytes, recordsIn, wrongLength, wrongBlock}
+use Rattle.reader.specs.declared.blocks.BlockTest.{BlockTest}
+use Rattle.reader.specs.Reading.{blocksRefusal}
 use Rattle.reader.proofs.Answers.{not-leb}
 
 -- the number of 2 bytes, and of 4, at byte i of block k
@@ -57,3 +61,8 @@ module _ (file : List ℕ) where
 -- the records of a rule block
 pub full : (rules k : ℕ) → 21 * k < rules → recordsIn rules k ≡ 21
 full rules k h = rw (lt-ltb (21 * k) rules h)
+
+-- t is the answer of a test of the blocks `from` to n - 1, where n is the number of all blocks
+pub all-blocks : (file : List ℕ) (test : BlockTest) (from : ℕ) {n : ℕ} {t : Tested} → n ≡ blocks file → t ≡ tested (blocksRefusal file test from n)
+    → t ≡ tested (blocksRefusal file test from (blocks file))
+all-blocks file test from all is = is ∙ ap (λ (k : ℕ). tested (blocksRefusal file test from k)) all

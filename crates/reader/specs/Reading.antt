@@ -1,25 +1,36 @@
--- The reader's tests in pieces: the refusals of one kind, and what is tested from a kind on (document 01, refusals 1 to 10).
+-- The reader's tests in pieces: the tests of the blocks, of the heading, of a record and of the rules, and what is tested from one of these on
+-- (document 01, refusals 1 to 10).
 -- Assumes nothing.
 use Prim.Native.Nat.{ℕ, _+_, _-_}
 use mathlib.Core.Bool.{Bool, _&&_}
 use mathlib.Core.List.{List, _++_}
 use mathlib.Core.Option.{Option}
 use Rattle.model.specs.declared.Refusal.{Refusal}
+use Rattle.reader.specs.declared.blocks.BlockTest.{BlockTest}
+use Rattle.reader.specs.declared.blocks.BlockTest.the-variants.{Check, Kind, Count}
 use Rattle.model.specs.Base.{if_then_else_, _orElse_, firstFrom}
 use Rattle.model.specs.Verdict.{refuseIf}
 use lib.Dec.{ltb, eqb}
 use Rattle.model.specs.GrammarFile.{within, allZero, fields, categoriesOf, startOf, wordsOf, dimensionsOf, dimensionIn, field, variables, blocks, wrongCheck, wrongBlock, wrongHeading, wrongBlocks, wrongCount, wrongRest, ruleRefusal, rulesOf, wrongCategory, wrongWord, wrongVariables, unusedSet}
 
--- whether the refusal of this number meets block k: 2 its check, 3 its number or kind, 5 its record count
-abbrev pub blockMeets : List ℕ → ℕ → ℕ → Bool
-blockMeets file number k = if eqb number 2 then wrongCheck file k else if eqb number 3 then wrongBlock file k else wrongCount file k
+-- the number of the refusal that a test of a block gives: "2 check wrong", "3 block number or kind", "5 number of blocks or a record count"
+abbrev pub testNumber : BlockTest → ℕ
+testNumber Check = 2
+testNumber Kind = 3
+testNumber Count = 5
 
--- the refusal of this number that meets block k, and that of the first of the blocks `from` to n - 1 that it meets
-abbrev pub blockRefusal : List ℕ → ℕ → ℕ → Option Refusal
-blockRefusal file number k = refuseIf (blockMeets file number k) (Refusal.Grammar number k)
+-- whether a test meets block k: "check wrong", "block number or kind", "a record count"
+abbrev pub blockMeets : List ℕ → BlockTest → ℕ → Bool
+blockMeets file Check k = wrongCheck file k
+blockMeets file Kind k = wrongBlock file k
+blockMeets file Count k = wrongCount file k
 
-abbrev pub blocksRefusal : List ℕ → ℕ → ℕ → ℕ → Option Refusal
-blocksRefusal file number from n = firstFrom (blockRefusal file number) from (n - from)
+-- the refusal of a test at block k, if it meets that block; and at the first of the blocks `from` to n - 1 that it meets
+abbrev pub blockRefusal : List ℕ → BlockTest → ℕ → Option Refusal
+blockRefusal file test k = refuseIf (blockMeets file test k) (Refusal.Grammar (testNumber test) k)
+
+abbrev pub blocksRefusal : List ℕ → BlockTest → ℕ → ℕ → Option Refusal
+blocksRefusal file test from n = firstFrom (blockRefusal file test) from (n - from)
 
 -- refusal 4 in pieces: C, W and R in range; the start a category of dimension 1; the unused bytes 0
 abbrev pub numbersRight : List ℕ → Bool
@@ -49,7 +60,7 @@ recordTests dimensions words e i =
     orElse refuseIf (wrongVariables dimensions e) (Refusal.Grammar 8 i)
     orElse refuseIf (unusedSet dimensions e) (Refusal.Grammar 9 i)
 
--- refusals 6 to 10 of n rules
+-- refusals 6 to 10 of the rules 0 to n - 1, rule after rule: the first there is
 abbrev pub rulesRefusal : List ℕ → ℕ → Option Refusal
 rulesRefusal file n = firstFrom (ruleRefusal file) 0 n
 
@@ -58,9 +69,9 @@ abbrev pub fromRules : List ℕ → Option Refusal
 fromRules file = rulesRefusal file (rulesOf file) orElse refuseIf (wrongRest file) (Refusal.Grammar 9 (rulesOf file))
 
 abbrev pub fromCounts : List ℕ → Option Refusal
-fromCounts file = refuseIf (wrongBlocks file) (Refusal.Grammar 5 0) orElse blocksRefusal file 5 1 (blocks file) orElse fromRules file
+fromCounts file = refuseIf (wrongBlocks file) (Refusal.Grammar 5 0) orElse blocksRefusal file Count 1 (blocks file) orElse fromRules file
 
 abbrev pub fromBlocks : List ℕ → Option Refusal
 fromBlocks file =
-    blocksRefusal file 2 0 (blocks file) orElse blocksRefusal file 3 0 (blocks file) orElse refuseIf (wrongHeading file) (Refusal.Grammar 4 0)
+    blocksRefusal file Check 0 (blocks file) orElse blocksRefusal file Kind 0 (blocks file) orElse refuseIf (wrongHeading file) (Refusal.Grammar 4 0)
     orElse fromCounts file

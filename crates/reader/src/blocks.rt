@@ -2,7 +2,7 @@
 ghost use mathlib.Core.Path.{_≡_};
 ghost use Rattle.model.specs.Verdict.{tested};
 ghost use Rattle.model.specs.GrammarFile.{wrongLength, wrongCheck, wrongBlock, wrongCount, wrongBlocks, wrongRest, recordsIn, blocksFor};
-ghost use Rattle.reader.specs.Reading.{blockMeets, blocksRefusal};
+ghost use Rattle.reader.specs.Reading.{testNumber, blockMeets, blocksRefusal};
 use grammar::block_check;
 use grammar::byte;
 use grammar::fields;
@@ -69,27 +69,43 @@ fn wrong_count(file: &[u8], k: u16) -> bool
     byte(file, 512 * (k as usize) + 3) as usize != records_in(rules(file), k)
 }
 
-// Whether the refusal of this number meets block k: 2 its check, 3 its number or kind, 5 its record count.
-fn block_meets(file: &[u8], number: u8, k: u16) -> bool
-    ensures { λ r. ⌜ r ≡ blockMeets (now (file .entry)) number k ⌝ }
-{
-    if number == 2 {
-        return wrong_check(file, k);
-    }
-    if number == 3 {
-        return wrong_block(file, k);
-    }
-    wrong_count(file, k)
+// The tests of a block: of its check, of its number and its kind, and of the record count of a rule block.
+pub enum BlockTest {
+    Check,
+    Kind,
+    Count,
 }
 
-// The refusal of this number, 2, 3 or 5, at the first of the blocks `from` to n - 1 that it meets.
-pub fn blocks_refusal(file: &[u8], number: u8, from: u16, n: u16) -> Tested
-    ensures { λ t. ⌜ t ≡ tested (blocksRefusal (now (file .entry)) number from n) ⌝ }
+// The number of the refusal that a test of a block gives.
+fn test_number(test: BlockTest) -> u8
+    ensures { λ n. ⌜ n ≡ testNumber test ⌝ }
+{
+    match test {
+        BlockTest::Check => 2,
+        BlockTest::Kind => 3,
+        BlockTest::Count => 5,
+    }
+}
+
+// Whether the test meets block k: what it tests there is wrong.
+fn block_meets(file: &[u8], test: BlockTest, k: u16) -> bool
+    ensures { λ r. ⌜ r ≡ blockMeets (now (file .entry)) test k ⌝ }
+{
+    match test {
+        BlockTest::Check => wrong_check(file, k),
+        BlockTest::Kind => wrong_block(file, k),
+        BlockTest::Count => wrong_count(file, k),
+    }
+}
+
+// The refusal of the test at the first of the blocks `from` to n - 1 that it meets, if it meets one.
+pub fn blocks_refusal(file: &[u8], test: BlockTest, from: u16, n: u16) -> Tested
+    ensures { λ t. ⌜ t ≡ tested (blocksRefusal (now (file .entry)) test from n) ⌝ }
 {
     let mut k: u16 = from;
     while k < n {
-        if block_meets(file, number, k) {
-            return Tested::Met(Refusal::Grammar(number, k));
+        if block_meets(file, test, k) {
+            return Tested::Met(Refusal::Grammar(test_number(test), k));
         }
         k += 1;
     }
@@ -103,7 +119,7 @@ pub fn blocks_for(rules: u16) -> usize
     1 + (rules as usize + 20) / 21
 }
 
-// Refusal 5: the number of blocks.
+// Refusal 5 at place 0: the number of blocks is wrong.
 pub fn wrong_blocks(file: &[u8]) -> bool
     ensures { λ r. ⌜ r ≡ wrongBlocks (now (file .entry)) ⌝ }
 {

@@ -3,6 +3,7 @@ ghost use mathlib.Core.Path.{_≡_};
 ghost use Rattle.model.specs.Verdict.{verdict, tested};
 ghost use Rattle.model.specs.GrammarFile.{blocks, rulesOf, grammarRefusal};
 ghost use Rattle.reader.specs.Reading.{fromRules, fromCounts, fromBlocks};
+use crate::blocks::BlockTest;
 use crate::blocks::blocks_refusal;
 use crate::blocks::wrong_blocks;
 use crate::blocks::wrong_length;
@@ -37,7 +38,7 @@ fn from_counts(file: &[u8], n: u16) -> Tested
     if wrong_blocks(file) {
         return Tested::Met(Refusal::Grammar(5, 0));
     }
-    let counts = blocks_refusal(file, 5, 1, n);
+    let counts = blocks_refusal(file, BlockTest::Count, 1, n);
     let Tested::Passed = counts else {
         return counts;
     };
@@ -49,11 +50,11 @@ fn from_blocks(file: &[u8], n: u16) -> Tested
     requires { ⌜ n ≡ blocks (now file) ⌝ }
     ensures { λ t. ⌜ t ≡ tested (fromBlocks (now (file .entry))) ⌝ }
 {
-    let checks = blocks_refusal(file, 2, 0, n);
+    let checks = blocks_refusal(file, BlockTest::Check, 0, n);
     let Tested::Passed = checks else {
         return checks;
     };
-    let kinds = blocks_refusal(file, 3, 0, n);
+    let kinds = blocks_refusal(file, BlockTest::Kind, 0, n);
     let Tested::Passed = kinds else {
         return kinds;
     };

@@ -64,7 +64,7 @@ fn rule_refusal(file: &[u8], r: RuleNumber) -> Tested
     Tested::Passed
 }
 
-// Refusals 6 to 10 of the first of n rules.
+// Refusals 6 to 10 of the rules 0 to n - 1, rule after rule: the first that meets a rule, if one does.
 pub fn rules_refusal(file: &[u8], n: u16) -> Tested
     ensures { λ t. ⌜ t ≡ tested (rulesRefusal (now (file .entry)) n) ⌝ }
 {

@@ -17,7 +17,7 @@ use Rattle.model.proofs.ByteLists.{fields-at, after-front, padded-length, padde
 use Rattle.grammar.proofs.Parts.{part-past}
 use Rattle.writer.specs.Writing.{ruleContent, contentAt}
 
--- zeros after the bytes, or the bytes up to their end
+-- byte j of the first n bytes, with zeros up to n bytes or without: past their end it is 0 either way
 padded-byte : (d : List ℕ) (n j : ℕ) → getD (fields d 0 n) j 0 ≡ getD (padded n d) j 0
 padded-byte d n j = go (decLt j n)
   where

@@ -21,7 +21,7 @@ heading c s w r d = record { categories = c; start = s; words = w; rules = r; di
 abbrev pub recordAt : List ℕ → ℕ → List ℕ
 recordAt records i = fields records (24 * i) 24
 
--- refusals 6 to 10 of the first n given records
+-- refusals 6 to 10 of the given records 0 to n - 1, record after record: the first there is
 abbrev pub recordsRefusal : List ℕ → ℕ → List ℕ → ℕ → Option Refusal
 recordsRefusal dimensions words records n = firstFrom (recordRefusal dimensions words (recordAt records)) 0 n
 
@@ -29,15 +29,15 @@ recordsRefusal dimensions words records n = firstFrom (recordRefusal dimensions 
 abbrev pub numbersIn : ℕ → ℕ → ℕ → Bool
 numbersIn c w r = within 1 64 c && within 1 4096 w && within 1 256 r
 
--- what stands in rule block k
+-- what stands in rule block k before the zeros and the check
 abbrev pub ruleContent : ℕ → List ℕ → ℕ → List ℕ
 ruleContent rules records k = little2 k ++ (2 ∷ recordsIn rules k ∷ []) ++ fields records (504 * (k - 1)) 504
 
--- byte i of block k before zeros and check
+-- byte i of what stands in block k before the zeros and the check, and 0 after it
 abbrev pub contentAt : Heading → List ℕ → ℕ → ℕ → ℕ
 contentAt h records k i = getD (contentOf h records k) i 0
 
--- every block of the buffer has its content
+-- every block of the buffer has its content, with 0 after it
 abbrev pub Filled : Heading → List ℕ → List ℕ → Type 0
 Filled h records out = (p : ℕ) → p < length out → getD out p 0 ≡ contentAt h records (p / 512) (p % 512)
 

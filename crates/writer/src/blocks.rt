@@ -14,7 +14,7 @@ use grammar::less;
 use reader::blocks_for;
 use reader::records_in;
 
-// Byte i of the heading's block before its check.
+// Byte i of the heading's block, with 0 in place of its check.
 fn heading_byte(
     categories: u8,
     start: u8,
@@ -53,7 +53,7 @@ fn heading_byte(
     numbers[i]
 }
 
-// Byte i of rule block k before its check.
+// Byte i of rule block k, with 0 in place of its check.
 fn rule_byte(rules: u16, records: &[u8], k: u16, i: usize) -> u8
     ensures { λ b. ⌜ b ≡ getD (ruleContent rules (now (records .entry)) k) i 0 ⌝ }
 {
@@ -67,7 +67,7 @@ fn rule_byte(rules: u16, records: &[u8], k: u16, i: usize) -> u8
     numbers[i]
 }
 
-// Byte i of block k before its check.
+// Byte i of block k, with 0 in place of its check.
 fn content_byte(
     categories: u8,
     start: u8,
@@ -86,7 +86,7 @@ fn content_byte(
     rule_byte(rules, records, k, i)
 }
 
-// Puts the bytes of all blocks, before their checks.
+// Puts the bytes of all blocks, with 0 in place of their checks.
 fn fill_blocks(
     categories: u8,
     start: u8,

@@ -47,7 +47,7 @@ fn one_refusal(dimensions: &[u8], words: u16, records: &[u8], r: RuleNumber) -> 
     Tested::Passed
 }
 
-// Refusals 6 to 10 of the first of n records.
+// Refusals 6 to 10 of the records 0 to n - 1, record after record: the first that meets a record, if one does.
 pub fn records_refusal(dimensions: &[u8], words: u16, records: &[u8], n: u16) -> Tested
     ensures { λ t. ⌜ t ≡ tested (recordsRefusal (now (dimensions .entry)) words (now (records .entry)) n) ⌝ }
 {

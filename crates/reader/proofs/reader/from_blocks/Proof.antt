@@ -1,15 +1,16 @@
 -- `reader::from_blocks` meets its contract.
 -- Assumes nothing.
-use mathlib.Core.Path.{sym, ap, _∙_}
-use Prim.Native.Nat.{ℕ}
+use mathlib.Core.Path.{sym, _∙_}
 use Rattle.model.specs.declared.Refusal.{Refusal}
 use Rattle.model.specs.Base.{_orElse_}
-use Rattle.model.specs.Verdict.{refuseIf, tested}
+use Rattle.model.specs.Verdict.{refuseIf}
 use Rattle.model.specs.GrammarFile.{blocks, wrongHeading}
 use Rattle.model.proofs.Verdicts.{met-is, tests-pass, tests-stop, tests-after}
 use Rattle.model.proofs.Tests.{stop}
+use Rattle.reader.specs.declared.blocks.BlockTest.{BlockTest}
 use Rattle.reader.specs.Reading.{blocksRefusal, fromCounts}
 use Rattle.reader.proofs.Answers.{refuse-off}
+use Rattle.reader.proofs.BlockTests.{all-blocks}
 use borrow.Author.Needs.{needs}
 use Rattle.reader.proofs.reader.from_blocks.Statement.{statement}
 use Rattle.reader.proofs.reader.from_blocks.Tie as tie
@@ -26,10 +27,10 @@ enum-told-2 c = search needs
 returns : tie.Need-returns
 returns c =
     let file = c .before .before .before .before .args .file .now in
-    let checks = blocksRefusal file 2 0 (blocks file) in
-    let kinds = blocksRefusal file 3 0 (blocks file) in
+    let checks = blocksRefusal file BlockTest.Check 0 (blocks file) in
+    let kinds = blocksRefusal file BlockTest.Kind 0 (blocks file) in
     let heading = refuseIf (wrongHeading file) (Refusal.Grammar 4 0) in
-    let first = c .before .before .blocks-refusal .ensures ∙ ap (λ (k : ℕ). tested (blocksRefusal file 2 0 k)) (c .before .before .before .before .pre) in
+    let first = all-blocks file BlockTest.Check 0 (c .before .before .before .before .pre) (c .before .before .blocks-refusal .ensures) in
     tests-stop checks (c .before .before .blocks-refusal .result) first (kinds orElse heading orElse fromCounts file) (c .enum-told2 .given .1)
 
 blocks-refusal-requires-2 : tie.Need-blocks-refusal-requires-2
@@ -44,12 +45,12 @@ enum-told-4 c = search needs
 returns-2 : tie.Need-returns-2
 returns-2 c =
     let file = c .before .before .before .before .before .before .before .args .file .now in
-    let checks = blocksRefusal file 2 0 (blocks file) in
-    let kinds = blocksRefusal file 3 0 (blocks file) in
+    let checks = blocksRefusal file BlockTest.Check 0 (blocks file) in
+    let kinds = blocksRefusal file BlockTest.Kind 0 (blocks file) in
     let heading = refuseIf (wrongHeading file) (Refusal.Grammar 4 0) in
-    let first = c .before .before .before .before .before .blocks-refusal .ensures ∙ ap (λ (k : ℕ). tested (blocksRefusal file 2 0 k)) (c .before .before .before .before .before .before .before .pre) in
+    let first = all-blocks file BlockTest.Check 0 (c .before .before .before .before .before .before .before .pre) (c .before .before .before .before .before .blocks-refusal .ensures) in
     let checked = tests-pass checks (c .before .before .before .before .before .blocks-refusal .result) first (c .before .before .before .enum-told .given .1) in
-    let second = c .before .before .blocks-refusal2 .ensures ∙ ap (λ (k : ℕ). tested (blocksRefusal file 3 0 k)) (c .before .before .before .before .before .before .before .pre) in
+    let second = all-blocks file BlockTest.Kind 0 (c .before .before .before .before .before .before .before .pre) (c .before .before .blocks-refusal2 .ensures) in
     tests-after checks (kinds orElse heading orElse fromCounts file) _ checked (tests-stop kinds (c .before .before .blocks-refusal2 .result) second (heading orElse fromCounts file) (c .enum-told4 .given .1))
 
 wrong-heading-requires : tie.Need-wrong-heading-requires
@@ -58,12 +59,12 @@ wrong-heading-requires c κs = search needs
 returns-3 : tie.Need-returns-3
 returns-3 c =
     let file = c .before .before .before .before .before .before .before .before .before .args .file .now in
-    let checks = blocksRefusal file 2 0 (blocks file) in
-    let kinds = blocksRefusal file 3 0 (blocks file) in
+    let checks = blocksRefusal file BlockTest.Check 0 (blocks file) in
+    let kinds = blocksRefusal file BlockTest.Kind 0 (blocks file) in
     let heading = refuseIf (wrongHeading file) (Refusal.Grammar 4 0) in
-    let first = c .before .before .before .before .before .before .before .blocks-refusal .ensures ∙ ap (λ (k : ℕ). tested (blocksRefusal file 2 0 k)) (c .before .before .before .before .before .before .before .before .before .pre) in
+    let first = all-blocks file BlockTest.Check 0 (c .before .before .before .before .before .before .before .before .before .pre) (c .before .before .before .before .before .before .before .blocks-refusal .ensures) in
     let checked = tests-pass checks (c .before .before .before .before .before .before .before .blocks-refusal .result) first (c .before .before .before .before .before .enum-told .given .1) in
-    let second = c .before .before .before .before .blocks-refusal2 .ensures ∙ ap (λ (k : ℕ). tested (blocksRefusal file 3 0 k)) (c .before .before .before .before .before .before .before .before .before .pre) in
+    let second = all-blocks file BlockTest.Kind 0 (c .before .before .before .before .before .before .before .before .before .pre) (c .before .before .before .before .blocks-refusal2 .ensures) in
     let known = tests-pass kinds (c .before .before .before .before .blocks-refusal2 .result) second (c .before .before .enum-told3 .given .1) in
     tests-after checks (kinds orElse heading orElse fromCounts file) _ checked (tests-after kinds (heading orElse fromCounts file) _ known (met-is (heading orElse fromCounts file) (Refusal.Grammar 4 0) (stop (wrongHeading file) (Refusal.Grammar 4 0) (fromCounts file) (sym (c .before .wrong-heading .ensures) ∙ c .if1 .taken))))
 
@@ -73,12 +74,12 @@ from-counts-requires c κs = search needs
 returns-4 : tie.Need-returns-4
 returns-4 c =
     let file = c .before .before .before .before .before .before .before .before .before .before .args .file .now in
-    let checks = blocksRefusal file 2 0 (blocks file) in
-    let kinds = blocksRefusal file 3 0 (blocks file) in
+    let checks = blocksRefusal file BlockTest.Check 0 (blocks file) in
+    let kinds = blocksRefusal file BlockTest.Kind 0 (blocks file) in
     let heading = refuseIf (wrongHeading file) (Refusal.Grammar 4 0) in
-    let first = c .before .before .before .before .before .before .before .before .blocks-refusal .ensures ∙ ap (λ (k : ℕ). tested (blocksRefusal file 2 0 k)) (c .before .before .before .before .before .before .before .before .before .before .pre) in
+    let first = all-blocks file BlockTest.Check 0 (c .before .before .before .before .before .before .before .before .before .before .pre) (c .before .before .before .before .before .before .before .before .blocks-refusal .ensures) in
     let checked = tests-pass checks (c .before .before .before .before .before .before .before .before .blocks-refusal .result) first (c .before .before .before .before .before .before .enum-told .given .1) in
-    let second = c .before .before .before .before .before .blocks-refusal2 .ensures ∙ ap (λ (k : ℕ). tested (blocksRefusal file 3 0 k)) (c .before .before .before .before .before .before .before .before .before .before .pre) in
+    let second = all-blocks file BlockTest.Kind 0 (c .before .before .before .before .before .before .before .before .before .before .pre) (c .before .before .before .before .before .blocks-refusal2 .ensures) in
     let known = tests-pass kinds (c .before .before .before .before .before .blocks-refusal2 .result) second (c .before .before .before .enum-told3 .given .1) in
     let right = refuse-off (wrongHeading file) (Refusal.Grammar 4 0) (sym (c .before .before .wrong-heading .ensures) ∙ c .before .if1 .left) in
     tests-after checks (kinds orElse heading orElse fromCounts file) _ checked (tests-after kinds (heading orElse fromCounts file) _ known (tests-after heading (fromCounts file) _ right (c .from-counts .ensures)))
