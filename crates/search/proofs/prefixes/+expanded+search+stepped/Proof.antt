@@ -9,6 +9,7 @@ use lib.ListN.{length, getD, length-set}
 use lib.Seq.{getD-set-other}
 use Rattle.model.specs.GrammarFile.{grammarOf}
 use Rattle.model.specs.Step.{wordFits}
+use Rattle.search.specs.Chain.{noRule}
 use Rattle.search.specs.Tally.{spentOne}
 use Rattle.search.specs.Search.{standing, SearchedAt, SearchedUnder, Ready, KnownTo}
 use Rattle.search.proofs.Standing.{not-none, none-left, some-left, row-some}
@@ -144,7 +145,7 @@ search-Inv-loop sheet₀ t chain q from to s read pending made fuel place budget
     (length sheet ≡ 100) × KnownTo t chain s read q from to pending made fuel sheet₀ sheet (r .0)
 
 abbrev search-μ-loop : search-lts.MeasureT-loop
-search-μ-loop sheet₀ t chain q from to s read pending made fuel place budget r₀ sheet r = 256 - r .0
+search-μ-loop sheet₀ t chain q from to s read pending made fuel place budget r₀ sheet r = noRule - r .0
 
 search-sub-place : (t : ℕ) → search-lts.Need-sub-place (search-claims t) (search-at t) search′.Post search-Inv-loop search-μ-loop
 search-sub-place t c = omega (arith, c .before .pre .1 .ready .short)
@@ -223,7 +224,7 @@ search-stepped-requires t c κs =
     let f = s .pre .1 .file in
     let p = s .pre .1 .ready in
     let ready = rules-ready p b h in
-    let test : u .loop .r .0 < 256 = omega (arith, c .before .before .if4 .taken) in
+    let test : u .loop .r .0 < noRule = omega (arith, c .before .before .if4 .taken) in
     (omega (arith, s .pre .0), record { file = f; ready = ready-now ready h (u .loop .inv .1 f ready) test; fronted = fronted ready h (u .loop .inv .1 f ready) test })
 
 search-note-requires : (t : ℕ) → search-lts.Need-note-requires (search-claims t) (search-at t) search′.Post search-Inv-loop search-μ-loop
@@ -236,7 +237,7 @@ search-note-requires t c κs =
     let f = s .pre .1 .file in
     let p = s .pre .1 .ready in
     let ready = rules-ready p b h in
-    let test : u .loop .r .0 < 256 = omega (arith, c .before .before .before .before .if4 .taken) in
+    let test : u .loop .r .0 < noRule = omega (arith, c .before .before .before .before .if4 .taken) in
     (c .before .stepped .ensures f (ready-now ready h (u .loop .inv .1 f ready) test) (fronted ready h (u .loop .inv .1 f ready) test) .long ∙ u .loop .inv .0, omega (arith, p .short))
 
 search-next-rule-requires : (t : ℕ) → search-lts.Need-next-rule-requires (search-claims t) (search-at t) search′.Post search-Inv-loop search-μ-loop
@@ -261,7 +262,7 @@ search-loop-again t c =
     let a = s .args in
     let b = u .before .before .before .before .before .if1 .left in
     let h = some-left (s .pre .1 .ready .stood) (u .before .before .before .before .if2 .left) in
-    let test : u .loop .r .0 < 256 = omega (arith, c .before .before .before .before .before .before .before .if4 .taken) in
+    let test : u .loop .r .0 < noRule = omega (arith, c .before .before .before .before .before .before .before .if4 .taken) in
     let k = c .before .before .before .before .stepped in
     let w : (f : List ℕ) → Ready f (a .t .now) (a .chain .now) (a .s .now) (a .read) (a .q .now) (a .from) (a .to) (a .pending) (a .made) (a .fuel) (spentOne (a .sheet .now)) → SearchedUnder (grammarOf f) (a .fuel) (standing (a .s .now) (a .read) (a .q .now) (a .from) (a .to) (a .pending) (a .made)) (u .loop .r .0) (u .loop .sheet) true _ =
     λ f ready.
@@ -281,7 +282,7 @@ search-returns-4 t c =
     let h = some-left (s .pre .1 .ready .stood) (u .before .before .before .before .if2 .left) in
     λ f p.
     let ready = rules-ready p b h in
-    let test : u .loop .r .0 < 256 = omega (arith, c .before .before .before .before .before .before .if4 .taken) in
+    let test : u .loop .r .0 < noRule = omega (arith, c .before .before .before .before .before .before .if4 .taken) in
     let k = c .before .before .before .stepped in
     let now = ready-now ready h (u .loop .inv .1 f ready) test in
     let fr = fronted ready h (u .loop .inv .1 f ready) test in
