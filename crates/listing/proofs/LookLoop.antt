@@ -13,7 +13,7 @@ use Rattle.model.specs.Grammar.{Grammar}
 use Rattle.model.specs.GrammarFile.{grammarOf}
 use Rattle.model.specs.Rows.{RowState, walkRow, anyRow}
 use Rattle.rows.specs.Row.{unpacked, rowOf}
-use Rattle.search.specs.Chain.{isOf, firstRule}
+use Rattle.search.specs.Chain.{isOf, noRule, firstRule}
 use Rattle.search.specs.Search.{standing, Stood, under, upTo, Fronted, done}
 use Rattle.listing.specs.Look.{endsRow, Found, nothing, found, over, goesOn, firstComplete, passes, boundAt, beyond, Holds, OnDesk, Looked, LookedUnder, LookedRules, LookedTo}
 use Rattle.search.proofs.Standing as st
@@ -82,7 +82,7 @@ module _ {file table chain sentence : List ℕ} {read : ℕ} {q : List ℕ} {fro
         way (inl off) = inl (off, λ i h p. ap (λ (o : Option (List ℕ)). passes o (i ∷ p)) (bound-none k desk₀ path₀ off))
         way (inr w) = inr (refl, refl, w)
 
-    module _ {desk path : List ℕ} {r : ℕ} (at : At desk path r) (below : r < 256) where
+    module _ {desk path : List ℕ} {r : ℕ} (at : At desk path r) (below : r < noRule) where
       pub fronted : Fronted file q from pending r
       fronted = st.fronted stood r (at .rule-here below) predicted
 
@@ -124,7 +124,7 @@ module _ {file table chain sentence : List ℕ} {read : ℕ} {q : List ℕ} {fro
           (looked-joined test k desk₀ path₀ desk path desk′ path′ (upTo F (done R r)) (F r) go (at .so-far)
           (looked-as test k desk path desk′ path′ (beyond desk path k (under g (anyRow g) (left - 1) S r)) (F r) go list-now (w .looked)))
 
-      pub later : (r′ : ℕ) → r′ ≡ getD chain (64 + r) 0 → 256 - r′ < 256 - r
+      pub later : (r′ : ℕ) → r′ ≡ getD chain (64 + r) 0 → noRule - r′ < noRule - r
       later r′ e = st.later stood r (at .rule-here below) r′ e
 
       pub came-next : (desk′ path′ : List ℕ) (r′ : ℕ) → LookedUnder g left S k desk path r true desk′ path′ → r′ ≡ getD chain (64 + r) 0 → At desk′ path′ r′
@@ -150,6 +150,6 @@ module _ {file table chain sentence : List ℕ} {read : ℕ} {q : List ℕ} {fro
           looked-as test k desk₀ path₀ desk′ path′ (upTo F (suc r) ++ s .0) (upTo F R) false (sym (s .1))
           (looked-stopped test k desk₀ path₀ desk′ path′ (upTo F (suc r)) (s .0) (together false desk′ path′ w))
 
-    pub came-last : {desk path : List ℕ} {r : ℕ} → At desk path r → 256 ≤ r → LookedRules g left S k desk₀ path₀ true desk path
+    pub came-last : {desk path : List ℕ} {r : ℕ} → At desk path r → noRule ≤ r → LookedRules g left S k desk₀ path₀ true desk path
     came-last {desk} {path} {r} at h =
         looked-as test k desk₀ path₀ desk path (upTo F (done R r)) (upTo F R) true (ap (upTo F) (done-all g a rules-few r (omega (arith, rules-few)))) (at .so-far)

@@ -15,7 +15,7 @@ use Rattle.model.specs.Base.{if_then_else_, keep}
 use Rattle.model.specs.Grammar.{Grammar}
 use Rattle.model.specs.Rows.{RowState, runRow, finishedRow, anyRow, liveFromRow}
 use Rattle.model.specs.Step.{before}
-use Rattle.search.specs.Chain.{isOf}
+use Rattle.search.specs.Chain.{isOf, noRule}
 use Rattle.search.specs.Search.{tails, under, upTo, done}
 
 -- the steps of a list apply from a state and leave no words and no predictions
@@ -101,7 +101,7 @@ pub record LookedUnder (g : Grammar) (left : ℕ) (t : RowState) (k : ℕ) (desk
 -- what the loop over the rules of category a has done when it comes to rule r
 pub record LookedTo (g : Grammar) (left : ℕ) (t : RowState) (a k : ℕ) (desk₀ path₀ desk path : List ℕ) (r : ℕ) : Type 0 where
   pub so-far : Looked (endsRow g t) k desk₀ path₀ (upTo (λ i. beyond desk₀ path₀ k (under g (anyRow g) (left - 1) t i)) (done (length (g .rules)) r)) true desk path
-  pub rule-here : r < 256 → (r < length (g .rules)) × (isOf g a r ≡ true)
+  pub rule-here : r < noRule → (r < length (g .rules)) × (isOf g a r ≡ true)
   pub way
       : ((getD desk 2 0 ≡ 0) × ((i : ℕ) → r ≤ i → (p : List ℕ) → passes (boundAt desk₀ path₀ k) (i ∷ p) ≡ true))
       ⊎ ((desk ≡ desk₀) × (path ≡ path₀) × (getD desk 2 0 ≡ 1))

@@ -12,7 +12,7 @@ use Rattle.model.specs.GrammarFile.{grammarOf}
 use Rattle.model.specs.Rows.{RowState, walkRow, anyRow, endRow}
 use Rattle.model.proofs.Tests.{not-both}
 use Rattle.rows.specs.Row.{unpacked, rowOf}
-use Rattle.search.specs.Chain.{isOf, firstRule}
+use Rattle.search.specs.Chain.{isOf, noRule, firstRule}
 use Rattle.search.specs.Tally.{Searched}
 use Rattle.search.specs.Search.{standing, Ready, under, upTo, SearchedUnder, SearchedRules, Fronted, done, CameTo}
 use Rattle.search.proofs.Rules.{upTo-next, upTo-more, other-rule, done-here, done-all, skipped, here-found}
@@ -60,7 +60,7 @@ module _ {file table chain sentence : List ℕ} {read : ℕ} {q : List ℕ} {fro
   pub came-first : (r : ℕ) → r ≡ getD chain a 0 → At sheet r
   came-first r e = subst (At sheet) (st.chain-first (ready .stood) r e) (came sheet 0 (omega arith) (found-none sheet (96 - fuel)))
 
-  module _ {now : List ℕ} {r : ℕ} (at : At now r) (below : r < 256) where
+  module _ {now : List ℕ} {r : ℕ} (at : At now r) (below : r < noRule) where
     pub fronted : Fronted file q from pending r
     fronted = st.fronted (ready .stood) r (at .rule-here below) predicted
 
@@ -92,7 +92,7 @@ module _ {file table chain sentence : List ℕ} {read : ℕ} {q : List ℕ} {fro
     came-next after r′ w e =
         subst (At after) (st.chain-next (ready .stood) r (at .rule-here below) r′ e) (came after (suc r) (omega (arith, at .rule-here below .0)) (together true after w))
 
-    pub later : (r′ : ℕ) → r′ ≡ getD chain (64 + r) 0 → 256 - r′ < 256 - r
+    pub later : (r′ : ℕ) → r′ ≡ getD chain (64 + r) 0 → noRule - r′ < noRule - r
     later r′ e = st.later (ready .stood) r (at .rule-here below) r′ e
 
     pub over-budget : (after : List ℕ) → SearchedUnder g fuel S r now false after → SearchedRules g fuel S sheet false after
@@ -107,7 +107,7 @@ module _ {file table chain sentence : List ℕ} {read : ℕ} {q : List ℕ} {fro
           entry = λ f. not-both (sym f);
         }
 
-  pub came-last : {now : List ℕ} {r : ℕ} → At now r → 256 ≤ r → SearchedRules g fuel S sheet true now
+  pub came-last : {now : List ℕ} {r : ℕ} → At now r → noRule ≤ r → SearchedRules g fuel S sheet true now
   came-last {now} {r} at h =
       let d = done-all g a rules-few r (omega (arith, rules-few)) in
       searched-as sheet now (upTo found (done R r)) (upTo found R) (length (upTo live (done R r))) (length (upTo live R)) (96 - fuel) true

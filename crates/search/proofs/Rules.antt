@@ -14,7 +14,7 @@ use Rattle.model.specs.Base.{if_then_else_, each, numbersFrom}
 use Rattle.model.specs.Grammar.{Rule, Grammar, ruleAt, isLexical}
 use Rattle.model.specs.Rows.{Slot, RowState, halts, moves, scanRow, predictRow, applyRow, extendByRow, extendRow}
 use Rattle.model.proofs.Lists.{each-append}
-use Rattle.search.specs.Chain.{isBy, isOf, firstRule}
+use Rattle.search.specs.Chain.{isBy, isOf, noRule, firstRule}
 use Rattle.search.specs.Search.{upTo, done}
 
 -- numbers from `from` on, one more
@@ -86,13 +86,13 @@ first-passes g a r (suc n) i h l k = go (isOf g a r) refl k (ℕ-discrete i r) (
     go false e k (yes z) ih = rw z e
     go false e k (no z) ih = ih (omega arith) (omega arith) k
 
-pub first-found : (g : Grammar) (a r n : ℕ) → r + n ≤ 256 → firstRule g a r n < 256
+pub first-found : (g : Grammar) (a r n : ℕ) → r + n ≤ 256 → firstRule g a r n < noRule
     → (r ≤ firstRule g a r n) × (firstRule g a r n < r + n) × (isOf g a (firstRule g a r n) ≡ true)
 first-found g a r zero h k = let z : ⊥ = omega arith in absurd z
 first-found g a r (suc n) h k = go (isOf g a r) refl k (λ u v. first-found g a (suc r) n u v)
   where
-    go : (b : Bool) → isOf g a r ≡ b → (if b then r else firstRule g a (suc r) n) < 256
-        → (suc r + n ≤ 256 → firstRule g a (suc r) n < 256 → (suc r ≤ firstRule g a (suc r) n) × (firstRule g a (suc r) n < suc r + n) × (isOf g a (firstRule g a (suc r) n) ≡ true))
+    go : (b : Bool) → isOf g a r ≡ b → (if b then r else firstRule g a (suc r) n) < noRule
+        → (suc r + n ≤ 256 → firstRule g a (suc r) n < noRule → (suc r ≤ firstRule g a (suc r) n) × (firstRule g a (suc r) n < suc r + n) × (isOf g a (firstRule g a (suc r) n) ≡ true))
         → (r ≤ (if b then r else firstRule g a (suc r) n)) × ((if b then r else firstRule g a (suc r) n) < r + suc n) × (isOf g a (if b then r else firstRule g a (suc r) n) ≡ true)
     go true e k ih = (omega arith, omega arith, e)
     go false e k ih = let x = ih (omega arith) k in (omega (arith, x .0), omega (arith, x .1), x .2)
@@ -132,5 +132,5 @@ module _ (g : Grammar) (a : ℕ) (few : length (g .rules) ≤ 256) where
       upTo-skip f k (done R (firstRule g a k (R - k))) (b .0)
       (λ i l m. others i (first-passes g a k (R - k) i l (omega (arith, b .1)) (omega (arith, b .2))))
 
-  pub here-found : (k : ℕ) → k ≤ R → firstRule g a k (R - k) < 256 → (firstRule g a k (R - k) < R) × (isOf g a (firstRule g a k (R - k)) ≡ true)
+  pub here-found : (k : ℕ) → k ≤ R → firstRule g a k (R - k) < noRule → (firstRule g a k (R - k) < R) × (isOf g a (firstRule g a k (R - k)) ≡ true)
   here-found k h l = let f = first-found g a k (R - k) (omega arith) l in (omega (arith, f .1), f .2)

@@ -20,7 +20,7 @@ use Rattle.rows.specs.Row.{unpacked, rowOf, Held, FirstRow}
 use Rattle.rows.specs.Table.{Compiled}
 use Rattle.recognizer.specs.Steps.{Stands}
 use Rattle.recognizer.proofs.Checked.{begins}
-use Rattle.search.specs.Chain.{isBy, isOf, firstRule, Chained}
+use Rattle.search.specs.Chain.{isBy, isOf, noRule, firstRule, Chained}
 use Rattle.search.specs.Search.{standing, Stood, Fronted}
 use Rattle.search.proofs.Rules.{first-later}
 
@@ -129,7 +129,7 @@ module _ {file table chain sentence : List ℕ} {read : ℕ} {q : List ℕ} {fro
     chain-next r′ e =
         ap (λ (x : ℕ). firstRule g x (suc r) (R - suc r)) (sym (of-head r inside (here .1))) ∙ sym (stood .chained .next r (ruleRead file r) known) ∙ sym e
 
-    pub later : (r′ : ℕ) → r′ ≡ getD chain (64 + r) 0 → 256 - r′ < 256 - r
+    pub later : (r′ : ℕ) → r′ ≡ getD chain (64 + r) 0 → noRule - r′ < noRule - r
     later r′ e =
         omega (arith, here .0, rules-few, stood .chained .next r (ruleRead file r) known, first-later g (ruleRead file r .category) (suc r) (R - suc r) (omega (arith, here .0, rules-few)))
 

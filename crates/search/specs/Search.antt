@@ -14,7 +14,7 @@ use Rattle.model.specs.Rows.{RowState, RowOutcome, halts, moves, stepRow, exten
 use Rattle.model.proofs.RowsBounds.{Reached}
 use Rattle.rows.specs.Row.{unpacked, stateOf, Held}
 use Rattle.rows.specs.Table.{Compiled}
-use Rattle.search.specs.Chain.{isOf, Chained}
+use Rattle.search.specs.Chain.{isOf, noRule, Chained}
 use Rattle.search.specs.Tally.{effortBelow, Searched}
 
 -- where the recognizer stands that holds its row in q[from..to] and has read so many words
@@ -89,7 +89,7 @@ done rules r = if ltb r rules then r else rules
 -- what the loop over the rules of category a has done when it comes to rule r
 pub record CameTo (g : Grammar) (fuel : ℕ) (t : RowState) (a : ℕ) (before now : List ℕ) (r : ℕ) : Type 0 where
   pub so-far : SearchedUpTo g fuel t (done (length (g .rules)) r) before true now
-  pub rule-here : r < 256 → (r < length (g .rules)) × (isOf g a r ≡ true)
+  pub rule-here : r < noRule → (r < length (g .rules)) × (isOf g a r ≡ true)
 
 -- the tables are those of some accepted file, for which the search is ready: code that has the tables alone needs no more
 pub record Known (table chain sentence : List ℕ) (read : ℕ) (q : List ℕ) (from to pending made fuel : ℕ) (sheet : List ℕ) : Type 0 where

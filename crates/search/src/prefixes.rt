@@ -13,6 +13,7 @@ use recognizer::step::fits;
 use rows::row::category;
 use rows::row::expand;
 use rows::rules::daughters;
+use rows::rules::place_of;
 use rows::rules::word;
 
 // A complete trace that ends at a place: it is counted, and its end is kept if it is the entry asked for.
@@ -115,7 +116,7 @@ fn stepped(
     requires { ⌜ KnownRule (now t) (now chain) (now s) read (now q) from to pending made fuel (now sheet) (r .0) ⌝ }
     ensures { λ b. ⌜ KnownTails (now (t .entry)) (now (chain .entry)) (now (s .entry)) read (now (q .entry)) from to pending made fuel (r .0) (now (sheet .entry)) b (now (sheet .exit)) ⌝ }
 {
-    let at = 32 * (r.0 as usize);
+    let at = place_of(r);
     let d = daughters(t, at);
     if d == 0 {
         let w = word(t, at);
@@ -194,7 +195,7 @@ fn expanded(
     ensures { λ b. ⌜ KnownTails (now (t .entry)) (now (chain .entry)) (now (s .entry)) read (now (q .entry)) from to pending made fuel (r .0) (now (sheet .entry)) b (now (sheet .exit)) ⌝ }
 {
     let mut out = [0u16; 384];
-    let n = expand(t, q, from, to, &mut out, 32 * (r.0 as usize), made);
+    let n = expand(t, q, from, to, &mut out, place_of(r), made);
     search(
         sheet,
         t,

@@ -8,6 +8,7 @@ use Rattle.model.specs.GrammarFile.{grammarOf}
 use Rattle.model.specs.Rows.{RowState, moves, stepRow}
 use Rattle.rows.specs.Row.{unpacked}
 use Rattle.recognizer.specs.Steps.{Goes}
+use Rattle.search.specs.Chain.{noRule}
 use Rattle.search.specs.Search.{standing}
 use Rattle.listing.specs.Look.{LookedTo}
 use Rattle.search.proofs.Standing.{not-none, row-some, stands, stood-there}
@@ -298,7 +299,7 @@ look-rules-Inv-loop file t chain s read q from to pending made left k desk₀ pa
     × LookedTo (grammarOf file) left (standing s read q from to pending made) (unpacked (getD q from 0) .category) k desk₀ path₀ desk path (r .0)
 
 abbrev look-rules-μ-loop : look-rules-lts.MeasureT-loop
-look-rules-μ-loop file t chain s read q from to pending made left k desk₀ path₀ r₀ desk path r = 256 - r .0
+look-rules-μ-loop file t chain s read q from to pending made left k desk₀ path₀ r₀ desk path r = noRule - r .0
 
 look-rules-mul-category : (t : ℕ) → look-rules-lts.Need-mul-category (look-rules-claims t) (look-rules-at t) look-rules.Post look-rules-Inv-loop look-rules-μ-loop
 look-rules-mul-category t c = search needs

@@ -9,6 +9,7 @@ use lib.ListN.{length, getD, length-set}
 use lib.Seq.{getD-set-other}
 use Rattle.model.specs.GrammarFile.{grammarOf}
 use Rattle.model.specs.Step.{wordFits}
+use Rattle.search.specs.Chain.{noRule}
 use Rattle.search.specs.Tally.{spentOne}
 use Rattle.search.specs.Search.{standing, SearchedAt, SearchedUnder, Ready, KnownTo}
 use Rattle.search.proofs.Standing.{not-none, none-left, some-left, row-some}
@@ -34,6 +35,7 @@ use Rattle.search.proofs.prefixes.note.Reads as note-reads
 use Rattle.rows.proofs.row.category.Reads as category-reads
 use Rattle.rows.proofs.row.expand.Reads as expand-reads
 use Rattle.rows.proofs.rules.daughters.Reads as daughters-reads
+use Rattle.rows.proofs.rules.place_of.Reads as place-of-reads
 use Rattle.rows.proofs.rules.word.Reads as word-reads
 use Rattle.recognizer.proofs.step.fits.Reads as fits-reads
 use Rattle.search.proofs.prefixes.+expanded+search+stepped.{statement}
@@ -69,7 +71,7 @@ stepped-below t = and 5 stepped-kinds.ps (falls 5 stepped-kinds.ps _<_ μ-steppe
 
 -- the contracts of what `expanded` calls
 abbrev expanded-claims : ℕ → expanded-lts.Claims
-expanded-claims t = (expand-reads.Asked, expand-reads.Learnt, search-below t, search′.Post)
+expanded-claims t = (place-of-reads.Asked, place-of-reads.Learnt, expand-reads.Asked, expand-reads.Learnt, search-below t, search′.Post)
 
 -- the contracts of what `search` calls
 abbrev search-claims : ℕ → search-lts.Claims
@@ -77,13 +79,10 @@ search-claims t = (complete-reads.Asked, complete-reads.Learnt, category-reads.A
 
 -- the contracts of what `stepped` calls
 abbrev stepped-claims : ℕ → stepped-lts.Claims
-stepped-claims t = (daughters-reads.Asked, daughters-reads.Learnt, word-reads.Asked, word-reads.Learnt, search-below t, search′.Post, fits-reads.Asked, fits-reads.Learnt, expanded-below t, expanded.Post)
+stepped-claims t = (place-of-reads.Asked, place-of-reads.Learnt, daughters-reads.Asked, daughters-reads.Learnt, word-reads.Asked, word-reads.Learnt, search-below t, search′.Post, fits-reads.Asked, fits-reads.Learnt, expanded-below t, expanded.Post)
 
-expanded-cast-expand : (t : ℕ) → expanded-lts.Need-cast-expand (expanded-claims t) (expanded-at t) expanded.Post
-expanded-cast-expand t c = search needs
-
-expanded-mul-expand : (t : ℕ) → expanded-lts.Need-mul-expand (expanded-claims t) (expanded-at t) expanded.Post
-expanded-mul-expand t c = search needs
+expanded-place-of-requires : (t : ℕ) → expanded-lts.Need-place-of-requires (expanded-claims t) (expanded-at t) expanded.Post
+expanded-place-of-requires t c κs = search needs
 
 expanded-expand-requires : (t : ℕ) → expanded-lts.Need-expand-requires (expanded-claims t) (expanded-at t) expanded.Post
 expanded-expand-requires t c κs =
@@ -95,7 +94,8 @@ expanded-expand-requires t c κs =
     let fr = p .0 .fronted in
     let h : 0 < getD (a .t .now) (32 * a .r .0) 0 = omega (arith, p .1, p .2) in
     let l : a .pending + getD (a .t .now) (32 * a .r .0) 0 ≤ a .fuel = omega (arith, p .1, p .3) in
-    (fit rd fr, rd .stood .held, head-here rd fr, made-small rd fr h l, refl, row-room rd fr h l)
+    let e = sym (c .place-of .ensures) in
+    (rw e at (fit rd fr), rd .stood .held, head-here rd fr, made-small rd fr h l, refl, rw e at (row-room rd fr h l))
 
 expanded-sub-search : (t : ℕ) → expanded-lts.Need-sub-search (expanded-claims t) (expanded-at t) expanded.Post
 expanded-sub-search t c =
@@ -126,7 +126,8 @@ expanded-search-requires t c κs =
     let rd = p .0 .ready in
     let fr = p .0 .fronted in
     let x = c .before .before .expand in
-    (omega (arith, s .pre .0, rd .stood .fits, fr .predicted), record { file = f; ready = row-ready-by rd fr (a .d) (p .1) (p .2) (p .3) _ _ (x .result) (x .ensures) (x .ensures .kept) })
+    let w = rw (c .before .before .before .place-of .ensures) at (x .ensures) in
+    (omega (arith, s .pre .0, rd .stood .fits, fr .predicted), record { file = f; ready = row-ready-by rd fr (a .d) (p .1) (p .2) (p .3) _ _ (x .result) w (w .kept) })
 
 expanded-returns : (t : ℕ) → expanded-lts.Need-returns (expanded-claims t) (expanded-at t) expanded.Post
 expanded-returns t c =
@@ -135,15 +136,16 @@ expanded-returns t c =
     let p = s .pre .1 in
     λ f rd fr.
     let x = c .before .before .before .expand in
+    let w = rw (c .before .before .before .before .place-of .ensures) at (x .ensures) in
     let k = c .search in
-    next-row-by rd fr (a .d) (p .1) (p .2) (p .3) _ _ (x .result) (x .ensures) (x .ensures .kept) (k .result) _ (k .ensures f (row-ready-by rd fr (a .d) (p .1) (p .2) (p .3) _ _ (x .result) (x .ensures) (x .ensures .kept)))
+    next-row-by rd fr (a .d) (p .1) (p .2) (p .3) _ _ (x .result) w (w .kept) (k .result) _ (k .ensures f (row-ready-by rd fr (a .d) (p .1) (p .2) (p .3) _ _ (x .result) w (w .kept)))
 
 abbrev search-Inv-loop : search-lts.InvT-loop
 search-Inv-loop sheet₀ t chain q from to s read pending made fuel place budget r₀ sheet r =
     (length sheet ≡ 100) × KnownTo t chain s read q from to pending made fuel sheet₀ sheet (r .0)
 
 abbrev search-μ-loop : search-lts.MeasureT-loop
-search-μ-loop sheet₀ t chain q from to s read pending made fuel place budget r₀ sheet r = 256 - r .0
+search-μ-loop sheet₀ t chain q from to s read pending made fuel place budget r₀ sheet r = noRule - r .0
 
 search-sub-place : (t : ℕ) → search-lts.Need-sub-place (search-claims t) (search-at t) search′.Post search-Inv-loop search-μ-loop
 search-sub-place t c = omega (arith, c .before .pre .1 .ready .short)
@@ -222,7 +224,7 @@ search-stepped-requires t c κs =
     let f = s .pre .1 .file in
     let p = s .pre .1 .ready in
     let ready = rules-ready p b h in
-    let test : u .loop .r .0 < 256 = omega (arith, c .before .before .if4 .taken) in
+    let test : u .loop .r .0 < noRule = omega (arith, c .before .before .if4 .taken) in
     (omega (arith, s .pre .0), record { file = f; ready = ready-now ready h (u .loop .inv .1 f ready) test; fronted = fronted ready h (u .loop .inv .1 f ready) test })
 
 search-note-requires : (t : ℕ) → search-lts.Need-note-requires (search-claims t) (search-at t) search′.Post search-Inv-loop search-μ-loop
@@ -235,7 +237,7 @@ search-note-requires t c κs =
     let f = s .pre .1 .file in
     let p = s .pre .1 .ready in
     let ready = rules-ready p b h in
-    let test : u .loop .r .0 < 256 = omega (arith, c .before .before .before .before .if4 .taken) in
+    let test : u .loop .r .0 < noRule = omega (arith, c .before .before .before .before .if4 .taken) in
     (c .before .stepped .ensures f (ready-now ready h (u .loop .inv .1 f ready) test) (fronted ready h (u .loop .inv .1 f ready) test) .long ∙ u .loop .inv .0, omega (arith, p .short))
 
 search-next-rule-requires : (t : ℕ) → search-lts.Need-next-rule-requires (search-claims t) (search-at t) search′.Post search-Inv-loop search-μ-loop
@@ -260,7 +262,7 @@ search-loop-again t c =
     let a = s .args in
     let b = u .before .before .before .before .before .if1 .left in
     let h = some-left (s .pre .1 .ready .stood) (u .before .before .before .before .if2 .left) in
-    let test : u .loop .r .0 < 256 = omega (arith, c .before .before .before .before .before .before .before .if4 .taken) in
+    let test : u .loop .r .0 < noRule = omega (arith, c .before .before .before .before .before .before .before .if4 .taken) in
     let k = c .before .before .before .before .stepped in
     let w : (f : List ℕ) → Ready f (a .t .now) (a .chain .now) (a .s .now) (a .read) (a .q .now) (a .from) (a .to) (a .pending) (a .made) (a .fuel) (spentOne (a .sheet .now)) → SearchedUnder (grammarOf f) (a .fuel) (standing (a .s .now) (a .read) (a .q .now) (a .from) (a .to) (a .pending) (a .made)) (u .loop .r .0) (u .loop .sheet) true _ =
     λ f ready.
@@ -280,7 +282,7 @@ search-returns-4 t c =
     let h = some-left (s .pre .1 .ready .stood) (u .before .before .before .before .if2 .left) in
     λ f p.
     let ready = rules-ready p b h in
-    let test : u .loop .r .0 < 256 = omega (arith, c .before .before .before .before .before .before .if4 .taken) in
+    let test : u .loop .r .0 < noRule = omega (arith, c .before .before .before .before .before .before .if4 .taken) in
     let k = c .before .before .before .stepped in
     let now = ready-now ready h (u .loop .inv .1 f ready) test in
     let fr = fronted ready h (u .loop .inv .1 f ready) test in
@@ -300,11 +302,17 @@ search-returns-5 t c =
     let ready = rules-ready p b h in
     below-rules p b h true _ (came-last ready h (u .loop .inv .1 f ready) (omega (arith, c .if4 .left)))
 
-stepped-cast-at : (t : ℕ) → stepped-lts.Need-cast-at (stepped-claims t) (stepped-at t) stepped.Post
-stepped-cast-at t c = search needs
+-- how many daughters the rule has, and its word, where the table has them
+stepped-count : {t : ℕ} (c : stepped-lts.After-daughters (stepped-claims t) (stepped-at t) stepped.Post)
+    → c .daughters .result ≡ getD (c .before .before .before .args .t .now) (32 * c .before .before .before .args .r .0) 0
+stepped-count c = rw (c .before .place-of .ensures) at (c .daughters .ensures)
 
-stepped-mul-at : (t : ℕ) → stepped-lts.Need-mul-at (stepped-claims t) (stepped-at t) stepped.Post
-stepped-mul-at t c = search needs
+stepped-word : {t : ℕ} (c : stepped-lts.After-word (stepped-claims t) (stepped-at t) stepped.Post)
+    → c .word .result .0 ≡ getD (c .before .before .before .before .before .args .t .now) (32 * c .before .before .before .before .before .args .r .0 + 1) 0
+stepped-word c = rw (c .before .before .before .place-of .ensures) at (c .word .ensures)
+
+stepped-place-of-requires : (t : ℕ) → stepped-lts.Need-place-of-requires (stepped-claims t) (stepped-at t) stepped.Post
+stepped-place-of-requires t c κs = search needs
 
 stepped-daughters-requires : (t : ℕ) → stepped-lts.Need-daughters-requires (stepped-claims t) (stepped-at t) stepped.Post
 stepped-daughters-requires t c κs =
@@ -314,7 +322,7 @@ stepped-daughters-requires t c κs =
     let f = p .file in
     let rd = p .ready in
     let fr = p .fronted in
-    omega (arith, rule-small rd fr)
+    omega (arith, rule-small rd fr, c .place-of .ensures)
 
 stepped-word-requires : (t : ℕ) → stepped-lts.Need-word-requires (stepped-claims t) (stepped-at t) stepped.Post
 stepped-word-requires t c κs =
@@ -324,7 +332,7 @@ stepped-word-requires t c κs =
     let f = p .file in
     let rd = p .ready in
     let fr = p .fronted in
-    omega (arith, rule-small rd fr)
+    omega (arith, rule-small rd fr, c .before .before .place-of .ensures)
 
 stepped-add-search : (t : ℕ) → stepped-lts.Need-add-search (stepped-claims t) (stepped-at t) stepped.Post
 stepped-add-search t c =
@@ -364,7 +372,7 @@ stepped-search-requires t c κs =
     let f = p .file in
     let rd = p .ready in
     let fr = p .fronted in
-    (omega (arith, s .pre .0, fr .predicted, rd .stood .fits), record { file = f; ready = empty-ready rd fr (sym (c .before .before .before .before .before .daughters .ensures) ∙ (c .before .before .before .before .if1 .taken)) (sym (c .before .before .before .word .ensures) ∙ (c .before .if2 .taken)) })
+    (omega (arith, s .pre .0, fr .predicted, rd .stood .fits), record { file = f; ready = empty-ready rd fr (sym (stepped-count (c .before .before .before .before .before)) ∙ (c .before .before .before .before .if1 .taken)) (sym (stepped-word (c .before .before .before)) ∙ (c .before .if2 .taken)) })
 
 stepped-returns : (t : ℕ) → stepped-lts.Need-returns (stepped-claims t) (stepped-at t) stepped.Post
 stepped-returns t c =
@@ -372,8 +380,8 @@ stepped-returns t c =
     let a = s .args in
     λ f rd fr.
     let k = c .search in
-    let lexical = sym (c .before .before .before .before .before .before .daughters .ensures) ∙ (c .before .before .before .before .before .if1 .taken) in
-    let empty = sym (c .before .before .before .before .word .ensures) ∙ (c .before .before .if2 .taken) in
+    let lexical = sym (stepped-count (c .before .before .before .before .before .before)) ∙ (c .before .before .before .before .before .if1 .taken) in
+    let empty = sym (stepped-word (c .before .before .before .before)) ∙ (c .before .before .if2 .taken) in
     empty-word rd fr lexical empty (k .result) _ (k .ensures f (empty-ready rd fr lexical empty))
 
 stepped-returns-2 : (t : ℕ) → stepped-lts.Need-returns-2 (stepped-claims t) (stepped-at t) stepped.Post
@@ -381,7 +389,7 @@ stepped-returns-2 t c =
     let s = c .before .before .before .before .before .before .before .before in
     let a = s .args in
     λ f rd fr.
-    no-words rd fr (sym (c .before .before .before .before .before .daughters .ensures) ∙ (c .before .before .before .before .if1 .taken)) (λ z. (c .before .if2 .left) ((c .before .before .before .word .ensures) ∙ z)) (c .if3 .taken)
+    no-words rd fr (sym (stepped-count (c .before .before .before .before .before)) ∙ (c .before .before .before .before .if1 .taken)) (λ z. (c .before .if2 .left) (stepped-word (c .before .before .before) ∙ z)) (c .if3 .taken)
 
 stepped-mul-fits : (t : ℕ) → stepped-lts.Need-mul-fits (stepped-claims t) (stepped-at t) stepped.Post
 stepped-mul-fits t c = search needs
@@ -440,7 +448,7 @@ stepped-search-requires-2 t c κs =
     let f = p .file in
     let rd = p .ready in
     let fr = p .fronted in
-    (omega (arith, s .pre .0, fr .predicted, rd .stood .fits), record { file = f; ready = word-ready rd fr (sym (c .before .before .before .before .before .before .before .before .before .daughters .ensures) ∙ (c .before .before .before .before .before .before .before .before .if1 .taken)) (λ z. (c .before .before .before .before .before .if2 .left) ((c .before .before .before .before .before .before .before .word .ensures) ∙ z)) (c .before .before .before .before .if3 .left) (ap (λ (w : ℕ). wordFits w (getD (a .s .now) (a .read) 0)) (sym (c .before .before .before .before .before .before .before .word .ensures)) ∙ sym (c .before .before .fits2 .ensures) ∙ (c .before .if4 .taken)) })
+    (omega (arith, s .pre .0, fr .predicted, rd .stood .fits), record { file = f; ready = word-ready rd fr (sym (stepped-count (c .before .before .before .before .before .before .before .before .before)) ∙ (c .before .before .before .before .before .before .before .before .if1 .taken)) (λ z. (c .before .before .before .before .before .if2 .left) (stepped-word (c .before .before .before .before .before .before .before) ∙ z)) (c .before .before .before .before .if3 .left) (ap (λ (w : ℕ). wordFits w (getD (a .s .now) (a .read) 0)) (sym (stepped-word (c .before .before .before .before .before .before .before))) ∙ sym (c .before .before .fits2 .ensures) ∙ (c .before .if4 .taken)) })
 
 stepped-returns-3 : (t : ℕ) → stepped-lts.Need-returns-3 (stepped-claims t) (stepped-at t) stepped.Post
 stepped-returns-3 t c =
@@ -448,9 +456,9 @@ stepped-returns-3 t c =
     let a = s .args in
     λ f rd fr.
     let k = c .search2 in
-    let lexical = sym (c .before .before .before .before .before .before .before .before .before .before .daughters .ensures) ∙ (c .before .before .before .before .before .before .before .before .before .if1 .taken) in
-    let full : getD (a .t .now) (32 * a .r .0 + 1) 0 ≡ 65535 → ⊥ = λ z. (c .before .before .before .before .before .before .if2 .left) ((c .before .before .before .before .before .before .before .before .word .ensures) ∙ z) in
-    let same = ap (λ (w : ℕ). wordFits w (getD (a .s .now) (a .read) 0)) (sym (c .before .before .before .before .before .before .before .before .word .ensures)) ∙ sym (c .before .before .before .fits2 .ensures) ∙ (c .before .before .if4 .taken) in
+    let lexical = sym (stepped-count (c .before .before .before .before .before .before .before .before .before .before)) ∙ (c .before .before .before .before .before .before .before .before .before .if1 .taken) in
+    let full : getD (a .t .now) (32 * a .r .0 + 1) 0 ≡ 65535 → ⊥ = λ z. (c .before .before .before .before .before .before .if2 .left) (stepped-word (c .before .before .before .before .before .before .before .before) ∙ z) in
+    let same = ap (λ (w : ℕ). wordFits w (getD (a .s .now) (a .read) 0)) (sym (stepped-word (c .before .before .before .before .before .before .before .before))) ∙ sym (c .before .before .before .fits2 .ensures) ∙ (c .before .before .if4 .taken) in
     next-word rd fr lexical full (c .before .before .before .before .before .if3 .left) same (k .result) _ (k .ensures f (word-ready rd fr lexical full (c .before .before .before .before .before .if3 .left) same))
 
 stepped-returns-4 : (t : ℕ) → stepped-lts.Need-returns-4 (stepped-claims t) (stepped-at t) stepped.Post
@@ -458,7 +466,7 @@ stepped-returns-4 t c =
     let s = c .before .before .before .before .before .before .before .before .before .before .before in
     let a = s .args in
     λ f rd fr.
-    other-word rd fr (sym (c .before .before .before .before .before .before .before .before .daughters .ensures) ∙ (c .before .before .before .before .before .before .before .if1 .taken)) (λ z. (c .before .before .before .before .if2 .left) ((c .before .before .before .before .before .before .word .ensures) ∙ z)) (c .before .before .before .if3 .left) (ap (λ (w : ℕ). wordFits w (getD (a .s .now) (a .read) 0)) (sym (c .before .before .before .before .before .before .word .ensures)) ∙ sym (c .before .fits2 .ensures) ∙ c .if4 .left)
+    other-word rd fr (sym (stepped-count (c .before .before .before .before .before .before .before .before)) ∙ (c .before .before .before .before .before .before .before .if1 .taken)) (λ z. (c .before .before .before .before .if2 .left) (stepped-word (c .before .before .before .before .before .before) ∙ z)) (c .before .before .before .if3 .left) (ap (λ (w : ℕ). wordFits w (getD (a .s .now) (a .read) 0)) (sym (stepped-word (c .before .before .before .before .before .before))) ∙ sym (c .before .fits2 .ensures) ∙ c .if4 .left)
 
 stepped-cast-if5 : (t : ℕ) → stepped-lts.Need-cast-if5 (stepped-claims t) (stepped-at t) stepped.Post
 stepped-cast-if5 t c = search needs
@@ -471,14 +479,14 @@ stepped-add-if5 t c =
     let f = p .file in
     let rd = p .ready in
     let fr = p .fronted in
-    omega (arith, rd .stood .fits, rd .short, fit rd fr .few, (c .before .daughters .ensures))
+    omega (arith, rd .stood .fits, rd .short, fit rd fr .few, stepped-count (c .before))
 
 stepped-returns-5 : (t : ℕ) → stepped-lts.Need-returns-5 (stepped-claims t) (stepped-at t) stepped.Post
 stepped-returns-5 t c =
     let s = c .before .before .before .before .before in
     let a = s .args in
     λ f rd fr.
-    queue-long rd fr (not-none (getD (a .t .now) (32 * a .r .0) 0) (λ z. (c .before .if1 .left) ((c .before .before .daughters .ensures) ∙ z))) (omega (arith, c .if5 .taken, (c .before .before .daughters .ensures)))
+    queue-long rd fr (not-none (getD (a .t .now) (32 * a .r .0) 0) (λ z. (c .before .if1 .left) (stepped-count (c .before .before) ∙ z))) (omega (arith, c .if5 .taken, stepped-count (c .before .before)))
 
 stepped-expanded-requires : (t : ℕ) → stepped-lts.Need-expanded-requires (stepped-claims t) (stepped-at t) stepped.Post
 stepped-expanded-requires t c κs =
@@ -488,14 +496,16 @@ stepped-expanded-requires t c κs =
     let f = p .file in
     let rd = p .ready in
     let fr = p .fronted in
-    let e = (c .before .before .before .daughters .ensures) in
-    (omega (arith, s .pre .0), (p, e, omega (arith, e, (not-none (getD (a .t .now) (32 * a .r .0) 0) (λ z. (c .before .before .if1 .left) ((c .before .before .before .daughters .ensures) ∙ z)))), omega (arith, (c .before .if5 .left))))
+    let e = stepped-count (c .before .before .before) in
+    (omega (arith, s .pre .0), (p, e, omega (arith, e, (not-none (getD (a .t .now) (32 * a .r .0) 0) (λ z. (c .before .before .if1 .left) (stepped-count (c .before .before .before) ∙ z)))), omega (arith, (c .before .if5 .left))))
 
 stepped-returns-6 : (t : ℕ) → stepped-lts.Need-returns-6 (stepped-claims t) (stepped-at t) stepped.Post
 stepped-returns-6 t c = c .expanded .ensures
 
 pub +expanded+search+stepped-spec : {M : Type 1} → statement M
 +expanded+search+stepped-spec = close μ-expanded μ-search μ-stepped (λ t. expanded-lts.spec (
+  place-of-reads.Asked,
+  place-of-reads.Learnt,
   expand-reads.Asked,
   expand-reads.Learnt,
   search-below t,
@@ -503,8 +513,7 @@ pub +expanded+search+stepped-spec : {M : Type 1} → statement M
 )
     (expanded-at t)
     expanded.Post
-    (expanded-cast-expand t)
-    (expanded-mul-expand t)
+    (expanded-place-of-requires t)
     (expanded-expand-requires t)
     (expanded-sub-search t)
     (expanded-add-search t)
@@ -552,6 +561,8 @@ pub +expanded+search+stepped-spec : {M : Type 1} → statement M
     (search-returns-4 t)
     (search-returns-5 t))
     λ t. stepped-lts.spec (
+      place-of-reads.Asked,
+      place-of-reads.Learnt,
       daughters-reads.Asked,
       daughters-reads.Learnt,
       word-reads.Asked,
@@ -565,8 +576,7 @@ pub +expanded+search+stepped-spec : {M : Type 1} → statement M
     )
     (stepped-at t)
     stepped.Post
-    (stepped-cast-at t)
-    (stepped-mul-at t)
+    (stepped-place-of-requires t)
     (stepped-daughters-requires t)
     (stepped-word-requires t)
     (stepped-add-search t)
