@@ -26,7 +26,7 @@ const SENTENCE_BYTES: usize = 195;
 
 const SENTENCE_WORDS: usize = 97;
 
-// How many of a file's bytes stand in a buffer, and whether as many bytes as were read of it is an even number.
+// How many of a file's bytes stand in a buffer, and whether the number of bytes read of it is even.
 struct Loaded {
     bytes: usize,
     even: bool,
@@ -223,7 +223,7 @@ fn write_on(text: &[u8], done: usize) -> Written
     }
 }
 
-// Says on standard error that a write to standard output failed. The answer of what cannot write all.
+// Says on standard error that standard output cannot be written to, and answers that not all is written.
 fn not_written() -> bool {
     os::fail(b"count_analyses: standard output");
     false
@@ -245,7 +245,7 @@ fn write_text(text: &[u8]) -> bool {
         done = d;
         turns -= 1;
     }
-    false
+    not_written()
 }
 
 // Prints the line of a refusal.

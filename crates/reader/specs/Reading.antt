@@ -8,7 +8,7 @@ use mathlib.Core.Option.{Option}
 use Rattle.model.specs.declared.Refusal.{Refusal}
 use Rattle.reader.specs.declared.blocks.BlockTest.{BlockTest}
 use Rattle.reader.specs.declared.blocks.BlockTest.the-variants.{Check, Kind, Count}
-use Rattle.model.specs.Base.{if_then_else_, _orElse_, firstFrom}
+use Rattle.model.specs.Base.{_orElse_, firstFrom}
 use Rattle.model.specs.Verdict.{refuseIf}
 use lib.Dec.{ltb, eqb}
 use Rattle.model.specs.GrammarFile.{within, allZero, fields, categoriesOf, startOf, wordsOf, dimensionsOf, dimensionIn, field, variables, blocks, wrongCheck, wrongBlock, wrongHeading, wrongBlocks, wrongCount, wrongRest, ruleRefusal, rulesOf, wrongCategory, wrongWord, wrongVariables, unusedSet}

@@ -42,6 +42,9 @@ loop-less c = search needs
 loop-again : tie.Need-loop-again Inv-loop μ-loop
 loop-again c = rw (c .before .next .given .1) at (c .before .before .before .write-on .ensures)
 
+not-written-requires-2 : tie.Need-not-written-requires-2 Inv-loop μ-loop
+not-written-requires-2 c κs = search needs
+
 returns-3 : tie.Need-returns-3 Inv-loop μ-loop
 returns-3 c = search needs
 
@@ -61,4 +64,5 @@ write-text-spec =
     sub-turns
     loop-less
     loop-again
+    not-written-requires-2
     returns-3)
