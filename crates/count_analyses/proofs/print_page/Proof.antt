@@ -1,9 +1,22 @@
 -- `count_analyses::print_page` meets its contract.
 -- Assumes nothing.
+use mathlib.Core.List.{List}
+use Prim.Native.Nat.{ℕ, _+_, _<_}
+use lib.ListN.{length}
 use borrow.Author.Needs.{needs}
+use Rattle.model.specs.Grammar.{Grammar}
+use Rattle.report.specs.declared.page.Page.{Page}
+use Rattle.report.specs.Page.{PageSays}
 use Rattle.report.proofs.Pages.{page-lists}
+use Rattle.count_analyses.specs.declared.Next.{Next}
+use Rattle.count_analyses.specs.Paths.{NextSays}
 use Rattle.count_analyses.proofs.print_page.Statement.{statement}
 use Rattle.count_analyses.proofs.print_page.Tie as tie
+
+-- after a page that is not the last, the listing goes on
+goes-on : {g : Grammar} {sentence : List ℕ} {n : ℕ} {list path before : List ℕ} {at : ℕ} {after : List ℕ} {p k : ℕ}
+    → PageSays g sentence n list path before at after (Page.More p k) → at + 576 < length before → NextSays g sentence n list path before at after (Next.After k)
+goes-on w room = (w .0 .listed, w .0 .path-long, page-lists w room)
 
 fill-requires : tie.Need-fill-requires
 fill-requires c κs = search needs
@@ -57,7 +70,7 @@ returns-3 : tie.Need-returns-3
 returns-3 c =
     let w = rw (c .before .before .before .before .before .page2 .given .1) at (c .before .before .before .before .before .before .before .before .before .fill .ensures) in
     let s = c .before .before .before .before .before .before .before .before .before .before .before .before .before .before .before in
-    (w .0 .listed, w .0 .path-long, page-lists w (s .pre .1))
+    goes-on w (s .pre .1)
 
 same-length-4 : tie.Need-same-length-4
 same-length-4 c = search needs
