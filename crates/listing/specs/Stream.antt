@@ -37,7 +37,7 @@ Follows g sentence n limit list path (Next k) =
 Follows g sentence n limit list path Last = (length (lookedAt g sentence n list) ≤ limit) × (entriesAfter g sentence n list ≡ [])
 Follows g sentence n limit list path Over = limit < length (lookedAt g sentence n list)
 
--- entries that come one after the other from a list on, to the last: each as it is told of the one before
+-- the entries one after the other from a list on, to the last: each is the first after the one before
 abbrev pub Streams : Grammar → List ℕ → ℕ → ℕ → List ℕ → List (List ℕ) → Type 0
 Streams g sentence n limit list [] = (path : List ℕ) × Follows g sentence n limit list path Last
 Streams g sentence n limit list (p ∷ entries) =

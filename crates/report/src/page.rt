@@ -8,7 +8,7 @@ use crate::verdict::EFFORT_LIMIT;
 use listing::Followed;
 use listing::follow;
 
-// A line of 96 numbers has at most so many bytes and a newline.
+// A line of 96 numbers has at most so many bytes: of each number five digits, and the blank or the newline after it.
 const LINE_BYTES: usize = 576;
 
 // A line is written: the place after it, and how many steps its entry has. Or there is no entry left.
