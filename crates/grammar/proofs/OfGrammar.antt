@@ -1,5 +1,5 @@
 -- The fields of a record are the parts of the rule that it holds: what the accessors give. Rule r below R is `ruleRead` of the file (`rule-read`,
--- model/proofs/FromFile), its category and its word are the fields as they stand, and it has as many daughters as the field says (`daughters-length`,
+-- model/proofs/FromFile), its category, its word and its weight are the fields as they stand, and it has as many daughters as the field says (`daughters-length`,
 -- model/proofs/RuleFromRecord). Here: its daughters; its components, of which those that it lacks have length 0; and that a variable names a daughter.
 -- Assumes nothing.
 use mathlib.Core.Path.{_≡_, refl, sym, ap, ap₂, subst, _∙_}
@@ -96,7 +96,7 @@ module _ (file : List ℕ) (accepted : grammarRefusal file ≡ none) (r : ℕ) (
       let A = fields e (2 + n) (3 - n) in
       let B = fields e 5 2 in
       let C = fields e (7 + dim) (4 - dim) in
-      let D = fields e (11 + variables d e) (13 - variables d e) in
+      let D = fields e (11 + variables d e) (12 - variables d e) in
       let t : T (allZero (A ++ B ++ C ++ D)) = rw (lt-ltb 0 n h) at nothing-unused in
       let u : T (allZero C) = every-right (eqb 0) (A ++ B) C (every-left (eqb 0) (A ++ B ++ C) D t) in
       let z : 7 + dim + (k - dim) ≡ 7 + k = omega arith in
@@ -104,8 +104,8 @@ module _ (file : List ℕ) (accepted : grammarRefusal file ≡ none) (r : ℕ) (
 
   length-lexical : n ≡ 0 → (k : ℕ) → k < 4 → field e (7 + k) ≡ 0
   length-lexical h k b =
-      let t : T (allZero (fields e 2 3 ++ fields e 7 17)) = rw (le-ltb 0 n (omega arith)) at nothing-unused in
-      unused-zero 7 17 k (omega arith) (every-right (eqb 0) (fields e 2 3) (fields e 7 17) t) (omega arith)
+      let t : T (allZero (fields e 2 3 ++ fields e 7 16)) = rw (le-ltb 0 n (omega arith)) at nothing-unused in
+      unused-zero 7 16 k (omega arith) (every-right (eqb 0) (fields e 2 3) (fields e 7 16) t) (omega arith)
 
   length-at : 0 < n → (k : ℕ) → k < 4 → getD (lengthsOf d e) k 0 ≡ field e (7 + k)
   length-at h k b = go (decLt k dim)

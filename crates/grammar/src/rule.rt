@@ -1,7 +1,7 @@
 // The fields of a rule, by its number, read from the file where they lie.
 ghost use mathlib.Core.Path.{_≡_};
 ghost use Prim.Native.Nat.{_+_};
-ghost use Rattle.model.specs.GrammarFile.{recordOf, field, wordOf, decoded};
+ghost use Rattle.model.specs.GrammarFile.{recordOf, field, wordOf, weightOf, decoded};
 use crate::bytes::two_bytes;
 use crate::layout::record_byte;
 use crate::layout::record_place;
@@ -56,4 +56,11 @@ pub fn variable_component(file: &[u8], r: RuleNumber, v: usize) -> u8
     ensures { λ n. ⌜ n ≡ decoded (field (recordOf (now (file .entry)) (r .0)) (11 + v)) .component ⌝ }
 {
     record_byte(file, r, 11, v) % 4
+}
+
+// The rule's weight.
+pub fn weight_of(file: &[u8], r: RuleNumber) -> u8
+    ensures { λ w. ⌜ w ≡ weightOf (recordOf (now (file .entry)) (r .0)) ⌝ }
+{
+    record_byte(file, r, 23, 0)
 }

@@ -15,8 +15,8 @@ use borrow.Author.Tests.{eq-eqb, le-ltb}
 use Rattle.model.specs.declared.Refusal.{Refusal}
 use Rattle.model.specs.Base.{_orElse_, firstFrom, each, every, numbersFrom, sameList}
 use Rattle.model.specs.Verdict.{refuseIf}
-use Rattle.model.specs.Grammar.{Variable, Rule, Grammar, ruleAt, dimension, isLexical}
-use Rattle.model.specs.WellFormed.{WellFormed, named}
+use Rattle.model.specs.Grammar.{Variable, Rule, Grammar, ruleAt, dimension, isLexical, unweighted}
+use Rattle.model.specs.WellFormed.{WellFormed, InRange, RightRule, named}
 use Rattle.model.specs.GrammarFile.{within, allZero, fields, dimensionIn, dimensionsOf, rulesOf, recordOf, sameRecord, repeated, recordRefusal, ruleOf, grammarRefusal, grammarOf, wrongCategory, wrongWord, wrongVariables, unusedSet}
 use Rattle.model.specs.Writer.{Heading, allBytes, fitsFields, little2, padded, writerRefusal}
 use Rattle.model.proofs.Tests.{and-l, and-r, and-both, on-not, every-by}
@@ -26,8 +26,8 @@ use Rattle.model.proofs.WriterFile.{file-written}
 use Rattle.model.proofs.WriterFields.{written-categories, written-start, written-words, written-rules, written-dimensions, written-record-of, written-bytes}
 use Rattle.model.proofs.WriterHeading.{wrongNumbers, writer-refusal}
 use Rattle.model.proofs.WriterBack.{read-back}
-use Rattle.grammar_to_file.specs.FileFor.{codeOf, recordFor, headingFor, fileFor, Storable}
-use Rattle.grammar_to_file.proofs.Records.{lens, codes, fromVariables, fromLengths, fromWord, fromDaughters, long}
+use Rattle.grammar_to_file.specs.FileFor.{codeOf, bytesFor, recordFor, headingFor, fileFor, Storable}
+use Rattle.grammar_to_file.proofs.Records.{lens, codes, fromVariables, fromLengths, fromWord, fromDaughters, long, front-is}
 use Rattle.grammar_to_file.proofs.RecordTests.{none-by, category-passes, word-passes, variables-pass, unused-passes, holds-rule, word-passes-lexical, variables-pass-lexical, unused-passes-lexical, holds-lexical, codes-small, lengths-small}
 
 some-one : {A : Type 0} {a b : A} → some a ≡ some b → a ≡ b
@@ -105,31 +105,66 @@ module _ (g : Grammar) (s : Storable g) where
     pub unused : unusedSet (g .dimensions) (recordFor rule) ≡ false
     pub holds : ruleOf (g .dimensions) (recordFor rule) ≡ rule
 
-  passing : (r : ℕ) (rule : Rule) → ruleAt g r ≡ some rule → Passes rule
-  passing r rule e = go (rule .daughters) refl
+  -- what `Storable` says of a rule, but for its weight
+  record Sound (rule : Rule) : Type 0 where
+    pub in-range : InRange g rule
+    pub right : RightRule g rule
+    pub no-word : isLexical rule ≡ false → rule .word ≡ 0
+    pub no-components : isLexical rule ≡ true → rule .components ≡ []
+
+  sound : (r : ℕ) (rule : Rule) → ruleAt g r ≡ some rule → Sound rule
+  sound r rule e =
+      record { in-range = well .ranges r rule e; right = well .right .rules r rule e; no-word = s .no-word r rule e; no-components = s .no-components r rule e }
+
+  weight-aside : (rule : Rule) → Sound rule → Sound (unweighted rule)
+  weight-aside rule a =
+      let i = a .in-range in
+      let r = a .right in
+      record {
+        in-range = record { category-is = i .category-is; daughters-few = i .daughters-few; daughters-are = i .daughters-are; word-is = i .word-is };
+        right = record { word-alone = r .word-alone; components = r .components; complete = r .complete; inhabited = r .inhabited };
+        no-word = a .no-word;
+        no-components = a .no-components;
+      }
+
+  passing : (rule : Rule) → Sound rule → Passes rule
+  passing rule a = go (rule .daughters) refl
     where
+      w : InRange g rule
+      w = a .in-range
+
+      rr : RightRule g rule
+      rr = a .right
+
       go : (ds : List ℕ) → rule .daughters ≡ ds → Passes rule
       go [] q =
           let l : isLexical rule ≡ true = ap (λ (x : List ℕ). elim x as (λ x. Bool) [ [] ↦ true | d ∷ es ↦ false ]) q in
-          let n = s .no-components r rule e l in
+          let n = a .no-components l in
           record {
-            category = category-passes g well r rule e;
-            word = word-passes-lexical g well r rule e q n;
-            variables = variables-pass-lexical g well r rule e q n;
-            unused = unused-passes-lexical g well r rule e q n;
-            holds = holds-lexical g well r rule e q n;
+            category = category-passes g well rule w rr;
+            word = word-passes-lexical g well rule w rr q n;
+            variables = variables-pass-lexical g well rule w rr q n;
+            unused = unused-passes-lexical g well rule w rr q n;
+            holds = holds-lexical g well rule w rr q n;
           }
       go (d ∷ ds) q =
           let l : isLexical rule ≡ false = ap (λ (x : List ℕ). elim x as (λ x. Bool) [ [] ↦ true | d ∷ es ↦ false ]) q in
           let h : 0 < length (rule .daughters) = omega (arith, ap length q) in
-          let z = s .no-word r rule e l in
+          let z = a .no-word l in
           record {
-            category = category-passes g well r rule e;
-            word = word-passes g well r rule e l h;
-            variables = variables-pass g well r rule e l h;
-            unused = unused-passes g well r rule e l h z;
-            holds = holds-rule g well r rule e l h z;
+            category = category-passes g well rule w rr;
+            word = word-passes g well rule w rr l h;
+            variables = variables-pass g well rule w rr l h;
+            unused = unused-passes g well rule w rr l h z;
+            holds = holds-rule g well rule w rr l h z;
           }
+
+  -- records that are the same, weight aside, are those of rules that are
+  same-aside : (a b : Rule) → Sound a → Sound b → T (sameRecord (recordFor a) (recordFor b)) → unweighted a ≡ unweighted b
+  same-aside a b p q t =
+      let front : bytesFor a ≡ bytesFor b = sym (front-is a) ∙ same-list (fields (recordFor a) 0 23) (fields (recordFor b) 0 23) t ∙ front-is b in
+      sym (passing (unweighted a) (weight-aside a p) .holds) ∙ ap (λ (x : List ℕ). ruleOf (g .dimensions) (x ++ (0 ∷ []))) front
+      ∙ passing (unweighted b) (weight-aside b q) .holds
 
   -- no record twice
   not-repeated : (i : ℕ) (rule : Rule) → ruleAt g i ≡ some rule → repeated (λ j. fields records (24 * j) 24) i ≡ false
@@ -137,9 +172,9 @@ module _ (g : Grammar) (s : Storable g) where
       none-by (λ j. sameRecord (fields records (24 * j) 24) (fields records (24 * i) 24)) i
       (λ j h. off (sameRecord (fields records (24 * j) 24) (fields records (24 * i) 24)) (λ t.
       let (other, f) = element (g .rules) j (omega (arith, number-below (g .rules) i e)) in
-      let same : recordFor other ≡ recordFor rule = sym (record-at (g .rules) j other f) ∙ same-list (fields records (24 * j) 24) (fields records (24 * i) 24) t ∙ record-at (g .rules) i rule e in
-      let rules : other ≡ rule = sym (passing j other f .holds) ∙ ap (ruleOf (g .dimensions)) same ∙ passing i rule e .holds in
-      omega (arith, s .differ j i rule (f ∙ ap some rules) e)))
+      let u : T (sameRecord (recordFor other) (recordFor rule)) =
+      subst T (ap₂ sameRecord (record-at (g .rules) j other f) (record-at (g .rules) i rule e)) t in
+      omega (arith, s .differ j i other rule f e (same-aside other rule (sound j other f) (sound i rule e) u))))
 
   none-of : (b : Bool) (r : Refusal) (o : Option Refusal) → b ≡ false → o ≡ none → refuseIf b r orElse o ≡ none
   none-of b r o e f = ap (λ (x : Bool). refuseIf x r orElse o) e ∙ f
@@ -147,7 +182,7 @@ module _ (g : Grammar) (s : Storable g) where
   record-none : (i : ℕ) → i < length (g .rules) → recordRefusal (g .dimensions) (g .words) (λ j. fields records (24 * j) 24) i ≡ none
   record-none i h =
       let (rule, e) = element (g .rules) i h in
-      let p = passing i rule e in
+      let p = passing rule (sound i rule e) in
       let q = sym (record-at (g .rules) i rule e) in
       let on : (P : List ℕ → Bool) → P (recordFor rule) ≡ false → P (fields records (24 * i) 24) ≡ false = λ P k. ap P (sym q) ∙ k in
       none-of (wrongCategory (g .dimensions) (fields records (24 * i) 24)) (Refusal.Grammar 6 i) _ (on (wrongCategory (g .dimensions)) (p .category))
@@ -166,14 +201,15 @@ module _ (g : Grammar) (s : Storable g) where
   rule-bytes r rule e =
       let w = well .ranges r rule e in
       let c = well .categories .1 in
-      let variables : Bytes (fromVariables rule) = bytes-append (padded 12 (codes rule)) (0 ∷ []) (bytes-padded 12 (codes rule) (bytes-of (codes rule) (parts (rule .daughters) refl .1))) (bytes-of (0 ∷ []) (λ x m. omega (arith, zero-only x m))) in
+      let variables : Bytes (fromVariables rule) = bytes-padded 12 (codes rule) (bytes-of (codes rule) (parts (rule .daughters) refl .1)) in
       let lengths : Bytes (fromLengths rule) = bytes-append (padded 4 (lens rule)) (fromVariables rule) (bytes-padded 4 (lens rule) (bytes-of (lens rule) (parts (rule .daughters) refl .0))) variables in
       let word : Bytes (fromWord rule) = bytes-append (little2 (rule .word)) (fromLengths rule) (bytes-little2 (rule .word)) lengths in
       let daughters : Bytes (fromDaughters rule) = bytes-append (padded 3 (rule .daughters)) (fromWord rule) (bytes-padded 3 (rule .daughters) (bytes-of (rule .daughters) (λ d m. omega (arith, w .daughters-are d m)))) word in
-      bytes-append (rule .category ∷ length (rule .daughters) ∷ []) (fromDaughters rule) (bytes-of (rule .category ∷ length (rule .daughters) ∷ []) front) daughters
+      let bytes : Bytes (bytesFor rule) = bytes-append (rule .category ∷ length (rule .daughters) ∷ []) (fromDaughters rule) (bytes-of (rule .category ∷ length (rule .daughters) ∷ []) front) daughters in
+      bytes-append (bytesFor rule) (rule .weight ∷ []) bytes (bytes-of (rule .weight ∷ []) weight)
     where
-      zero-only : (x : ℕ) → List·Memᴰ x (0 ∷ []) → x ≡ 0
-      zero-only x m = ⊎-elim (λ q. q) (λ i. elim i [ ]) (List·Memᴰ·cases-cons m)
+      weight : (x : ℕ) → List·Memᴰ x (rule .weight ∷ []) → x < 256
+      weight x m = ⊎-elim (λ q. omega (arith, s .weights r rule e)) (λ i. elim i [ ]) (List·Memᴰ·cases-cons m)
 
       front : (x : ℕ) → List·Memᴰ x (rule .category ∷ length (rule .daughters) ∷ []) → x < 256
       front x m = first (List·Memᴰ·cases-cons m)
@@ -198,7 +234,9 @@ module _ (g : Grammar) (s : Storable g) where
       parts (d ∷ ds) q =
           let l : isLexical rule ≡ false = ap (λ (x : List ℕ). elim x as (λ x. Bool) [ [] ↦ true | d ∷ es ↦ false ]) q in
           let h : 0 < length (rule .daughters) = omega (arith, ap length q) in
-          (lengths-small g well r rule e l h, codes-small g well r rule e l h)
+          let w = well .ranges r rule e in
+          let rr = well .right .rules r rule e in
+          (lengths-small g well rule w rr l h, codes-small g well rule w rr l h)
 
   record-bytes : Bytes records
   record-bytes = bytes-each (g .rules) (λ rule m. let (k, e) = number-in (g .rules) rule m in rule-bytes k rule e)
@@ -306,5 +344,5 @@ module _ (g : Grammar) (s : Storable g) where
       (λ k rule e.
       let k₀ : 0 + k ≡ k = omega arith in
       ap (ruleOf dimensions) (ap (recordOf (fileFor g)) k₀ ∙ written-record-of heading records (fileFor g) W (records-long (g .rules)) k (number-below (g .rules) k e) ∙ record-at (g .rules) k rule e)
-      ∙ passing k rule e .holds) in
+      ∙ passing rule (sound k rule e) .holds) in
       λ i. record { start = t i; words = w i; dimensions = d i; rules = r i }

@@ -18,7 +18,7 @@ use Rattle.model.proofs.Tests.{and-l, and-r, and-both, not-off}
 use Rattle.model.proofs.ByteLists.{fields-at, zeros-at, Bytes, two-again}
 use Rattle.model.proofs.RuleFromRecord.{Tested, DimensionsIn, category-in, three, field-length, field-at, daughters-length, twelve, lengths-total, named-are}
 use Rattle.grammar_to_file.specs.FileFor.{codeOf, recordFor}
-use Rattle.grammar_to_file.proofs.Records.{long, at-daughter, at-length, at-variable, at-last, from-5}
+use Rattle.grammar_to_file.proofs.Records.{long, at-daughter, at-length, at-variable, at-weight, from-5}
 
 pub zero-split : (a b : List ℕ) → T (allZero (a ++ b)) → T (allZero a) × T (allZero b)
 zero-split [] b t = (tt, t)
@@ -57,12 +57,11 @@ module _ (g : Grammar) (e : List ℕ) (tested : Tested g e) (dims : DimensionsIn
   pub zeros : T (allZero (unusedBytes dimensions e))
   zeros = not-off (allZero (unusedBytes dimensions e)) unused
 
-  -- what stands in the daughters', lengths' and variables' places, and byte 23
+  -- what stands in the daughters', lengths' and variables' places
   record Same : Type 0 where
     pub daughters : (p j : ℕ) → p ≡ 2 + j → j < 3 → getD (rule .daughters) j 0 ≡ getD e p 0
     pub lengths : (p j : ℕ) → p ≡ 7 + j → j < 4 → getD (map length (rule .components)) j 0 ≡ getD e p 0
     pub codes : (p j : ℕ) → p ≡ 11 + j → j < 12 → getD (map codeOf (named (rule .components))) j 0 ≡ getD e p 0
-    pub last : (p : ℕ) → p ≡ 23 → getD e p 0 ≡ 0
 
   -- at most k numbers stand there, the rest of the places is 0
   part : (l : List ℕ) (i k m : ℕ) → length l ≡ k → k ≤ m → i + m ≤ 24 → ((j : ℕ) → j < k → getD l j 0 ≡ getD e (i + j) 0) → ((p j : ℕ) → p ≡ i + k + j → j < m - k → getD e p 0 ≡ 0)
@@ -74,7 +73,7 @@ module _ (g : Grammar) (e : List ℕ) (tested : Tested g e) (dims : DimensionsIn
       go (no t) = List·getD-eq-default l 0 (omega arith) ∙ sym (gap p (j - k) (omega arith) (omega arith))
 
   with-daughters : 0 < n → Same
-  with-daughters any = record { daughters = d; lengths = l; codes = c; last = λ p q. zero-field e (11 + v) (13 - v) z-d p (12 - v) (omega (arith, v12)) (omega (arith, v12)) }
+  with-daughters any = record { daughters = d; lengths = l; codes = c }
     where
       v : ℕ
       v = variables dimensions e
@@ -91,14 +90,14 @@ module _ (g : Grammar) (e : List ℕ) (tested : Tested g e) (dims : DimensionsIn
       has : hasDaughters e ≡ true
       has = lt-ltb 0 n any
 
-      all : T (allZero (fields e (2 + n) (3 - n) ++ fields e 5 2 ++ fields e (7 + m) (4 - m) ++ fields e (11 + v) (13 - v)))
-      all = subst (λ (t : Bool). T (allZero (if t then fields e (2 + n) (3 - n) ++ fields e 5 2 ++ fields e (7 + m) (4 - m) ++ fields e (11 + v) (13 - v) else fields e 2 3 ++ fields e 7 17))) has zeros
+      all : T (allZero (fields e (2 + n) (3 - n) ++ fields e 5 2 ++ fields e (7 + m) (4 - m) ++ fields e (11 + v) (12 - v)))
+      all = subst (λ (t : Bool). T (allZero (if t then fields e (2 + n) (3 - n) ++ fields e 5 2 ++ fields e (7 + m) (4 - m) ++ fields e (11 + v) (12 - v) else fields e 2 3 ++ fields e 7 16))) has zeros
 
       z-abc : T (allZero (fields e (2 + n) (3 - n) ++ fields e 5 2 ++ fields e (7 + m) (4 - m)))
-      z-abc = zero-split (fields e (2 + n) (3 - n) ++ fields e 5 2 ++ fields e (7 + m) (4 - m)) (fields e (11 + v) (13 - v)) all .0
+      z-abc = zero-split (fields e (2 + n) (3 - n) ++ fields e 5 2 ++ fields e (7 + m) (4 - m)) (fields e (11 + v) (12 - v)) all .0
 
-      z-d : T (allZero (fields e (11 + v) (13 - v)))
-      z-d = zero-split (fields e (2 + n) (3 - n) ++ fields e 5 2 ++ fields e (7 + m) (4 - m)) (fields e (11 + v) (13 - v)) all .1
+      z-d : T (allZero (fields e (11 + v) (12 - v)))
+      z-d = zero-split (fields e (2 + n) (3 - n) ++ fields e 5 2 ++ fields e (7 + m) (4 - m)) (fields e (11 + v) (12 - v)) all .1
 
       z-c : T (allZero (fields e (7 + m) (4 - m)))
       z-c = zero-split (fields e (2 + n) (3 - n) ++ fields e 5 2) (fields e (7 + m) (4 - m)) z-abc .1
@@ -129,29 +128,28 @@ module _ (g : Grammar) (e : List ℕ) (tested : Tested g e) (dims : DimensionsIn
       l = part (map length (rule .components)) 7 m 4 (ap length lens ∙ field-length g e tested 7 m (omega (arith, m4))) m4 (omega arith) (λ j h. ap (λ (x : List ℕ). getD x j 0) lens ∙ field-at g e tested 7 m j h) (λ p j q h. zero-field e (7 + m) (4 - m) z-c p j q h)
 
       c : (p j : ℕ) → p ≡ 11 + j → j < 12 → getD (map codeOf (named (rule .components))) j 0 ≡ getD e p 0
-      c = part (map codeOf (named (rule .components))) 11 v 12 (ap length codes-are ∙ field-length g e tested 11 v (omega (arith, v12))) v12 (omega arith) (λ j h. ap (λ (x : List ℕ). getD x j 0) codes-are ∙ field-at g e tested 11 v j h) (λ p j q h. zero-field e (11 + v) (13 - v) z-d p j q (omega (arith, v12)))
+      c = part (map codeOf (named (rule .components))) 11 v 12 (ap length codes-are ∙ field-length g e tested 11 v (omega (arith, v12))) v12 (omega arith) (λ j h. ap (λ (x : List ℕ). getD x j 0) codes-are ∙ field-at g e tested 11 v j h) (λ p j q h. zero-field e (11 + v) (12 - v) z-d p j q (omega (arith, v12)))
 
   without : n ≡ 0 → Same
   without nothing =
       record {
         daughters = λ p j q h. List·getD-eq-default (rule .daughters) 0 (omega (arith, daughters-length g e tested)) ∙ sym (zero-field e 2 3 z-a p j q h);
-        lengths = λ p j q h. ap (λ (x : List (List Variable)). getD (map length x) j 0) components ∙ sym (zero-field e 7 17 z-b p j q (omega arith));
-        codes = λ p j q h. ap (λ (x : List (List Variable)). getD (map codeOf (named x)) j 0) components ∙ sym (zero-field e 7 17 z-b p (4 + j) (omega arith) (omega arith));
-        last = λ p q. zero-field e 7 17 z-b p 16 (omega arith) (omega arith);
+        lengths = λ p j q h. ap (λ (x : List (List Variable)). getD (map length x) j 0) components ∙ sym (zero-field e 7 16 z-b p j q (omega arith));
+        codes = λ p j q h. ap (λ (x : List (List Variable)). getD (map codeOf (named x)) j 0) components ∙ sym (zero-field e 7 16 z-b p (4 + j) (omega arith) (omega arith));
       }
     where
       has-not : hasDaughters e ≡ false
       has-not = le-ltb 0 n (omega arith)
 
-      both : T (allZero (fields e 2 3 ++ fields e 7 17))
+      both : T (allZero (fields e 2 3 ++ fields e 7 16))
       both =
-          subst (λ (t : Bool). T (allZero (if t then fields e (2 + n) (3 - n) ++ fields e 5 2 ++ fields e (7 + dimensionIn dimensions (field e 0)) (4 - dimensionIn dimensions (field e 0)) ++ fields e (11 + variables dimensions e) (13 - variables dimensions e) else fields e 2 3 ++ fields e 7 17))) has-not zeros
+          subst (λ (t : Bool). T (allZero (if t then fields e (2 + n) (3 - n) ++ fields e 5 2 ++ fields e (7 + dimensionIn dimensions (field e 0)) (4 - dimensionIn dimensions (field e 0)) ++ fields e (11 + variables dimensions e) (12 - variables dimensions e) else fields e 2 3 ++ fields e 7 16))) has-not zeros
 
       z-a : T (allZero (fields e 2 3))
-      z-a = zero-split (fields e 2 3) (fields e 7 17) both .0
+      z-a = zero-split (fields e 2 3) (fields e 7 16) both .0
 
-      z-b : T (allZero (fields e 7 17))
-      z-b = zero-split (fields e 2 3) (fields e 7 17) both .1
+      z-b : T (allZero (fields e 7 16))
+      z-b = zero-split (fields e 2 3) (fields e 7 16) both .1
 
       components : rule .components ≡ []
       components = ap (λ (t : Bool). if t then sequences (lengthsOf dimensions e) (fields e 11 12) else []) has-not
@@ -176,8 +174,8 @@ module _ (g : Grammar) (e : List ℕ) (tested : Tested g e) (dims : DimensionsIn
       at p h (yes q) b c d f k m = move q refl
       at p h (no a) (yes q) c d f k m = move q (daughters-length g e tested)
       at p h (no a) (no b) (yes q) d f k m = at-daughter rule p (p - 2) (omega arith) (omega arith) ∙ same-bytes .daughters p (p - 2) (omega arith) (omega arith)
-      at p h (no a) (no b) (no c) (yes q) f k m = move q (from-5 rule 5 0 refl ∙ two .0)
-      at p h (no a) (no b) (no c) (no d) (yes q) k m = move q (from-5 rule 6 1 refl ∙ two .1)
+      at p h (no a) (no b) (no c) (yes q) f k m = move q (from-5 rule 5 0 refl (omega arith) ∙ two .0)
+      at p h (no a) (no b) (no c) (no d) (yes q) k m = move q (from-5 rule 6 1 refl (omega arith) ∙ two .1)
       at p h (no a) (no b) (no c) (no d) (no f) (yes q) m = at-length rule p (p - 7) (omega arith) (omega arith) ∙ same-bytes .lengths p (p - 7) (omega arith) (omega arith)
       at p h (no a) (no b) (no c) (no d) (no f) (no k) (yes q) = at-variable rule p (p - 11) (omega arith) (omega arith) ∙ same-bytes .codes p (p - 11) (omega arith) (omega arith)
-      at p h (no a) (no b) (no c) (no d) (no f) (no k) (no m) = at-last rule p (omega arith) ∙ sym (same-bytes .last p (omega arith))
+      at p h (no a) (no b) (no c) (no d) (no f) (no k) (no m) = move (omega arith) (at-weight rule 23 refl)

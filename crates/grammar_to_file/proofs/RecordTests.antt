@@ -3,7 +3,6 @@
 use mathlib.Core.Path.{_≡_, refl, ap, ap₂, sym, subst, _∙_}
 use mathlib.Core.Logic.{_⊎_, inl, inr, ⊎-elim}
 use mathlib.Core.Bool.{Bool, true, false, _&&_, _||_, not}
-use mathlib.Core.Option.{some}
 use mathlib.Core.List.{List, [], _∷_, _++_, map, append-assoc, List·Memᴰ, List·Memᴰ·head, List·Memᴰ·tail, List·Memᴰ·cases-cons}
 use Prim.Native.Nat.{ℕ, zero, suc, _+_, _-_, _*_, _<_, _≤_}
 use native.Mathlib.Omega.{arith}
@@ -13,7 +12,7 @@ use lib.ListN.{length, getD, take, drop, length-append, length-map, take-append-
 use lib.Seq.{take-at, drop-at, take-take}
 use borrow.Author.Tests.{eq-eqb, ne-eqb, lt-leb, le-ltb, lt-ltb}
 use Rattle.model.specs.Base.{if_then_else_, numbersFrom, anyBelow, allBelow, occurrences, total}
-use Rattle.model.specs.Grammar.{Variable, Rule, Grammar, ruleAt, dimension, isLexical, variable, emptyWord}
+use Rattle.model.specs.Grammar.{Variable, Rule, Grammar, dimension, isLexical, variable, emptyWord}
 use Rattle.model.specs.WellFormed.{Perm, same, more, swap, chain, daughterVariables, named, RightRule, InRange, WellFormed}
 use Rattle.model.specs.GrammarFile.{allZero, fields, field, hasDaughters, wordOf, dimensionIn, lengthsOf, variables, wrongCategory, wrongWord, eachOnce, wrongVariables, unusedBytes, unusedSet, decoded, sequences, ruleOf}
 use Rattle.model.proofs.Tests.{and-both, on-not}
@@ -22,7 +21,7 @@ use Rattle.model.proofs.Perm.{perm-map, perm-length, perm-mem}
 use Rattle.model.proofs.Once.{Once, vars-once, vars-length}
 use Rattle.model.proofs.Variables.{Distinct, vars-out, decode-code}
 use Rattle.grammar_to_file.specs.FileFor.{codeOf, recordFor}
-use Rattle.grammar_to_file.proofs.Records.{at-daughter, daughters-are, word-is, lengths-are, variables-are, past-daughters, past-lengths, past-variables, word-zero, lexical-rest}
+use Rattle.grammar_to_file.proofs.Records.{at-daughter, daughters-are, word-is, lengths-are, variables-are, past-daughters, past-lengths, past-variables, word-zero, lexical-rest, at-weight}
 
 -- tests below a number
 pub all-by : (test : ℕ → Bool) (n : ℕ) → ((k : ℕ) → k < n → T (test k)) → T (allBelow test n)
@@ -107,7 +106,7 @@ mem-total : (x : ℕ) (l : List ℕ) → List·Memᴰ x l → x ≤ total l
 mem-total x (y ∷ l) (List·Memᴰ·head e) = omega arith
 mem-total x (y ∷ l) (List·Memᴰ·tail m) = omega (arith, mem-total x l m)
 
-module _ (g : Grammar) (well : WellFormed g) (r : ℕ) (rule : Rule) (is-rule : ruleAt g r ≡ some rule) where
+module _ (g : Grammar) (well : WellFormed g) (rule : Rule) (w : InRange g rule) (rr : RightRule g rule) where
   abbrev dimensions : List ℕ
   dimensions = g .dimensions
 
@@ -116,12 +115,6 @@ module _ (g : Grammar) (well : WellFormed g) (r : ℕ) (rule : Rule) (is-rule : 
 
   abbrev e : List ℕ
   e = recordFor rule
-
-  w : InRange g rule
-  w = well .ranges r rule is-rule
-
-  rr : RightRule g rule
-  rr = well .right .rules r rule is-rule
 
   dim-few : (c : ℕ) → c < length dimensions → dimension g c ≤ 4
   dim-few c h = well .dimensions-are c h .1
@@ -210,10 +203,10 @@ module _ (g : Grammar) (well : WellFormed g) (r : ℕ) (rule : Rule) (is-rule : 
         let a = fields e (2 + field e 1) (3 - field e 1) in
         let b = fields e 5 2 in
         let c = fields e (7 + dimensionIn dimensions (field e 0)) (4 - dimensionIn dimensions (field e 0)) in
-        let d = fields e (11 + variables dimensions e) (13 - variables dimensions e) in
-        let zd : T (allZero d) = subst (λ (n : ℕ). T (allZero (fields e (11 + n) (13 - n)))) (sym variables-is) (past-variables rule v codes-many twelve) in
+        let d = fields e (11 + variables dimensions e) (12 - variables dimensions e) in
+        let zd : T (allZero d) = subst (λ (n : ℕ). T (allZero (fields e (11 + n) (12 - n)))) (sym variables-is) (past-variables rule v codes-many twelve) in
         let all = zero-append ((a ++ b) ++ c) d (zero-append (a ++ b) c (zero-append a b (past-daughters rule (w .daughters-few)) (word-zero rule z)) (past-lengths rule m (rr .components l) (dim-few (rule .category) (w .category-is)))) zd in
-        on-not (allZero (unusedBytes dimensions e)) (subst (λ (t : Bool). T (allZero (if t then ((a ++ b) ++ c) ++ d else fields e 2 3 ++ fields e 7 17))) (sym has) all)
+        on-not (allZero (unusedBytes dimensions e)) (subst (λ (t : Bool). T (allZero (if t then ((a ++ b) ++ c) ++ d else fields e 2 3 ++ fields e 7 16))) (sym has) all)
 
     -- the rule that it holds
     pub holds-rule : rule .word ≡ 0 → ruleOf dimensions e ≡ rule
@@ -225,7 +218,8 @@ module _ (g : Grammar) (well : WellFormed g) (r : ℕ) (rule : Rule) (is-rule : 
         let k : (if hasDaughters e then sequences (lengthsOf dimensions e) (fields e 11 12) else []) ≡ rule .components =
         ap (λ (t : Bool). if t then sequences (lengthsOf dimensions e) (fields e 11 12) else []) has
         ∙ ap₂ sequences lengths-is twelve-bytes ∙ sequences-back (rule .components) (drop v (fields e 11 12)) small in
-        λ i. record { category = rule .category; daughters = d i; word = q i; components = k i }
+        let u = at-weight rule 23 refl in
+        λ i. record { category = rule .category; daughters = d i; word = q i; components = k i; weight = u i }
       where
         take-fields : (a b : ℕ) → a ≤ b → take a (fields e 11 b) ≡ fields e 11 a
         take-fields a b h = take-take a b (drop 11 e) h
@@ -261,13 +255,14 @@ module _ (g : Grammar) (well : WellFormed g) (r : ℕ) (rule : Rule) (is-rule : 
     pub unused-passes-lexical : unusedSet dimensions e ≡ false
     unused-passes-lexical =
         let a = fields e 2 3 in
-        let b = fields e 7 17 in
+        let b = fields e 7 16 in
         let z : T (allZero a) = subst (λ (n : ℕ). T (allZero (fields e (2 + n) (3 - n)))) (ap length l) (past-daughters rule (w .daughters-few)) in
-        on-not (allZero (unusedBytes dimensions e)) (subst (λ (t : Bool). T (allZero (if t then fields e (2 + field e 1) (3 - field e 1) ++ fields e 5 2 ++ fields e (7 + dimensionIn dimensions (field e 0)) (4 - dimensionIn dimensions (field e 0)) ++ fields e (11 + variables dimensions e) (13 - variables dimensions e) else a ++ b))) (sym has-not) (zero-append a b z (lexical-rest rule no-components)))
+        on-not (allZero (unusedBytes dimensions e)) (subst (λ (t : Bool). T (allZero (if t then fields e (2 + field e 1) (3 - field e 1) ++ fields e 5 2 ++ fields e (7 + dimensionIn dimensions (field e 0)) (4 - dimensionIn dimensions (field e 0)) ++ fields e (11 + variables dimensions e) (12 - variables dimensions e) else a ++ b))) (sym has-not) (zero-append a b z (lexical-rest rule no-components)))
 
     pub holds-lexical : ruleOf dimensions e ≡ rule
     holds-lexical =
         let d = daughters-are rule (w .daughters-few) in
         let q = word-is rule small-word in
         let k : (if hasDaughters e then sequences (lengthsOf dimensions e) (fields e 11 12) else []) ≡ rule .components = ap (λ (t : Bool). if t then sequences (lengthsOf dimensions e) (fields e 11 12) else []) has-not ∙ sym no-components in
-        λ i. record { category = rule .category; daughters = d i; word = q i; components = k i }
+        let u = at-weight rule 23 refl in
+        λ i. record { category = rule .category; daughters = d i; word = q i; components = k i; weight = u i }

@@ -13,7 +13,7 @@ use borrow.Author.Tests.{lt-ltb, le-ltb}
 use Rattle.model.specs.declared.Refusal.{Refusal}
 use Rattle.model.specs.Base.{if_then_else_, _orElse_, sameList, each, numbersFrom}
 use Rattle.model.specs.Verdict.{refuseIf}
-use Rattle.model.specs.Grammar.{Rule, Grammar, ruleAt, isLexical}
+use Rattle.model.specs.Grammar.{Rule, Grammar, ruleAt, isLexical, unweighted}
 use Rattle.model.specs.GrammarFile.{allZero, fields, field, daughtersOf, wordOf, dimensionIn, dimensionsOf, wordsOf, rulesOf, recordPlace, recordOf, lengthsOf, variables, sequences, sameRecord, repeated, unusedSet, wrongCategory, wrongWord, wrongVariables, ruleOf, grammarRefusal, grammarOf, categoriesOf, startOf}
 use Rattle.model.specs.Writer.{allBytes, padded, headingOf, fileOf}
 use Rattle.model.proofs.Tests.{and-both, not-both, no-refusal, first-of, rest-of, any-none}
@@ -24,7 +24,8 @@ use Rattle.model.proofs.RuleFromRecord.{daughters-length}
 use Rattle.model.proofs.WellFormed.{accepted-well, rules-length}
 use lib.Seq.{ext-getD}
 use Rattle.model.proofs.WriterBack.{written-again}
-use Rattle.grammar_to_file.specs.FileFor.{recordFor, headingFor, fileFor, Storable}
+use Rattle.grammar_to_file.specs.FileFor.{bytesFor, recordFor, headingFor, fileFor, Storable}
+use Rattle.grammar_to_file.proofs.Records.{front-is}
 use Rattle.grammar_to_file.proofs.RecordAgain.{record-again, zero-split, zero-field, zeros}
 
 list-same : (a : List ℕ) → T (sameList a a)
@@ -58,25 +59,32 @@ module _ (file : List ℕ) (bytes : T (allBytes file)) (accepted : grammarRefusa
   pub again : (r : ℕ) → r < rulesOf file → recordFor (ruleOf dimensions (recordOf file r)) ≡ recordOf file r
   again r h = record-again g (recordOf file r) (record-tested file accepted r h) (dimensions-in file accepted) (later r h .unused) (bytes-fields file (recordPlace r) 24 (bytes-at file bytes))
 
-  -- no rule twice
-  apart : (i j : ℕ) → i < j → j < rulesOf file → ruleOf dimensions (recordOf file i) ≡ ruleOf dimensions (recordOf file j) → ⊥
+  front-again : (r : ℕ) → r < rulesOf file → bytesFor (ruleOf dimensions (recordOf file r)) ≡ fields (recordOf file r) 0 23
+  front-again r h = sym (front-is (ruleOf dimensions (recordOf file r))) ∙ ap (λ (x : List ℕ). fields x 0 23) (again r h)
+
+  -- no rule twice, weight aside
+  apart : (i j : ℕ) → i < j → j < rulesOf file → unweighted (ruleOf dimensions (recordOf file i)) ≡ unweighted (ruleOf dimensions (recordOf file j)) → ⊥
   apart i j h k e =
-      let same : recordOf file i ≡ recordOf file j = sym (again i (omega arith)) ∙ ap recordFor e ∙ again j k in
-      let t : T (sameRecord (recordOf file i) (recordOf file j)) = subst (λ (x : List ℕ). T (sameList (recordOf file i) x)) same (list-same (recordOf file i)) in
+      let a = fields (recordOf file i) 0 23 in
+      let same : a ≡ fields (recordOf file j) 0 23 = sym (front-again i (omega arith)) ∙ ap bytesFor e ∙ front-again j k in
+      let t : T (sameRecord (recordOf file i) (recordOf file j)) = subst (λ (x : List ℕ). T (sameList a x)) same (list-same a) in
       subst T (any-none (λ j′. sameRecord (recordOf file j′) (recordOf file j)) j (later j k .single) i h) t
 
-  differ : (r s : ℕ) (rule : Rule) → ruleAt g r ≡ some rule → ruleAt g s ≡ some rule → r ≡ s
-  differ r s rule e f = go (decLt r s) (decLt s r)
+  differ : (r s : ℕ) (a b : Rule) → ruleAt g r ≡ some a → ruleAt g s ≡ some b → unweighted a ≡ unweighted b → r ≡ s
+  differ r s a b e f q = go (decLt r s) (decLt s r)
     where
-      x : (r < rulesOf file) × (ruleOf dimensions (recordOf file r) ≡ rule)
-      x = rule-is file r rule e
+      x : (r < rulesOf file) × (ruleOf dimensions (recordOf file r) ≡ a)
+      x = rule-is file r a e
 
-      y : (s < rulesOf file) × (ruleOf dimensions (recordOf file s) ≡ rule)
-      y = rule-is file s rule f
+      y : (s < rulesOf file) × (ruleOf dimensions (recordOf file s) ≡ b)
+      y = rule-is file s b f
+
+      same : unweighted (ruleOf dimensions (recordOf file r)) ≡ unweighted (ruleOf dimensions (recordOf file s))
+      same = ap unweighted (x .1) ∙ q ∙ sym (ap unweighted (y .1))
 
       go : Dec (r < s) → Dec (s < r) → r ≡ s
-      go (yes h) k = absurd (apart r s h (y .0) (x .1 ∙ sym (y .1)))
-      go (no h) (yes k) = absurd (apart s r k (x .0) (y .1 ∙ sym (x .1)))
+      go (yes h) k = absurd (apart r s h (y .0) same)
+      go (no h) (yes k) = absurd (apart s r k (x .0) (sym same))
       go (no h) (no k) = omega arith
 
   -- no word where there are daughters, no components where there are none
@@ -101,9 +109,9 @@ module _ (file : List ℕ) (bytes : T (allBytes file)) (accepted : grammarRefusa
       let m = dimensionIn dimensions (field e 0) in
       let v = variables dimensions e in
       let z = zeros g e (record-tested file accepted r h) (dimensions-in file accepted) (later r h .unused) (bytes-fields file (recordPlace r) 24 (bytes-at file bytes)) in
-      let all : T (allZero (fields e (2 + n) (3 - n) ++ fields e 5 2 ++ fields e (7 + m) (4 - m) ++ fields e (11 + v) (13 - v))) =
-      subst (λ (t : Bool). T (allZero (if t then fields e (2 + n) (3 - n) ++ fields e 5 2 ++ fields e (7 + m) (4 - m) ++ fields e (11 + v) (13 - v) else fields e 2 3 ++ fields e 7 17))) (lt-ltb 0 n some-one) z in
-      let a = zero-split (fields e (2 + n) (3 - n) ++ fields e 5 2 ++ fields e (7 + m) (4 - m)) (fields e (11 + v) (13 - v)) all .0 in
+      let all : T (allZero (fields e (2 + n) (3 - n) ++ fields e 5 2 ++ fields e (7 + m) (4 - m) ++ fields e (11 + v) (12 - v))) =
+      subst (λ (t : Bool). T (allZero (if t then fields e (2 + n) (3 - n) ++ fields e 5 2 ++ fields e (7 + m) (4 - m) ++ fields e (11 + v) (12 - v) else fields e 2 3 ++ fields e 7 16))) (lt-ltb 0 n some-one) z in
+      let a = zero-split (fields e (2 + n) (3 - n) ++ fields e 5 2 ++ fields e (7 + m) (4 - m)) (fields e (11 + v) (12 - v)) all .0 in
       let b = zero-split (fields e (2 + n) (3 - n) ++ fields e 5 2) (fields e (7 + m) (4 - m)) a .0 in
       let c = zero-split (fields e (2 + n) (3 - n)) (fields e 5 2) b .1 in
       ap₂ (λ (x y : ℕ). x + 256 * y) (zero-field e 5 2 c 5 0 refl (omega arith)) (zero-field e 5 2 c 6 1 refl (omega arith))
@@ -122,6 +130,10 @@ module _ (file : List ℕ) (bytes : T (allBytes file)) (accepted : grammarRefusa
             ap (λ (z : Rule). z .components) (sym (x .1))
             ∙ ap (λ (t : Bool). if t then sequences (lengthsOf dimensions (recordOf file r)) (fields (recordOf file r) 11 12) else []) (le-ltb 0 (field (recordOf file r) 1) (omega (arith, no-daughter r (x .0) l′)));
         differ = differ;
+        weights = λ r rule e.
+            let x = rule-is file r rule e in
+            let b = bytes-fields file (recordPlace r) 24 (bytes-at file bytes) 23 in
+            omega (arith, ap (λ (z : Rule). z .weight) (x .1), b);
       }
 
   -- the grammar's heading is the file's, and its records are the file's

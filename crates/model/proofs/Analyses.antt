@@ -14,10 +14,11 @@ use Rattle.model.specs.Trace.{noNode, run}
 use Rattle.model.specs.Tree.{Tree, node, yield, hasRoot, preorder, spells, derives, treeOfList, stringFits}
 use Rattle.model.specs.Counting.{start, finished, complete, listing, count}
 use Rattle.model.specs.LivePrefixes.{Fits, LiveFrom, Live, Different}
-use Rattle.model.specs.WellFormed.{same, Right}
+use Rattle.model.specs.WellFormed.{Perm, same, chain, Right}
 use Rattle.model.specs.Conversions.{subtree, traceFrom, traceOf, Traces}
 use Rattle.model.specs.Demands.{Ends, Analysis, traceOfTree}
 use Rattle.model.proofs.Lists.{map-in, map-out}
+use Rattle.model.proofs.Perm.{perm-length}
 use Rattle.model.proofs.Live.{nil-live, cons-live}
 use Rattle.model.proofs.Listing.{listing-lists, order-different}
 use Rattle.model.proofs.Reading.{forest-one}
@@ -27,7 +28,7 @@ use Rattle.model.proofs.Slots.{Row}
 use Rattle.model.proofs.Expand.{queueSlots, zipped}
 use Rattle.model.proofs.Daughters.{yield-length}
 use Rattle.model.proofs.Forward.{Fit, Good, nodes}
-use Rattle.model.proofs.Traces.{advance, traces-spell, traces-length, traced}
+use Rattle.model.proofs.Traces.{advance, traces-spell, traces-nodes, traces-length, traced}
 use Rattle.model.proofs.Lifting.{Lift, lifted}
 use Rattle.model.proofs.Only.{only}
 use Rattle.model.proofs.Tests.{and-both, and-l, and-r}
@@ -91,8 +92,11 @@ module _ (g : Grammar) (right : Right g) (sentence : List ℕ) where
       let e = traces-spell g right p (at t) (at-good t r) h (getD (yield g t) 0 []) (at-row t r) in
       and-both (hasRoot g t (g .start)) (spells g sentence t) r (rw e (same-refl sentence))
 
+  pub trace-rules : (t : Tree) (p : List ℕ) → T (hasRoot g t (g .start)) → Traces g (at t) p → Perm p (preorder t)
+  trace-rules t p r h = chain (traces-nodes g right p (at t) (at-good t r) h) (same (append-nil (preorder t)))
+
   pub trace-size : (t : Tree) (p : List ℕ) → T (hasRoot g t (g .start)) → Traces g (at t) p → length p ≡ length (preorder t)
-  trace-size t p r h = traces-length g right p (at t) (at-good t r) h ∙ ap length (append-nil (preorder t))
+  trace-size t p r h = perm-length (trace-rules t p r h)
 
   -- the trace is what `traceFrom` gives
   from-traces : (n : ℕ) (p : List ℕ) (s : State Tree) → length p ≤ n → Traces g s p → traceFrom g n s ≡ p

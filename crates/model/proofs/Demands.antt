@@ -83,7 +83,7 @@ module _ (g : Grammar) (right : Right g) (sentence : List ℕ) where
       subst (λ (x : List ℕ). treeRefusal g sentence x ≡ none) (d .listed) (derives-accepted g sentence (d .tree) (d .derived) n)
 
   -- the tree of the trace of a tree is that tree
-  tree-back : (t : Tree) → T (derives g sentence t) → treeOf g sentence (traceOfTree g sentence t) ≡ preorder t
+  pub tree-back : (t : Tree) → T (derives g sentence t) → treeOf g sentence (traceOfTree g sentence t) ≡ preorder t
   tree-back t h =
       let r = rooted-of g right sentence t h in
       let d = derived-trace g right sentence t h in

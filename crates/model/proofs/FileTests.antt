@@ -77,7 +77,7 @@ right-heading file e =
     }
 
 -- tests joined by `orElse`
-eight-none : (a b c d e f g h : Option Refusal) → a orElse b orElse c orElse d orElse e orElse f orElse g orElse h ≡ none
+pub eight-none : (a b c d e f g h : Option Refusal) → a orElse b orElse c orElse d orElse e orElse f orElse g orElse h ≡ none
     → (a ≡ none) × (b ≡ none) × (c ≡ none) × (d ≡ none) × (e ≡ none) × (f ≡ none) × (g ≡ none) × (h ≡ none)
 eight-none a b c d e f g h r₁ =
     let r₂ = rest-of a (b orElse c orElse d orElse e orElse f orElse g orElse h) r₁ in

@@ -1,11 +1,12 @@
 -- Lists with the same elements, in another order.
 -- Assumes nothing.
 use lib.ListN.{length}
-use Prim.Native.Nat.{suc}
+use Prim.Native.Nat.{ℕ, suc, _+_}
+use native.Mathlib.Omega.{arith}
 use mathlib.Core.Path.{_≡_, refl, sym, ap, subst, _∙_}
 use mathlib.Core.Logic.{_⊎_, inl, inr}
 use mathlib.Core.List.{List, [], _∷_, _++_, map, append-assoc, append-nil, head-eq-of-cons-eq, tail-eq-of-cons-eq, cons≢nil, List·Memᴰ, List·Memᴰ·head, List·Memᴰ·tail, List·Memᴰ·cases-cons}
-use Rattle.model.specs.Base.{each}
+use Rattle.model.specs.Base.{each, total}
 use Rattle.model.specs.WellFormed.{Perm, same, more, swap, chain}
 
 module _ {A : Type 0} where
@@ -101,3 +102,10 @@ perm-length (same e) = ap length e
 perm-length (more x p) = ap suc (perm-length p)
 perm-length (swap x y) = refl
 perm-length (chain p q) = perm-length p ∙ perm-length q
+
+-- a sum does not depend on the order
+pub perm-total : {l m : List ℕ} → Perm l m → total l ≡ total m
+perm-total (same e) = ap total e
+perm-total (more x p) = ap (λ (n : ℕ). x + n) (perm-total p)
+perm-total (swap x y) = omega arith
+perm-total (chain p q) = perm-total p ∙ perm-total q

@@ -387,6 +387,17 @@ module _ (file sentence : List ℕ) where
       file-gives file then room-gives out then limits-give n limit then sentence-gives g sentence then effort-gives g sentence n limit
       then desk-one 26 0 (leb (count g sentence n) m)
 
+-- a call that is tested as one of the checkers, whatever its value
+pub trace-decided : (file sentence trace : List ℕ) (n : ℕ)
+    → Decided (checkTraceTests file sentence trace) (n ∷ []) (verdictAnswer (verdict (checkTraceRefusal file sentence trace) n))
+trace-decided file sentence trace n =
+    by-tests (checkTraceTests file sentence trace) (checkTraceRefusal file sentence trace) n (check-trace-gives file sentence trace .first)
+
+pub tree-decided : (file sentence tree : List ℕ) (n : ℕ)
+    → Decided (checkTreeTests file sentence tree) (n ∷ []) (verdictAnswer (verdict (checkTreeRefusal file sentence tree) n))
+tree-decided file sentence tree n =
+    by-tests (checkTreeTests file sentence tree) (checkTreeRefusal file sentence tree) n (check-tree-gives file sentence tree .first)
+
 survey-gives : (file out : List ℕ) → Gives (surveyTests file out) (surveyRefusal file out)
 survey-gives file out = file-gives file then room-gives out
 
@@ -398,10 +409,8 @@ demand-1 =
         by-tests (writeTests h records out) (writeRefusal h records out) (length (fileOf h records)) (write-gives h records out),
         wrote (writeTests h records out) (writeRefusal h records out) (fileOf h records) out (write-gives h records out) (file-fits h records out),
       );
-      trace-checker = λ file sentence trace.
-          by-tests (checkTraceTests file sentence trace) (checkTraceRefusal file sentence trace) (length trace) (check-trace-gives file sentence trace .first);
-      tree-checker = λ file sentence tree.
-          by-tests (checkTreeTests file sentence tree) (checkTreeRefusal file sentence tree) (length tree) (check-tree-gives file sentence tree .first);
+      trace-checker = λ file sentence trace. trace-decided file sentence trace (length trace);
+      tree-checker = λ file sentence tree. tree-decided file sentence tree (length tree);
       trace-to-tree = λ file sentence trace out.
           let e = to-tree-gives file sentence trace out .first in (
             by-tests (traceToTreeTests file sentence trace out) (traceToTreeRefusal file sentence trace out) (length trace) e,

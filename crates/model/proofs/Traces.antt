@@ -14,9 +14,9 @@ use Rattle.model.specs.Base.{if_then_else_}
 use Rattle.model.specs.Grammar.{Rule, Grammar, ruleAt, isLexical, emptyWord}
 use Rattle.model.specs.Step.{Prediction, State, fails, leads, sort, trim, expand, scan, readWord, step}
 use Rattle.model.specs.Tree.{Tree, Forest, node, wordString, hasRoot, hasRoots, rootBy}
-use Rattle.model.specs.WellFormed.{Perm, Right}
+use Rattle.model.specs.WellFormed.{Perm, same, more, chain, Right}
 use Rattle.model.specs.Conversions.{label, subtree, Step, Traces}
-use Rattle.model.proofs.Perm.{perm-mem, perm-length}
+use Rattle.model.proofs.Perm.{perm-mem, perm-length, perm-sym}
 use Rattle.model.proofs.Slots.{Slot, Row, spelled}
 use Rattle.model.proofs.Expand.{queueSlots}
 use Rattle.model.proofs.Forward.{Good, nodes, predict-good, predict-nodes, predict-row, scan-good, scan-nodes, scan-front}
@@ -104,12 +104,12 @@ scan-goes w q rest = go (eqb w emptyWord) refl
     go false e = rw (eq-eqb w w refl)
 
 module _ (g : Grammar) (right : Right g) where
-  pub record Advance (s s′ : State Tree) : Type 0 where
+  pub record Advance (s s′ : State Tree) (r : ℕ) : Type 0 where
     pub good : Good g (s′ .queue)
-    pub fewer : length (nodes (s .queue)) ≡ suc (length (nodes (s′ .queue)))
+    pub taken : Perm (nodes (s .queue)) (r ∷ nodes (s′ .queue))
     pub back : (w : List ℕ) → Row (queueSlots g (s .queue)) w → ((w′ : List ℕ) → Row (queueSlots g (s′ .queue)) w′ → w′ ≡ s′ .words) → w ≡ s .words
 
-  pub advance : (s s′ : State Tree) (r : ℕ) → Good g (s .queue) → Step g s r s′ → Advance s s′
+  pub advance : (s s′ : State Tree) (r : ℕ) → Good g (s .queue) → Step g s r s′ → Advance s s′ r
   advance s s′ r h st = go (isLexical (t .rule)) refl
     where
       p : Prediction Tree
@@ -130,17 +130,16 @@ module _ (g : Grammar) (right : Right g) where
       n : p .node ≡ node r (t .trees)
       n = t .is-node ∙ ap (λ (k : ℕ). node k (t .trees)) (st .labelled)
 
-      go : (b : Bool) → isLexical (t .rule) ≡ b → Advance s s′
+      go : (b : Bool) → isLexical (t .rule) ≡ b → Advance s s′ r
       go false l =
           let e : after g (t .rule) p q (s .words) ≡ s′ = leads-one (sym (step-nonlexical g s r (t .rule) p q (st .queue-is) f (t .of-cat) l) ∙ st .leads-to) in
           let eq : trim (sort (expand subtree g (t .rule) p ++ q)) ≡ s′ .queue = ap (λ (x : State Tree). x .queue) e in
           let ew : s .words ≡ s′ .words = ap (λ (x : State Tree). x .words) e in
           record {
             good = subst (Good g) eq (predict-good g right (t .rule) p q r (t .trees) n f (t .of-cat) (t .below) h′);
-            fewer =
-                ap (λ (x : List (Prediction Tree)). length (nodes x)) (st .queue-is)
-                ∙ perm-length (predict-nodes g right (t .rule) p q r (t .trees) n f (t .of-cat) (t .below))
-                ∙ ap (λ (x : List (Prediction Tree)). suc (length (nodes x))) eq;
+            taken =
+                chain (same (ap nodes (st .queue-is)))
+                (chain (predict-nodes g right (t .rule) p q r (t .trees) n f (t .of-cat) (t .below)) (same (ap (λ (x : List (Prediction Tree)). r ∷ nodes x) eq)));
             back = λ w row k.
                 k w (subst (λ (x : List (Prediction Tree)). Row (queueSlots g x) w) eq
                 (predict-row g right (t .rule) p q r (t .trees) n f (t .of-cat) (t .below) l h′ w
@@ -150,10 +149,9 @@ module _ (g : Grammar) (right : Right g) where
           let e = scan-to (t .rule .word) q (s .words) s′ (sym (step-lexical g s r (t .rule) p q (st .queue-is) f (t .of-cat) l) ∙ st .leads-to) in
           record {
             good = subst (Good g) (sym (e .queue-is)) (scan-good g right (t .rule) p q r (t .trees) n f (t .of-cat) (t .below) l h′);
-            fewer =
-                ap (λ (x : List (Prediction Tree)). length (nodes x)) (st .queue-is)
-                ∙ ap length (scan-nodes g right (t .rule) p q r (t .trees) n f (t .of-cat) (t .below) l)
-                ∙ ap (λ (x : List (Prediction Tree)). suc (length (nodes x))) (sym (e .queue-is));
+            taken =
+                same (ap nodes (st .queue-is) ∙ scan-nodes g right (t .rule) p q r (t .trees) n f (t .of-cat) (t .below) l
+                ∙ ap (λ (x : List (Prediction Tree)). r ∷ nodes x) (sym (e .queue-is)));
             back = λ w row k.
                 let u = scan-front g right (t .rule) p q r (t .trees) n f (t .of-cat) (t .below) l h′ w
                 (subst (λ (x : List (Prediction Tree)). Row (queueSlots g x) w) (st .queue-is) row) in
@@ -175,12 +173,16 @@ module _ (g : Grammar) (right : Right g) where
       let a = advance s (t .0) r h (t .1) in
       a .back w row (λ w′ row′. traces-spell p (t .0) (a .good) (t .2) w′ row′)
 
-  -- and is as long as there are nodes
-  pub traces-length : (p : List ℕ) (s : State Tree) → Good g (s .queue) → Traces g s p → length p ≡ length (nodes (s .queue))
-  traces-length [] s h t = ap (λ (q : List (Prediction Tree)). length (nodes q)) (sym (t .0))
-  traces-length (r ∷ p) s h t =
+  -- and its rules are those of the nodes, in another order
+  pub traces-nodes : (p : List ℕ) (s : State Tree) → Good g (s .queue) → Traces g s p → Perm p (nodes (s .queue))
+  traces-nodes [] s h t = same (ap nodes (sym (t .0)))
+  traces-nodes (r ∷ p) s h t =
       let a = advance s (t .0) r h (t .1) in
-      ap suc (traces-length p (t .0) (a .good) (t .2)) ∙ sym (a .fewer)
+      chain (more r (traces-nodes p (t .0) (a .good) (t .2))) (perm-sym (a .taken))
+
+  -- so it is as long as there are nodes
+  pub traces-length : (p : List ℕ) (s : State Tree) → Good g (s .queue) → Traces g s p → length p ≡ length (nodes (s .queue))
+  traces-length p s h t = perm-length (traces-nodes p s h t)
 
   -- where the row spells the words, the front's rule applies, and the row goes on spelling them
   pub record Onward (s : State Tree) (r : ℕ) : Type 0 where
@@ -217,7 +219,7 @@ module _ (g : Grammar) (right : Right g) where
     pub rule : ℕ
     pub next : State Tree
     pub made : Step g s rule next
-    pub advanced : Advance s next
+    pub advanced : Advance s next rule
     pub row : Row (queueSlots g (next .queue)) (next .words)
 
   forth : (s : State Tree) (q : List (Prediction Tree)) → s .queue ≡ q → Good g (s .queue) → Row (queueSlots g (s .queue)) (s .words)
@@ -234,7 +236,7 @@ module _ (g : Grammar) (right : Right g) where
     where
       go : ((s .queue ≡ []) × (s .words ≡ [])) ⊎ Forth s → (p : List ℕ) × Traces g s p
       go (inl f) = ([], f)
-      go (inr f) = let z : ⊥ = omega (arith, f .advanced .fewer) in absurd z
+      go (inr f) = let z : ⊥ = omega (arith, perm-length (f .advanced .taken)) in absurd z
   traced (suc n) s e h row = go (forth s (s .queue) refl h row) (λ s′ e′ h′ row′. traced n s′ e′ h′ row′)
     where
       go : ((s .queue ≡ []) × (s .words ≡ [])) ⊎ Forth s
@@ -242,5 +244,5 @@ module _ (g : Grammar) (right : Right g) where
           → (p : List ℕ) × Traces g s p
       go (inl f) ih = ([], f)
       go (inr f) ih =
-          let (p, t) = ih (f .next) (omega (arith, f .advanced .fewer)) (f .advanced .good) (f .row) in
+          let (p, t) = ih (f .next) (omega (arith, perm-length (f .advanced .taken))) (f .advanced .good) (f .row) in
           (f .rule ∷ p, (f .next, f .made, t))

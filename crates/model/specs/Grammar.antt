@@ -1,4 +1,4 @@
--- A grammar (document 01, "A grammar"): a multiple context-free grammar in the normal form of W11-0605.
+-- A grammar (document 01, "A grammar"): a multiple context-free grammar in the normal form of W11-0605, with a weight on each rule (document 02, paper 1).
 -- Assumes nothing.
 use Prim.Native.Nat.{ℕ}
 use mathlib.Core.List.{List, [], _∷_}
@@ -12,12 +12,13 @@ pub record Variable : Type 0 where
   pub component : ℕ
 
 -- "A rule names a category A." With no daughters it is lexical and gives `word`; else `components` has, for each component of A, a sequence of
--- variables, possibly of length 0.
+-- variables, possibly of length 0. "A weight on each rule": `weight`, "from 0 to 255" (document 02, paper 1).
 pub record Rule : Type 0 where
   pub category : ℕ
   pub daughters : List ℕ
   pub word : ℕ
   pub components : List (List Variable)
+  pub weight : ℕ
 
 -- "Category, word and rule are three numberings, each from 0": `dimensions` has the dimension of each category, `words` is how many words there
 -- are, `rules` has the rule of each number.
@@ -48,13 +49,17 @@ daughtersBy (some rule) = rule .daughters
 abbrev pub variable : ℕ → ℕ → Variable
 variable j c = record { daughter = j; component = c }
 
--- "A lexical rule has no daughters, A has dimension 1, and it gives one word or the empty word."
+-- "A lexical rule has no daughters, A has dimension 1, and it gives one word or the empty word." Its weight is 0 here.
 abbrev pub lexical : ℕ → ℕ → Rule
-lexical category word = record { category = category; daughters = []; word = word; components = [] }
+lexical category word = record { category = category; daughters = []; word = word; components = []; weight = 0 }
 
--- "A nonlexical rule has 1 to 3 daughters and, for each component of A, a sequence of variables, possibly of length 0."
+-- "A nonlexical rule has 1 to 3 daughters and, for each component of A, a sequence of variables, possibly of length 0." Its weight is 0 here.
 abbrev pub nonlexical : ℕ → List ℕ → List (List Variable) → Rule
-nonlexical category daughters components = record { category = category; daughters = daughters; word = 0; components = components }
+nonlexical category daughters components = record { category = category; daughters = daughters; word = 0; components = components; weight = 0 }
+
+-- the rule, weight aside: two rules "differ only in weight" (document 02, paper 1) when this is the same of both
+abbrev pub unweighted : Rule → Rule
+unweighted r = record { category = r .category; daughters = r .daughters; word = r .word; components = r .components; weight = 0 }
 
 abbrev pub isLexical : Rule → Bool
 isLexical r = elim (r .daughters) [ [] ↦ true | d ∷ ds ↦ false ]

@@ -1,4 +1,5 @@
--- The grammar file: its fields, what the reader refuses, and the grammar that a file holds (document 01, "The grammar file", and refusals 1 to 10).
+-- The grammar file: its fields, what the reader refuses, and the grammar that a file holds (document 01, "The grammar file", and refusals 1 to 10; the
+-- weight of a rule is document 02's, paper 1).
 -- A file is the list of its bytes.
 -- Assumes nothing.
 use Prim.Native.Nat.{ℕ, suc, _+_, _-_, _*_, _/_, _%_}
@@ -90,6 +91,10 @@ hasDaughters e = ltb 0 (field e 1)
 abbrev pub wordOf : List ℕ → ℕ
 wordOf e = field e 5 + 256 * field e 6
 
+-- "Byte 23 of a record, so far unused, becomes a weight from 0 to 255." (document 02, paper 1)
+abbrev pub weightOf : List ℕ → ℕ
+weightOf e = field e 23
+
 -- the dimension of a category
 abbrev pub dimensionIn : List ℕ → ℕ → ℕ
 dimensionIn dimensions category = getD dimensions category 0
@@ -125,23 +130,23 @@ module _ (dimensions e : List ℕ) where
   abbrev pub wrongVariables : Bool
   wrongVariables = if hasDaughters e then not (eqb (total lengthsOf) variables && eachOnce) else false
 
-  -- "Unused bytes, and fields that a rule of its kind lacks": of a nonlexical rule the daughters, lengths and variables that it does not have, the
-  -- word and byte 23; of a lexical rule all but category, daughter count and word
+  -- "Unused bytes, and fields that a rule of its kind lacks": of a nonlexical rule the daughters, lengths and variables that it does not have, and the
+  -- word; of a lexical rule all but category, daughter count, word and weight. "Refusal 9 no longer covers byte 23." (document 02, paper 1)
   abbrev pub unusedBytes : List ℕ
   unusedBytes =
       if hasDaughters e
       then fields e (2 + field e 1) (3 - field e 1) ++ fields e 5 2
       ++ fields e (7 + dimensionIn dimensions (field e 0)) (4 - dimensionIn dimensions (field e 0))
-      ++ fields e (11 + variables) (13 - variables)
-      else fields e 2 3 ++ fields e 7 17
+      ++ fields e (11 + variables) (12 - variables)
+      else fields e 2 3 ++ fields e 7 16
 
   -- refusal 9: "unused byte not 0"
   abbrev pub unusedSet : Bool
   unusedSet = not (allZero unusedBytes)
 
--- refusal 10: "equal to an earlier record"
+-- refusal 10: "equal to an earlier record". "Two records that differ only in weight still meet refusal 10." (document 02, paper 1)
 abbrev pub sameRecord : List ℕ → List ℕ → Bool
-sameRecord = sameList
+sameRecord a b = sameList (fields a 0 23) (fields b 0 23)
 
 abbrev pub repeated : (ℕ → List ℕ) → ℕ → Bool
 repeated recordAt i = anyBelow (λ j. sameRecord (recordAt j) (recordAt i)) i
@@ -222,6 +227,7 @@ ruleOf dimensions e =
       daughters = daughtersOf e;
       word = wordOf e;
       components = if hasDaughters e then sequences (lengthsOf dimensions e) (fields e 11 12) else [];
+      weight = weightOf e;
     }
 
 -- the grammar that a file holds

@@ -86,7 +86,7 @@ module _ (dimensions e : List ℕ) where
   lengthPart = fields e (7 + dimensionIn dimensions (field e 0)) (4 - dimensionIn dimensions (field e 0))
 
   abbrev pub variablePart : List ℕ
-  variablePart = fields e (11 + variables dimensions e) (13 - variables dimensions e)
+  variablePart = fields e (11 + variables dimensions e) (12 - variables dimensions e)
 
   pub daughters-set : allZero daughterPart ≡ false → allZero (unusedNonlexical dimensions e) ≡ false
   daughters-set d =

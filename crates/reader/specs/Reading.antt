@@ -44,13 +44,13 @@ unusedRight file = allZero (fields file 9 7) && allZero (fields file (16 + categ
 
 -- refusal 9 of a record by its kind: the bytes that a lexical and a nonlexical rule do not use
 abbrev pub unusedLexical : List ℕ → List ℕ
-unusedLexical e = fields e 2 3 ++ fields e 7 17
+unusedLexical e = fields e 2 3 ++ fields e 7 16
 
 abbrev pub unusedNonlexical : List ℕ → List ℕ → List ℕ
 unusedNonlexical dimensions e =
     fields e (2 + field e 1) (3 - field e 1) ++ fields e 5 2
     ++ fields e (7 + dimensionIn dimensions (field e 0)) (4 - dimensionIn dimensions (field e 0))
-    ++ fields e (11 + variables dimensions e) (13 - variables dimensions e)
+    ++ fields e (11 + variables dimensions e) (12 - variables dimensions e)
 
 -- refusals 6 to 9 of record e at place i; with refusal 10 they are `recordRefusal`
 abbrev pub recordTests : List ℕ → ℕ → List ℕ → ℕ → Option Refusal

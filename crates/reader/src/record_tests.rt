@@ -112,7 +112,7 @@ fn lexical_unused(e: &[u8]) -> bool
     if !zeros(e, 2, 3) {
         return false;
     }
-    zeros(e, 7, 17)
+    zeros(e, 7, 16)
 }
 
 // Whether the bytes are 0 that a nonlexical rule does not use.
@@ -131,7 +131,7 @@ fn nonlexical_unused(dimensions: &[u8], e: &[u8]) -> bool
         return false;
     }
     let v = variables(dimensions, e) as usize;
-    zeros(e, 11 + v, less(13, v))
+    zeros(e, 11 + v, less(12, v))
 }
 
 // Refusal 9: an unused byte is not 0.

@@ -35,7 +35,7 @@ fn same_again(file: &[u8], records: &[u8]) -> bool {
     if 7168 < n {
         return false;
     }
-    grammar::same_record(file, &out[0..n as usize])
+    grammar::same_bytes(file, &out[0..n as usize])
 }
 
 fn rewritten(file: &[u8]) -> bool {

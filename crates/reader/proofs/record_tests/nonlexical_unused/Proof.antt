@@ -90,7 +90,7 @@ returns-4 c =
     let d = zero-part e 2 3 (c .before .before .before .before .before .before .before .before .before .before .before .zeros .ensures) (c .before .before .before .before .before .before .before .before .before .before .before .before .less .ensures) (c .before .before .before .before .before .before .before .before .before .before .before .before .before .record-daughters .ensures) ∙ not-false (c .before .before .before .before .before .before .before .before .before .before .before .zeros .result) (c .before .before .before .before .before .before .before .before .before .before .if1 .left) in
     let w = sym (c .before .before .before .before .before .before .before .before .before .zeros2 .ensures) ∙ not-false (c .before .before .before .before .before .before .before .before .before .zeros2 .result) (c .before .before .before .before .before .before .before .before .if2 .left) in
     let l = zero-part e 7 4 (c .before .before .before .before .zeros3 .ensures) (c .before .before .before .before .before .less2 .ensures) (c .before .before .before .before .before .before .dimension-in .ensures ∙ ap (dimensionIn dims) (c .before .before .before .before .before .before .before .record-category .ensures)) ∙ not-false (c .before .before .before .before .zeros3 .result) (c .before .before .before .if3 .left) in
-    sym (variables-left dims e d w l ∙ zero-part e 11 13 (c .zeros4 .ensures) (c .before .less3 .ensures) (c .before .before .variables .ensures))
+    sym (variables-left dims e d w l ∙ zero-part e 11 12 (c .zeros4 .ensures) (c .before .less3 .ensures) (c .before .before .variables .ensures))
 
 pub nonlexical-unused-spec : {M : Type 1} → statement M
 nonlexical-unused-spec =

@@ -1,0 +1,115 @@
+-- Grammar files from before the weights (document 02, paper 1): "All files accepted before have weight 0 and keep their verdicts." What a call answered before
+-- is its definition over what the reader refused before and over the grammar as it was read before.
+-- Assumes nothing.
+use mathlib.Core.Path.{_≡_}
+use Prim.Native.Nat.{ℕ, _+_, _-_, _*_, _%_}
+use mathlib.Core.Bool.{Bool, not}
+use mathlib.Core.List.{List, [], _∷_, _++_, map}
+use mathlib.Core.Option.{Option, none, some}
+use lib.Dec.{ltb, eqb}
+use lib.ListN.{length}
+use Rattle.model.specs.declared.Refusal.{Refusal}
+use Rattle.model.specs.Base.{if_then_else_, _orElse_, firstFrom, sameList, anyBelow}
+use Rattle.model.specs.Verdict.{refuseIf, verdict, countVerdict}
+use Rattle.model.specs.Grammar.{Rule, Grammar, ruleAt, unweighted}
+use Rattle.model.specs.GrammarFile.{allZero, fields, field, hasDaughters, dimensionIn, variables, blocks, rulesOf, wordsOf, dimensionsOf, recordOf, wrongCategory, wrongWord, wrongVariables, wrongLength, wrongCheck, wrongBlock, wrongHeading, wrongBlocks, wrongCount, wrongRest, grammarRefusal, grammarOf}
+use Rattle.model.specs.Writer.{Heading, headingBlock, fileOf, writerRefusal}
+use Rattle.model.specs.Trace.{sentenceRefusal, traceRefusal}
+use Rattle.model.specs.Tree.{treeRefusal}
+use Rattle.model.specs.Conversions.{treeOf, traceOf}
+use Rattle.model.specs.Counting.{limitsRefusal, effortRefusal, entryRefusal, count, effort, listing, entry}
+use Rattle.model.specs.Survey.{Surveyed}
+use Rattle.model.specs.Program.{sentenceIn, limitIn, programLimit, printed, program}
+use Rattle.model.specs.Demands.{_⇔_}
+use Rattle.model.specs.Calls.{written, roomRefusal, readVerdict, checkTraceVerdict, checkTreeVerdict, traceToTreeVerdict, traceToTreeOutput, treeToTraceVerdict, treeToTraceOutput, countCall, entryVerdict, entryOutput, surveyRefusal}
+
+-- refusal 9 as document 01 has it: byte 23 is one of the unused bytes
+abbrev pub unusedBytesBefore : List ℕ → List ℕ → List ℕ
+unusedBytesBefore dimensions e =
+    if hasDaughters e
+    then fields e (2 + field e 1) (3 - field e 1) ++ fields e 5 2
+    ++ fields e (7 + dimensionIn dimensions (field e 0)) (4 - dimensionIn dimensions (field e 0))
+    ++ fields e (11 + variables dimensions e) (13 - variables dimensions e)
+    else fields e 2 3 ++ fields e 7 17
+
+abbrev pub unusedSetBefore : List ℕ → List ℕ → Bool
+unusedSetBefore dimensions e = not (allZero (unusedBytesBefore dimensions e))
+
+-- refusal 10 as document 01 has it: all 24 bytes of two records are the same
+abbrev pub repeatedBefore : (ℕ → List ℕ) → ℕ → Bool
+repeatedBefore recordAt i = anyBelow (λ j. sameList (recordAt j) (recordAt i)) i
+
+-- what the reader refused
+abbrev pub ruleRefusalBefore : List ℕ → ℕ → Option Refusal
+ruleRefusalBefore file i =
+    refuseIf (wrongCategory (dimensionsOf file) (recordOf file i)) (Refusal.Grammar 6 i)
+    orElse refuseIf (wrongWord (dimensionsOf file) (recordOf file i) (wordsOf file)) (Refusal.Grammar 7 i)
+    orElse refuseIf (wrongVariables (dimensionsOf file) (recordOf file i)) (Refusal.Grammar 8 i)
+    orElse refuseIf (unusedSetBefore (dimensionsOf file) (recordOf file i)) (Refusal.Grammar 9 i)
+    orElse refuseIf (repeatedBefore (recordOf file) i) (Refusal.Grammar 10 i)
+
+abbrev pub grammarRefusalBefore : List ℕ → Option Refusal
+grammarRefusalBefore file =
+    refuseIf (wrongLength file) (Refusal.Grammar 1 0)
+    orElse firstFrom (λ k. refuseIf (wrongCheck file k) (Refusal.Grammar 2 k)) 0 (blocks file)
+    orElse firstFrom (λ k. refuseIf (wrongBlock file k) (Refusal.Grammar 3 k)) 0 (blocks file)
+    orElse refuseIf (wrongHeading file) (Refusal.Grammar 4 0)
+    orElse refuseIf (wrongBlocks file) (Refusal.Grammar 5 0)
+    orElse firstFrom (λ k. refuseIf (wrongCount file k) (Refusal.Grammar 5 k)) 1 (blocks file - 1)
+    orElse firstFrom (ruleRefusalBefore file) 0 (rulesOf file)
+    orElse refuseIf (wrongRest file) (Refusal.Grammar 9 (rulesOf file))
+
+-- the grammar that was read: no rule had a weight
+abbrev pub grammarBefore : List ℕ → Grammar
+grammarBefore file =
+    let g = grammarOf file in
+    record { start = g .start; words = g .words; dimensions = g .dimensions; rules = map unweighted (g .rules) }
+
+-- a file that was accepted: it is accepted, its rules have weight 0, and every call answers and writes what it did, by what was refused before and by the
+-- grammar that was read before
+module _ (file : List ℕ) where
+  abbrev refused : Option Refusal
+  refused = grammarRefusalBefore file
+
+  abbrev g : Grammar
+  g = grammarBefore file
+
+  pub record Kept : Type 0 where
+    pub accepted : grammarRefusal file ≡ none
+    pub weightless : (r : ℕ) (rule : Rule) → ruleAt (grammarOf file) r ≡ some rule → rule .weight ≡ 0
+    pub reader : readVerdict file ≡ verdict refused (rulesOf file)
+    pub writer : (h : Heading) (records : List ℕ) → fileOf h records ≡ file
+        → writerRefusal h records
+        ≡ (refuseIf (not (eqb (length (h .dimensions)) 64)) (Refusal.Grammar 4 0)
+        orElse refuseIf (ltb 256 (h .rules)) (Refusal.Grammar 4 0)
+        orElse refuseIf (wrongHeading (headingBlock h)) (Refusal.Grammar 4 0)
+        orElse refuseIf (not (eqb (length records) (24 * h .rules))) (Refusal.Grammar 5 0)
+        orElse refused)
+    pub trace-checker : (sentence trace : List ℕ)
+        → checkTraceVerdict file sentence trace ≡ verdict (refused orElse sentenceRefusal g sentence orElse traceRefusal g sentence trace) (length trace)
+    pub tree-checker : (sentence tree : List ℕ)
+        → checkTreeVerdict file sentence tree ≡ verdict (refused orElse sentenceRefusal g sentence orElse treeRefusal g sentence tree) (length tree)
+    pub trace-to-tree : (sentence trace out : List ℕ)
+        → let o = refused orElse roomRefusal out orElse sentenceRefusal g sentence orElse traceRefusal g sentence trace in
+        (traceToTreeVerdict file sentence trace out ≡ verdict o (length trace)) × (traceToTreeOutput file sentence trace out ≡ written o (treeOf g sentence trace) out)
+    pub tree-to-trace : (sentence tree out : List ℕ)
+        → let o = refused orElse roomRefusal out orElse sentenceRefusal g sentence orElse treeRefusal g sentence tree in
+        (treeToTraceVerdict file sentence tree out ≡ verdict o (length tree)) × (treeToTraceOutput file sentence tree out ≡ written o (traceOf g sentence tree) out)
+    pub counted : (sentence : List ℕ) (n limit : ℕ)
+        → countCall file sentence n limit
+        ≡ countVerdict (refused orElse limitsRefusal n limit orElse sentenceRefusal g sentence orElse effortRefusal g sentence n limit) (count g sentence n)
+        (effort g sentence n)
+    pub entered : (sentence : List ℕ) (n limit m : ℕ) (out : List ℕ)
+        → let o = refused orElse roomRefusal out orElse limitsRefusal n limit orElse sentenceRefusal g sentence orElse effortRefusal g sentence n limit
+        orElse entryRefusal g sentence n m in
+        (entryVerdict file sentence n limit m out ≡ verdict o (length (entry g sentence n m)))
+        × (entryOutput file sentence n limit m out ≡ written o (entry g sentence n m) out)
+    -- the survey's figures are free within their line: what is refused, and which figures are right, stays
+    pub survey-refused : (out : List ℕ) → surveyRefusal file out ≡ (refused orElse roomRefusal out)
+    pub survey-right : (figures : List ℕ) → Surveyed (grammarOf file) figures ⇔ Surveyed g figures
+    pub printed-as : (sentenceFile : List ℕ)
+        → let sentence = sentenceIn sentenceFile in
+        let n = limitIn sentenceFile in
+        let o = refused orElse refuseIf (eqb (length sentenceFile % 2) 0) (Refusal.Analysis 11 0) orElse refused orElse limitsRefusal n programLimit
+        orElse sentenceRefusal g sentence orElse effortRefusal g sentence n programLimit in
+        program file sentenceFile ≡ printed o ((count g sentence n ∷ effort g sentence n ∷ []) ∷ listing g sentence n)

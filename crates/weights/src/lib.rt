@@ -1,0 +1,46 @@
+// The sum of an analysis's weights (document 02, paper 1).
+ghost use mathlib.Core.Path.{_≡_};
+ghost use Prim.Native.Nat.{_≤_};
+ghost use lib.ListN.{length};
+ghost use Rattle.weights.specs.Weights.{recordsSum, largestSum, TraceWeighed, TreeWeighed};
+use derivation::check_tree;
+use grammar::weight_of;
+use model::RuleNumber;
+use model::Verdict;
+use recognizer::check_trace;
+
+// The sum of the weights of a list of rules.
+fn sum_weights(file: &[u8], list: &[u16]) -> u64
+    requires { ⌜ length (now list) ≤ 96 ⌝ }
+    ensures { λ s. ⌜ (s ≡ recordsSum (now (file .entry)) (now (list .entry))) × (s ≤ largestSum) ⌝ }
+{
+    let mut sum: u64 = 0;
+    let mut k: usize = 0;
+    while k < list.len() {
+        sum += weight_of(file, RuleNumber(list[k])) as u64;
+        k += 1;
+    }
+    sum
+}
+
+// The sum of weights along a trace, which is refused as the trace checker refuses it.
+pub fn weigh_trace(file: &[u8], sentence: &[u16], trace: &[u16]) -> Verdict
+    ensures { λ v. ⌜ TraceWeighed (now (file .entry)) (now (sentence .entry)) (now (trace .entry)) v ⌝ }
+{
+    let v = check_trace(file, sentence, trace);
+    let Verdict::Accepted(_) = v else {
+        return v;
+    };
+    Verdict::Accepted(sum_weights(file, trace))
+}
+
+// The sum of weights along a tree, which is refused as the tree checker refuses it.
+pub fn weigh_tree(file: &[u8], sentence: &[u16], tree: &[u16]) -> Verdict
+    ensures { λ v. ⌜ TreeWeighed (now (file .entry)) (now (sentence .entry)) (now (tree .entry)) v ⌝ }
+{
+    let v = check_tree(file, sentence, tree);
+    let Verdict::Accepted(_) = v else {
+        return v;
+    };
+    Verdict::Accepted(sum_weights(file, tree))
+}
