@@ -13,19 +13,16 @@ use borrow.Author.Tests.{lt-ltb, le-ltb}
 use lib.Dec.{T, eqb, eqb→eq}
 use lib.ListN.{length, getD, getElem?, take, drop, List·getD-eq-default}
 use lib.Seq.{drop-drop}
-use Rattle.model.specs.declared.Refusal.{Refusal}
-use Rattle.model.specs.Base.{if_then_else_, _orElse_, sumBelow, numbersFrom}
-use Rattle.model.specs.Verdict.{refuseIf}
+use Rattle.model.specs.Base.{if_then_else_, sumBelow, numbersFrom}
 use Rattle.model.specs.Grammar.{Variable, Rule, Grammar, ruleAt, dimension, isLexical}
-use Rattle.model.specs.GrammarFile.{fields, field, allZero, daughtersOf, lengthsOf, variables, dimensionIn, dimensionsOf, wordsOf, rulesOf, recordOf, wrongCategory, wrongWord, wrongVariables, unusedSet, unusedBytes, repeated, ruleRefusal, grammarRefusal, decoded, sequences, ruleOf, grammarOf}
-use Rattle.model.proofs.Tests.{no-refusal, first-of, rest-of, not-off, every-getD}
+use Rattle.model.specs.GrammarFile.{fields, field, allZero, daughtersOf, lengthsOf, variables, dimensionIn, dimensionsOf, rulesOf, recordOf, unusedBytes, grammarRefusal, decoded, sequences, ruleOf, grammarOf}
+use Rattle.model.proofs.Tests.{not-off, every-getD, every-left, every-right}
 use Rattle.model.proofs.Lists.{map-in, mem-getD}
 use Rattle.model.proofs.Perm.{perm-mem}
 use Rattle.model.proofs.Variables.{parts-length, vars-out}
 use Rattle.model.proofs.RuleFromRecord.{Tested, field-length, field-at, daughters-length, twelve, lengths-total, named-are, rule-right}
-use Rattle.model.proofs.FileTests.{passed}
-use Rattle.model.proofs.FromFile.{ruleRead, record-tested, dimensions-in, dimensions-four}
-use Rattle.grammar.proofs.Sums.{sum-same, sum-first, sum-total, every-left, every-right}
+use Rattle.model.proofs.FromFile.{ruleRead, rule-passed, record-tested, dimensions-in, dimensions-four}
+use Rattle.grammar.proofs.Sums.{sum-same, sum-first, sum-total}
 
 -- no rule has a number from R on
 made-none : (f : ℕ → Rule) (from n r : ℕ) → n ≤ r → getElem? (map f (numbersFrom from n)) r ≡ none
@@ -53,19 +50,8 @@ module _ (file : List ℕ) (accepted : grammarRefusal file ≡ none) (r : ℕ) (
   abbrev d : List ℕ
   d = dimensionsOf file
 
-  no-rule-refusal : ruleRefusal file r ≡ none
-  no-rule-refusal = passed file accepted .rule r here
-
   nothing-unused : T (allZero (unusedBytes d e))
-  nothing-unused =
-      let r₆ = refuseIf (wrongCategory d e) (Refusal.Grammar 6 r) in
-      let r₇ = refuseIf (wrongWord d e (wordsOf file)) (Refusal.Grammar 7 r) in
-      let r₈ = refuseIf (wrongVariables d e) (Refusal.Grammar 8 r) in
-      let r₉ = refuseIf (unusedSet d e) (Refusal.Grammar 9 r) in
-      let r₁₀ = refuseIf (repeated (recordOf file) r) (Refusal.Grammar 10 r) in
-      not-off (allZero (unusedBytes d e))
-      (no-refusal (unusedSet d e) (Refusal.Grammar 9 r)
-      (first-of r₉ r₁₀ (rest-of r₈ (r₉ orElse r₁₀) (rest-of r₇ (r₈ orElse r₉ orElse r₁₀) (rest-of r₆ (r₇ orElse r₈ orElse r₉ orElse r₁₀) no-rule-refusal)))))
+  nothing-unused = not-off (allZero (unusedBytes d e)) (rule-passed file accepted r here .unused)
 
   abbrev n : ℕ
   n = field e 1

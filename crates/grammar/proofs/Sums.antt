@@ -1,14 +1,11 @@
--- Sums over the numbers below one, and a test of all elements of two lists, one after the other.
+-- Sums over the numbers below one.
 -- Assumes nothing.
 use mathlib.Core.Path.{_≡_, refl}
-use mathlib.Core.Bool.{Bool}
-use mathlib.Core.List.{List, [], _∷_, _++_}
+use mathlib.Core.List.{List, [], _∷_}
 use Prim.Native.Nat.{ℕ, zero, suc, _+_, _<_, _≤_}
 use native.Mathlib.Omega.{arith}
-use lib.Dec.{T}
 use lib.ListN.{length, getD}
-use Rattle.model.specs.Base.{sumBelow, total, every}
-use Rattle.model.proofs.Tests.{and-l, and-r, and-both}
+use Rattle.model.specs.Base.{sumBelow, total}
 
 pub sum-same : (f g : ℕ → ℕ) (n : ℕ) → ((j : ℕ) → j < n → f j ≡ g j) → sumBelow f n ≡ sumBelow g n
 sum-same f g zero h = refl
@@ -27,12 +24,3 @@ sum-total [] zero h = refl
 sum-total [] (suc n) h = omega (arith, sum-total [] n (omega arith))
 sum-total (x ∷ l) zero h = absurd (omega arith)
 sum-total (x ∷ l) (suc n) h = omega (arith, sum-first (λ j. getD (x ∷ l) j 0) n, sum-total l n (omega arith))
-
--- a test of all elements of two lists
-pub every-left : (test : ℕ → Bool) (a b : List ℕ) → T (every test (a ++ b)) → T (every test a)
-every-left test [] b h = tt
-every-left test (x ∷ a) b h = and-both (test x) (every test a) (and-l (test x) (every test (a ++ b)) h) (every-left test a b (and-r (test x) (every test (a ++ b)) h))
-
-pub every-right : (test : ℕ → Bool) (a b : List ℕ) → T (every test (a ++ b)) → T (every test b)
-every-right test [] b h = h
-every-right test (x ∷ a) b h = every-right test a b (and-r (test x) (every test (a ++ b)) h)

@@ -15,7 +15,7 @@ use Rattle.model.specs.Base.{if_then_else_, numbersFrom, anyBelow, allBelow, oc
 use Rattle.model.specs.Grammar.{Variable, Rule, Grammar, dimension, isLexical, variable, emptyWord}
 use Rattle.model.specs.WellFormed.{Perm, same, more, swap, chain, daughterVariables, named, RightRule, InRange, WellFormed}
 use Rattle.model.specs.GrammarFile.{allZero, fields, field, hasDaughters, wordOf, dimensionIn, lengthsOf, variables, wrongCategory, wrongWord, eachOnce, wrongVariables, unusedBytes, unusedSet, decoded, sequences, ruleOf}
-use Rattle.model.proofs.Tests.{and-both, on-not}
+use Rattle.model.proofs.Tests.{and-both, on-not, every-both}
 use Rattle.model.proofs.Lists.{map-append, map-in, map-out, mem-left, mem-right, mem-getD, numbers-in}
 use Rattle.model.proofs.Perm.{perm-map, perm-length, perm-mem}
 use Rattle.model.proofs.Once.{Once, vars-once, vars-length}
@@ -35,14 +35,6 @@ or-off false b e f = f
 pub none-by : (test : ℕ → Bool) (n : ℕ) → ((k : ℕ) → k < n → test k ≡ false) → anyBelow test n ≡ false
 none-by test zero h = refl
 none-by test (suc n) h = or-off (anyBelow test n) (test n) (none-by test n (λ k l. h k (omega arith))) (h n (omega arith))
-
-zero-append : (a b : List ℕ) → T (allZero a) → T (allZero b) → T (allZero (a ++ b))
-zero-append [] b t u = u
-zero-append (x ∷ a) b t u = go (eqb 0 x) t (λ v. zero-append a b v u)
-  where
-    go : (c : Bool) → T (c && allZero a) → (T (allZero a) → T (allZero (a ++ b))) → T (c && allZero (a ++ b))
-    go true t ih = ih t
-    go false t ih = t
 
 -- how often a number is in a list
 occurrences-perm : (x : ℕ) {l m : List ℕ} → Perm l m → occurrences x l ≡ occurrences x m
@@ -205,7 +197,7 @@ module _ (g : Grammar) (well : WellFormed g) (rule : Rule) (w : InRange g rule) 
         let c = fields e (7 + dimensionIn dimensions (field e 0)) (4 - dimensionIn dimensions (field e 0)) in
         let d = fields e (11 + variables dimensions e) (12 - variables dimensions e) in
         let zd : T (allZero d) = subst (λ (n : ℕ). T (allZero (fields e (11 + n) (12 - n)))) (sym variables-is) (past-variables rule v codes-many twelve) in
-        let all = zero-append ((a ++ b) ++ c) d (zero-append (a ++ b) c (zero-append a b (past-daughters rule (w .daughters-few)) (word-zero rule z)) (past-lengths rule m (rr .components l) (dim-few (rule .category) (w .category-is)))) zd in
+        let all = every-both (eqb 0) ((a ++ b) ++ c) d (every-both (eqb 0) (a ++ b) c (every-both (eqb 0) a b (past-daughters rule (w .daughters-few)) (word-zero rule z)) (past-lengths rule m (rr .components l) (dim-few (rule .category) (w .category-is)))) zd in
         on-not (allZero (unusedBytes dimensions e)) (subst (λ (t : Bool). T (allZero (if t then ((a ++ b) ++ c) ++ d else fields e 2 3 ++ fields e 7 16))) (sym has) all)
 
     -- the rule that it holds
@@ -257,7 +249,7 @@ module _ (g : Grammar) (well : WellFormed g) (rule : Rule) (w : InRange g rule) 
         let a = fields e 2 3 in
         let b = fields e 7 16 in
         let z : T (allZero a) = subst (λ (n : ℕ). T (allZero (fields e (2 + n) (3 - n)))) (ap length l) (past-daughters rule (w .daughters-few)) in
-        on-not (allZero (unusedBytes dimensions e)) (subst (λ (t : Bool). T (allZero (if t then fields e (2 + field e 1) (3 - field e 1) ++ fields e 5 2 ++ fields e (7 + dimensionIn dimensions (field e 0)) (4 - dimensionIn dimensions (field e 0)) ++ fields e (11 + variables dimensions e) (12 - variables dimensions e) else a ++ b))) (sym has-not) (zero-append a b z (lexical-rest rule no-components)))
+        on-not (allZero (unusedBytes dimensions e)) (subst (λ (t : Bool). T (allZero (if t then fields e (2 + field e 1) (3 - field e 1) ++ fields e 5 2 ++ fields e (7 + dimensionIn dimensions (field e 0)) (4 - dimensionIn dimensions (field e 0)) ++ fields e (11 + variables dimensions e) (12 - variables dimensions e) else a ++ b))) (sym has-not) (every-both (eqb 0) a b z (lexical-rest rule no-components)))
 
     pub holds-lexical : ruleOf dimensions e ≡ rule
     holds-lexical =

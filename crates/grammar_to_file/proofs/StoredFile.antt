@@ -10,16 +10,14 @@ use native.Mathlib.Decide.{decLt}
 use lib.Dec.{T, eqb, eqb-refl}
 use lib.ListN.{length, getD, List·getD-eq-default}
 use borrow.Author.Tests.{lt-ltb, le-ltb}
-use Rattle.model.specs.declared.Refusal.{Refusal}
-use Rattle.model.specs.Base.{if_then_else_, _orElse_, sameList, each, numbersFrom}
-use Rattle.model.specs.Verdict.{refuseIf}
+use Rattle.model.specs.Base.{if_then_else_, sameList, each, numbersFrom}
 use Rattle.model.specs.Grammar.{Rule, Grammar, ruleAt, isLexical, unweighted}
-use Rattle.model.specs.GrammarFile.{allZero, fields, field, daughtersOf, wordOf, dimensionIn, dimensionsOf, wordsOf, rulesOf, recordPlace, recordOf, lengthsOf, variables, sequences, sameRecord, repeated, unusedSet, wrongCategory, wrongWord, wrongVariables, ruleOf, grammarRefusal, grammarOf, categoriesOf, startOf}
+use Rattle.model.specs.GrammarFile.{allZero, fields, field, daughtersOf, wordOf, dimensionIn, dimensionsOf, wordsOf, rulesOf, recordPlace, recordOf, lengthsOf, variables, sequences, sameRecord, ruleOf, grammarRefusal, grammarOf, categoriesOf, startOf}
 use Rattle.model.specs.Writer.{allBytes, padded, headingOf, fileOf}
-use Rattle.model.proofs.Tests.{and-both, not-both, no-refusal, first-of, rest-of, any-none}
+use Rattle.model.proofs.Tests.{and-both, not-both, any-none}
 use Rattle.model.proofs.ByteLists.{bytes-at, bytes-fields, padded-length, padded-at, fields-length, fields-at}
 use Rattle.model.proofs.FileTests.{passed}
-use Rattle.model.proofs.FromFile.{rule-is, record-tested, dimensions-in, dimensions-length}
+use Rattle.model.proofs.FromFile.{rule-is, rule-passed, record-tested, dimensions-in, dimensions-length}
 use Rattle.model.proofs.RuleFromRecord.{daughters-length}
 use Rattle.model.proofs.WellFormed.{accepted-well, rules-length}
 use lib.Seq.{ext-getD}
@@ -39,25 +37,8 @@ module _ (file : List ℕ) (bytes : T (allBytes file)) (accepted : grammarRefusa
   abbrev dimensions : List ℕ
   dimensions = dimensionsOf file
 
-  -- refusals 9 and 10 of record r
-  record Later (r : ℕ) : Type 0 where
-    pub unused : unusedSet dimensions (recordOf file r) ≡ false
-    pub single : repeated (recordOf file) r ≡ false
-
-  later : (r : ℕ) → r < rulesOf file → Later r
-  later r h =
-      let a = passed file accepted .rule r h in
-      let e = recordOf file r in
-      let r₆ = refuseIf (wrongCategory dimensions e) (Refusal.Grammar 6 r) in
-      let r₇ = refuseIf (wrongWord dimensions e (wordsOf file)) (Refusal.Grammar 7 r) in
-      let r₈ = refuseIf (wrongVariables dimensions e) (Refusal.Grammar 8 r) in
-      let r₉ = refuseIf (unusedSet dimensions e) (Refusal.Grammar 9 r) in
-      let r₁₀ = refuseIf (repeated (recordOf file) r) (Refusal.Grammar 10 r) in
-      let b = rest-of r₈ (r₉ orElse r₁₀) (rest-of r₇ (r₈ orElse r₉ orElse r₁₀) (rest-of r₆ (r₇ orElse r₈ orElse r₉ orElse r₁₀) a)) in
-      record { unused = no-refusal (unusedSet dimensions e) (Refusal.Grammar 9 r) (first-of r₉ r₁₀ b); single = no-refusal (repeated (recordOf file) r) (Refusal.Grammar 10 r) (rest-of r₉ r₁₀ b) }
-
   pub again : (r : ℕ) → r < rulesOf file → recordFor (ruleOf dimensions (recordOf file r)) ≡ recordOf file r
-  again r h = record-again g (recordOf file r) (record-tested file accepted r h) (dimensions-in file accepted) (later r h .unused) (bytes-fields file (recordPlace r) 24 (bytes-at file bytes))
+  again r h = record-again g (recordOf file r) (record-tested file accepted r h) (dimensions-in file accepted) (rule-passed file accepted r h .unused) (bytes-fields file (recordPlace r) 24 (bytes-at file bytes))
 
   front-again : (r : ℕ) → r < rulesOf file → bytesFor (ruleOf dimensions (recordOf file r)) ≡ fields (recordOf file r) 0 23
   front-again r h = sym (front-is (ruleOf dimensions (recordOf file r))) ∙ ap (λ (x : List ℕ). fields x 0 23) (again r h)
@@ -68,7 +49,7 @@ module _ (file : List ℕ) (bytes : T (allBytes file)) (accepted : grammarRefusa
       let a = fields (recordOf file i) 0 23 in
       let same : a ≡ fields (recordOf file j) 0 23 = sym (front-again i (omega arith)) ∙ ap bytesFor e ∙ front-again j k in
       let t : T (sameRecord (recordOf file i) (recordOf file j)) = subst (λ (x : List ℕ). T (sameList a x)) same (list-same a) in
-      subst T (any-none (λ j′. sameRecord (recordOf file j′) (recordOf file j)) j (later j k .single) i h) t
+      subst T (any-none (λ j′. sameRecord (recordOf file j′) (recordOf file j)) j (rule-passed file accepted j k .single) i h) t
 
   differ : (r s : ℕ) (a b : Rule) → ruleAt g r ≡ some a → ruleAt g s ≡ some b → unweighted a ≡ unweighted b → r ≡ s
   differ r s a b e f q = go (decLt r s) (decLt s r)
@@ -108,7 +89,7 @@ module _ (file : List ℕ) (bytes : T (allBytes file)) (accepted : grammarRefusa
       let n = field e 1 in
       let m = dimensionIn dimensions (field e 0) in
       let v = variables dimensions e in
-      let z = zeros g e (record-tested file accepted r h) (dimensions-in file accepted) (later r h .unused) (bytes-fields file (recordPlace r) 24 (bytes-at file bytes)) in
+      let z = zeros g e (record-tested file accepted r h) (dimensions-in file accepted) (rule-passed file accepted r h .unused) (bytes-fields file (recordPlace r) 24 (bytes-at file bytes)) in
       let all : T (allZero (fields e (2 + n) (3 - n) ++ fields e 5 2 ++ fields e (7 + m) (4 - m) ++ fields e (11 + v) (12 - v))) =
       subst (λ (t : Bool). T (allZero (if t then fields e (2 + n) (3 - n) ++ fields e 5 2 ++ fields e (7 + m) (4 - m) ++ fields e (11 + v) (12 - v) else fields e 2 3 ++ fields e 7 16))) (lt-ltb 0 n some-one) z in
       let a = zero-split (fields e (2 + n) (3 - n) ++ fields e 5 2 ++ fields e (7 + m) (4 - m)) (fields e (11 + v) (12 - v)) all .0 in

@@ -96,6 +96,27 @@ eight-none a b c d e f g h r₁ =
       rest-of g h r₇,
     )
 
+pub five-none : (a b c d e : Option Refusal) → a orElse b orElse c orElse d orElse e ≡ none → (a ≡ none) × (b ≡ none) × (c ≡ none) × (d ≡ none) × (e ≡ none)
+five-none a b c d e r₁ =
+    let r₂ = rest-of a (b orElse c orElse d orElse e) r₁ in
+    let r₃ = rest-of b (c orElse d orElse e) r₂ in
+    let r₄ = rest-of c (d orElse e) r₃ in (
+      first-of a (b orElse c orElse d orElse e) r₁,
+      first-of b (c orElse d orElse e) r₂,
+      first-of c (d orElse e) r₃,
+      first-of d e r₄,
+      rest-of d e r₄,
+    )
+
+-- refusals 1 and 5: as many blocks as the rules need, and nothing else
+enough-blocks : (file : List ℕ) → wrongBlocks file ≡ false → blocks file ≡ blocksFor (rulesOf file)
+enough-blocks file e = eqb→eq (blocks file) (blocksFor (rulesOf file)) (not-off (eqb (blocks file) (blocksFor (rulesOf file))) e)
+
+pub whole-blocks : (file : List ℕ) → wrongLength file ≡ false → wrongBlocks file ≡ false → length file ≡ 512 * blocksFor (rulesOf file)
+whole-blocks file e f =
+    let t = not-off (eqb (length file % 512) 0 && within 1 14 (blocks file)) e in
+    omega (arith, enough-blocks file f, eqb→eq (length file % 512) 0 (and-l (eqb (length file % 512) 0) (within 1 14 (blocks file)) t))
+
 -- all tests of the reader
 pub record Passed (file : List ℕ) : Type 0 where
   pub long : length file ≡ 512 * blocksFor (rulesOf file)
@@ -136,37 +157,32 @@ module _ (file : List ℕ) (accepted : grammarRefusal file ≡ none) where
   tests : (c₁ ≡ none) × (c₂ ≡ none) × (c₃ ≡ none) × (c₄ ≡ none) × (c₅ ≡ none) × (c₆ ≡ none) × (c₇ ≡ none) × (c₈ ≡ none)
   tests = eight-none c₁ c₂ c₃ c₄ c₅ c₆ c₇ c₈ accepted
 
-  enough-blocks : blocks file ≡ blocksFor (rulesOf file)
-  enough-blocks = eqb→eq (blocks file) (blocksFor (rulesOf file)) (not-off (eqb (blocks file) (blocksFor (rulesOf file))) (no-refusal (wrongBlocks file) (Refusal.Grammar 5 0) (tests .4)))
-
-  whole-blocks : length file ≡ 512 * blocksFor (rulesOf file)
-  whole-blocks =
-      let t = not-off (eqb (length file % 512) 0 && within 1 14 (blocks file)) (no-refusal (wrongLength file) (Refusal.Grammar 1 0) (tests .0)) in
-      omega (arith, enough-blocks, eqb→eq (length file % 512) 0 (and-l (eqb (length file % 512) 0) (within 1 14 (blocks file)) t))
+  block-count : blocks file ≡ blocksFor (rulesOf file)
+  block-count = enough-blocks file (no-refusal (wrongBlocks file) (Refusal.Grammar 5 0) (tests .4))
 
   right-check : (k : ℕ) → k < blocksFor (rulesOf file) → checkOf file k ≡ fourBytes file k 508
   right-check k h =
       eqb→eq (checkOf file k) (fourBytes file k 508)
       (not-off (eqb (checkOf file k) (fourBytes file k 508))
       (no-refusal (wrongCheck file k) (Refusal.Grammar 2 k)
-      (none-at (λ k. refuseIf (wrongCheck file k) (Refusal.Grammar 2 k)) 0 (blocks file) (tests .1) k (omega arith) (omega (arith, enough-blocks)))))
+      (none-at (λ k. refuseIf (wrongCheck file k) (Refusal.Grammar 2 k)) 0 (blocks file) (tests .1) k (omega arith) (omega (arith, block-count)))))
 
   right-block : (k : ℕ) → k < blocksFor (rulesOf file) → T (eqb (twoBytes file k 0) k && eqb (byteOf file k 2) (if eqb k 0 then 1 else 2))
   right-block k h =
       not-off (eqb (twoBytes file k 0) k && eqb (byteOf file k 2) (if eqb k 0 then 1 else 2))
       (no-refusal (wrongBlock file k) (Refusal.Grammar 3 k)
-      (none-at (λ k. refuseIf (wrongBlock file k) (Refusal.Grammar 3 k)) 0 (blocks file) (tests .2) k (omega arith) (omega (arith, enough-blocks))))
+      (none-at (λ k. refuseIf (wrongBlock file k) (Refusal.Grammar 3 k)) 0 (blocks file) (tests .2) k (omega arith) (omega (arith, block-count))))
 
   right-count : (k : ℕ) → 1 ≤ k → k < blocksFor (rulesOf file) → byteOf file k 3 ≡ recordsIn (rulesOf file) k
   right-count k one h =
       eqb→eq (byteOf file k 3) (recordsIn (rulesOf file) k)
       (not-off (eqb (byteOf file k 3) (recordsIn (rulesOf file) k))
       (no-refusal (wrongCount file k) (Refusal.Grammar 5 k)
-      (none-at (λ k. refuseIf (wrongCount file k) (Refusal.Grammar 5 k)) 1 (blocks file - 1) (tests .5) k one (omega (arith, enough-blocks)))))
+      (none-at (λ k. refuseIf (wrongCount file k) (Refusal.Grammar 5 k)) 1 (blocks file - 1) (tests .5) k one (omega (arith, block-count)))))
 
   -- past the last record there are zeros
   right-rest : (k j : ℕ) → 1 ≤ k → k < blocksFor (rulesOf file) → j < 504 → 24 * rulesOf file ≤ 504 * (k - 1) + j → byteOf file k (4 + j) ≡ 0
-  right-rest k j one h hj past = go (blocks file - 1) (byteOf file (blocks file - 1) 3) (omega (arith, enough-blocks)) refl (no-refusal (wrongRest file) (Refusal.Grammar 9 (rulesOf file)) (tests .7))
+  right-rest k j one h hj past = go (blocks file - 1) (byteOf file (blocks file - 1) 3) (omega (arith, block-count)) refl (no-refusal (wrongRest file) (Refusal.Grammar 9 (rulesOf file)) (tests .7))
     where
       go : (l n : ℕ) → l ≡ k → n ≡ byteOf file l 3 → not (allZero (fields file (512 * l + (4 + 24 * n)) (508 - (4 + 24 * n)))) ≡ false → byteOf file k (4 + j) ≡ 0
       go l n last e off =
@@ -179,7 +195,7 @@ module _ (file : List ℕ) (accepted : grammarRefusal file ≡ none) where
   pub passed : Passed file
   passed =
       record {
-        long = whole-blocks;
+        long = whole-blocks file (no-refusal (wrongLength file) (Refusal.Grammar 1 0) (tests .0)) (no-refusal (wrongBlocks file) (Refusal.Grammar 5 0) (tests .4));
         check = right-check;
         number = λ k h. eqb→eq (twoBytes file k 0) k (and-l (eqb (twoBytes file k 0) k) (eqb (byteOf file k 2) (if eqb k 0 then 1 else 2)) (right-block k h));
         kind = λ k h. eqb→eq (byteOf file k 2) (if eqb k 0 then 1 else 2) (and-r (eqb (twoBytes file k 0) k) (eqb (byteOf file k 2) (if eqb k 0 then 1 else 2)) (right-block k h));
@@ -189,5 +205,5 @@ module _ (file : List ℕ) (accepted : grammarRefusal file ≡ none) where
         rest = right-rest;
       }
 
-pub record-long : (file : List ℕ) → Passed file → (i : ℕ) → i < rulesOf file → length (recordOf file i) ≡ 24
-record-long file p i h = fields-length file (recordPlace i) 24 (omega (arith, p .long))
+pub record-long : (file : List ℕ) → length file ≡ 512 * blocksFor (rulesOf file) → (i : ℕ) → i < rulesOf file → length (recordOf file i) ≡ 24
+record-long file long i h = fields-length file (recordPlace i) 24 (omega (arith, long))

@@ -1,6 +1,7 @@
 -- A file that the reader accepts holds a right grammar: what its heading and its records have been tested for.
 -- Assumes nothing.
 use mathlib.Core.Path.{_≡_, ap, subst, _∙_}
+use mathlib.Core.Bool.{false}
 use mathlib.Core.Option.{none, some}
 use mathlib.Core.List.{List, map}
 use Prim.Native.Nat.{ℕ, zero, suc, _+_, _<_, _≤_}
@@ -8,13 +9,13 @@ use native.Mathlib.Omega.{arith}
 use native.Mathlib.Decide.{decLt}
 use lib.ListN.{length, getD, getElem?, length-take, length-drop, List·getD-eq-default}
 use Rattle.model.specs.declared.Refusal.{Refusal}
-use Rattle.model.specs.Base.{_orElse_, numbersFrom}
+use Rattle.model.specs.Base.{numbersFrom}
 use Rattle.model.specs.Verdict.{refuseIf}
 use Rattle.model.specs.Grammar.{Rule, ruleAt, dimension}
 use Rattle.model.specs.GrammarFile.{within, categoriesOf, startOf, wordsOf, rulesOf, dimensionsOf, recordOf, wrongCategory, wrongWord, wrongVariables, unusedSet, repeated, grammarRefusal, ruleOf, grammarOf}
 use Rattle.model.specs.WellFormed.{RightRule, Right}
-use Rattle.model.proofs.Tests.{no-refusal, first-of, rest-of, every-getD, within-low}
-use Rattle.model.proofs.FileTests.{Passed, passed, record-long}
+use Rattle.model.proofs.Tests.{no-refusal, every-getD, within-low}
+use Rattle.model.proofs.FileTests.{Passed, passed, record-long, five-none}
 use Rattle.model.proofs.RuleFromRecord.{Tested, DimensionsIn, rule-right}
 
 -- rules made from the numbers from `from` on: a rule that is found at r is that of `from` + r, and each is found
@@ -88,23 +89,32 @@ module _ (file : List ℕ) (accepted : grammarRefusal file ≡ none) where
   categories-few = omega (arith, dimensions-length, categories-in)
 
   -- every record passes its tests
-  pub record-tested : (r : ℕ) → r < rulesOf file → Tested (grammarOf file) (recordOf file r)
-  record-tested r h =
-      let a = tests .rule r h in
+  pub record RulePassed (r : ℕ) : Type 0 where
+    pub category : wrongCategory (dimensionsOf file) (recordOf file r) ≡ false
+    pub word : wrongWord (dimensionsOf file) (recordOf file r) (wordsOf file) ≡ false
+    pub variables : wrongVariables (dimensionsOf file) (recordOf file r) ≡ false
+    pub unused : unusedSet (dimensionsOf file) (recordOf file r) ≡ false
+    pub single : repeated (recordOf file) r ≡ false
+
+  pub rule-passed : (r : ℕ) → r < rulesOf file → RulePassed r
+  rule-passed r h =
       let e = recordOf file r in
       let d = dimensionsOf file in
-      let r₆ = refuseIf (wrongCategory d e) (Refusal.Grammar 6 r) in
-      let r₇ = refuseIf (wrongWord d e (wordsOf file)) (Refusal.Grammar 7 r) in
-      let r₈ = refuseIf (wrongVariables d e) (Refusal.Grammar 8 r) in
-      let r₉ = refuseIf (unusedSet d e) (Refusal.Grammar 9 r) orElse refuseIf (repeated (recordOf file) r) (Refusal.Grammar 10 r) in
-      let b = rest-of r₆ (r₇ orElse r₈ orElse r₉) a in
-      let c = rest-of r₇ (r₈ orElse r₉) b in
+      let t = five-none (refuseIf (wrongCategory d e) (Refusal.Grammar 6 r)) (refuseIf (wrongWord d e (wordsOf file)) (Refusal.Grammar 7 r))
+      (refuseIf (wrongVariables d e) (Refusal.Grammar 8 r)) (refuseIf (unusedSet d e) (Refusal.Grammar 9 r)) (refuseIf (repeated (recordOf file) r) (Refusal.Grammar 10 r))
+      (tests .rule r h) in
       record {
-        long = record-long file tests r h;
-        category = no-refusal (wrongCategory d e) (Refusal.Grammar 6 r) (first-of r₆ (r₇ orElse r₈ orElse r₉) a);
-        word = no-refusal (wrongWord d e (wordsOf file)) (Refusal.Grammar 7 r) (first-of r₇ (r₈ orElse r₉) b);
-        variables = no-refusal (wrongVariables d e) (Refusal.Grammar 8 r) (first-of r₈ r₉ c);
+        category = no-refusal (wrongCategory d e) (Refusal.Grammar 6 r) (t .0);
+        word = no-refusal (wrongWord d e (wordsOf file)) (Refusal.Grammar 7 r) (t .1);
+        variables = no-refusal (wrongVariables d e) (Refusal.Grammar 8 r) (t .2);
+        unused = no-refusal (unusedSet d e) (Refusal.Grammar 9 r) (t .3);
+        single = no-refusal (repeated (recordOf file) r) (Refusal.Grammar 10 r) (t .4);
       }
+
+  pub record-tested : (r : ℕ) → r < rulesOf file → Tested (grammarOf file) (recordOf file r)
+  record-tested r h =
+      let p = rule-passed r h in
+      record { long = record-long file (tests .long) r h; category = p .category; word = p .word; variables = p .variables }
 
   -- what the reader accepts is a right grammar
   pub accepted-right : Right (grammarOf file)

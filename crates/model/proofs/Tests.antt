@@ -1,10 +1,10 @@
 -- What passed and failed tests say, and what passes or fails them: of `&&`, `||` and `not`, of tests joined by `orElse`, of tests below a number, and of lists compared.
 -- Assumes nothing.
-use mathlib.Core.Path.{_≡_, refl, ap, ap₂, subst}
+use mathlib.Core.Path.{_≡_, refl, sym, ap, ap₂, subst}
 use mathlib.Core.Logic.{_⊎_, inl, inr}
 use mathlib.Core.Bool.{Bool, true, false, _&&_, _||_, not}
 use mathlib.Core.Option.{Option, none, some}
-use mathlib.Core.List.{List, [], _∷_}
+use mathlib.Core.List.{List, [], _∷_, _++_}
 use Prim.Native.Nat.{ℕ, zero, suc, _+_, _-_, _<_, _≤_}
 use native.Mathlib.Omega.{arith}
 use native.Mathlib.Decide.{ℕ-discrete}
@@ -108,6 +108,24 @@ after-test P false pass fail = fail (λ t. t)
 pub every-by : (test : ℕ → Bool) (l : List ℕ) → ((k : ℕ) → k < length l → T (test (getD l k 0))) → T (every test l)
 every-by test [] h = tt
 every-by test (x ∷ l) h = and-both (test x) (every test l) (h 0 (omega arith)) (every-by test l (λ k b. h (suc k) (omega arith)))
+
+-- a test of all elements of two lists, one after the other
+pub every-append : (test : ℕ → Bool) (a b : List ℕ) → every test (a ++ b) ≡ every test a && every test b
+every-append test [] b = refl
+every-append test (x ∷ a) b = go (test x) (every-append test a b)
+  where
+    go : (t : Bool) → every test (a ++ b) ≡ every test a && every test b → t && every test (a ++ b) ≡ t && every test a && every test b
+    go true e = e
+    go false e = refl
+
+pub every-left : (test : ℕ → Bool) (a b : List ℕ) → T (every test (a ++ b)) → T (every test a)
+every-left test a b t = and-l (every test a) (every test b) (subst T (every-append test a b) t)
+
+pub every-right : (test : ℕ → Bool) (a b : List ℕ) → T (every test (a ++ b)) → T (every test b)
+every-right test a b t = and-r (every test a) (every test b) (subst T (every-append test a b) t)
+
+pub every-both : (test : ℕ → Bool) (a b : List ℕ) → T (every test a) → T (every test b) → T (every test (a ++ b))
+every-both test a b t u = subst T (sym (every-append test a b)) (and-both (every test a) (every test b) t u)
 
 pub none-at : (f : ℕ → Option Refusal) (from n : ℕ) → firstFrom f from n ≡ none → (k : ℕ) → from ≤ k → k < from + n → f k ≡ none
 none-at f from n e k lo hi =

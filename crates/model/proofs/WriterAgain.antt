@@ -21,14 +21,14 @@ module _ (file : List ℕ) (bytes : T (allBytes file)) (p : Passed file) where
 
   -- the records that are read
   pub records-long : length (recordsOf file) ≡ 24 * rulesOf file
-  records-long = joined-length (recordOf file) 24 0 (rulesOf file) (λ k lo hi. record-long file p k (omega arith))
+  records-long = joined-length (recordOf file) 24 0 (rulesOf file) (λ k lo hi. record-long file (p .long) k (omega arith))
 
   record-byte : (k j : ℕ) → j < 504 → 504 * k + j < 24 * rulesOf file → getD (recordsOf file) (504 * k + j) 0 ≡ byteOf file (suc k) (4 + j)
   record-byte k j hj h =
       let i = (504 * k + j) / 24 in
       let from : 0 + i ≡ i = omega arith in
       ap (λ (q : ℕ). getD (recordsOf file) q 0) (omega arith)
-      ∙ joined-at (recordOf file) 24 0 (rulesOf file) (λ k lo hi. record-long file p k (omega arith)) i ((504 * k + j) % 24) (omega arith) (omega arith)
+      ∙ joined-at (recordOf file) 24 0 (rulesOf file) (λ k lo hi. record-long file (p .long) k (omega arith)) i ((504 * k + j) % 24) (omega arith) (omega arith)
       ∙ ap (λ (q : ℕ). getD (recordOf file q) ((504 * k + j) % 24) 0) from
       ∙ fields-at file (recordPlace i) 24 ((504 * k + j) % 24) (omega arith)
       ∙ ap (λ (q : ℕ). getD file q 0) (omega arith)

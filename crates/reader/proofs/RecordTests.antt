@@ -10,16 +10,8 @@ use lib.Dec.{eqb, leb}
 use lib.ListN.{length}
 use Rattle.model.specs.Base.{every, anyBelow, total}
 use Rattle.model.specs.GrammarFile.{allZero, fields, field, wordOf, dimensionIn, lengthsOf, variables, wrongCategory, wrongWord, eachOnce, wrongVariables, unusedSet}
+use Rattle.model.proofs.Tests.{every-append}
 use Rattle.reader.specs.Reading.{unusedLexical, unusedNonlexical}
-
--- all of two lists joined
-pub every-append : (test : ℕ → Bool) (a b : List ℕ) → every test (a ++ b) ≡ every test a && every test b
-every-append test [] b = refl
-every-append test (x ∷ a) b = go (test x) (every-append test a b)
-  where
-    go : (t : Bool) → every test (a ++ b) ≡ every test a && every test b → t && every test (a ++ b) ≡ t && every test a && every test b
-    go true e = e
-    go false e = refl
 
 pub zero-first : (a b : List ℕ) → allZero a ≡ false → allZero (a ++ b) ≡ false
 zero-first a b t = every-append (eqb 0) a b ∙ ap (λ (x : Bool). x && allZero b) t

@@ -1,0 +1,232 @@
+-- A file that was accepted before the weights is accepted, its rules have weight 0, and every call answers and writes what it did.
+-- Assumes nothing.
+use mathlib.Core.Path.{_≡_, refl, sym, ap, ap₂, subst, _∙_}
+use mathlib.Core.Bool.{Bool, true, false, not, _&&_}
+use mathlib.Core.List.{List, [], _∷_, _++_, map}
+use mathlib.Core.Option.{Option, none, some}
+use Prim.Native.Nat.{ℕ, zero, suc, _+_, _-_, _*_, _%_, _<_, _≤_}
+use native.Mathlib.Omega.{arith}
+use borrow.Author.Tests.{eq-eqb}
+use lib.Dec.{T, ltb, eqb}
+use lib.ListN.{length, getD, take}
+use Rattle.model.specs.declared.Refusal.{Refusal}
+use Rattle.model.specs.Base.{if_then_else_, _orElse_, firstFrom, numbersFrom, sameList, anyBelow}
+use Rattle.model.specs.Verdict.{refuseIf, verdict, countVerdict}
+use Rattle.model.specs.Grammar.{Rule, Grammar, ruleAt, unweighted}
+use Rattle.model.specs.GrammarFile.{within, allZero, fields, field, hasDaughters, dimensionIn, variables, weightOf, blocksFor, rulesOf, wordsOf, dimensionsOf, recordOf, sameRecord, repeated, unusedBytes, unusedSet, wrongCategory, wrongWord, wrongVariables, wrongLength, wrongCheck, wrongBlock, wrongHeading, wrongBlocks, wrongCount, wrongRest, blocks, ruleRefusal, grammarRefusal, grammarOf}
+use Rattle.model.specs.Writer.{Heading, headingBlock, fileOf}
+use Rattle.model.specs.Trace.{sentenceRefusal, traceRefusal}
+use Rattle.model.specs.Tree.{treeRefusal}
+use Rattle.model.specs.Conversions.{treeOf, traceOf}
+use Rattle.model.specs.Counting.{limitsRefusal, effortRefusal, entryRefusal, count, effort, listing, entry}
+use Rattle.model.specs.Survey.{Surveyed}
+use Rattle.model.specs.Calls.{written, roomRefusal}
+use Rattle.model.specs.Program.{sentenceIn, limitIn, programLimit, printed}
+use Rattle.model.proofs.Tests.{no-refusal, not-off, on-not, none-at, first-same, any-same, every-left, every-right, every-both, every-getD, within-low}
+use Rattle.model.proofs.ByteLists.{fields-length, fields-at, zeros-by, zeros-at}
+use Rattle.model.proofs.FileTests.{eight-none, five-none, whole-blocks, record-long, right-heading}
+use Rattle.model.proofs.RuleFromRecord.{Tested, DimensionsIn, twelve}
+use Rattle.model.proofs.FromFile.{ruleRead, each-rule}
+use Rattle.weights.specs.OldFiles.{unusedBytesBefore, unusedSetBefore, repeatedBefore, ruleRefusalBefore, grammarRefusalBefore, grammarBefore, Kept}
+
+-- two lists of n + 1 numbers that end with the same one are the same just if their first n numbers are
+same-but-last : (n : ℕ) (a b : List ℕ) → length a ≡ suc n → length b ≡ suc n → getD a n 0 ≡ getD b n 0 → sameList (take n a) (take n b) ≡ sameList a b
+same-but-last n [] b h k e = let z : ⊥ = omega arith in absurd z
+same-but-last n (x ∷ a) [] h k e = let z : ⊥ = omega arith in absurd z
+same-but-last zero (x ∷ []) (y ∷ []) h k e = rw (eq-eqb x y e)
+same-but-last zero (x ∷ []) (y ∷ z ∷ b) h k e = let z : ⊥ = omega arith in absurd z
+same-but-last zero (x ∷ z ∷ a) (y ∷ b) h k e = let z : ⊥ = omega arith in absurd z
+same-but-last (suc n) (x ∷ a) (y ∷ b) h k e = ap (λ (c : Bool). eqb x y && c) (same-but-last n a b (omega arith) (omega arith) e)
+
+-- where k + 1 bytes from byte i on are 0, the first k are, and the last is
+last-zero : (e : List ℕ) (i n k : ℕ) → n ≡ suc k → i + n ≤ length e → T (allZero (fields e i n)) → T (allZero (fields e i k)) × (getD e (i + k) 0 ≡ 0)
+last-zero e i n k q h t = (
+  zeros-by (fields e i k) (λ j l.
+  let b : j < k = omega (arith, fields-length e i k (omega arith)) in
+  fields-at e i k j b ∙ sym (fields-at e i n j (omega arith)) ∙ zeros-at (fields e i n) t j),
+  sym (fields-at e i n k (omega arith)) ∙ zeros-at (fields e i n) t k,
+)
+
+-- where none of eight tests meets, none does with another seventh that does not
+other-seventh : (a b c d e f g h x : Option Refusal) → a orElse b orElse c orElse d orElse e orElse f orElse g orElse h ≡ none → x ≡ none
+    → a orElse b orElse c orElse d orElse e orElse f orElse x orElse h ≡ none
+other-seventh a b c d e f g h x r q =
+    let t = eight-none a b c d e f g h r in
+    rw (t .0, t .1, t .2, t .3, t .4, t .5, q) (t .7)
+
+-- rules that stay as they are without their weights
+map-same : (f : ℕ → Rule) (from n : ℕ) → ((k : ℕ) → from ≤ k → k < from + n → unweighted (f k) ≡ f k) → map unweighted (map f (numbersFrom from n)) ≡ map f (numbersFrom from n)
+map-same f from zero h = refl
+map-same f from (suc n) h =
+    ap₂ (λ (x : Rule) (l : List Rule). x ∷ l) (h from (omega arith) (omega arith)) (map-same f (suc from) n (λ k lo hi. h k (omega arith) (omega arith)))
+
+without-weight : (rule : Rule) → rule .weight ≡ 0 → unweighted rule ≡ rule
+without-weight rule e = λ i. record { category = rule .category; daughters = rule .daughters; word = rule .word; components = rule .components; weight = sym e i }
+
+module _ (file : List ℕ) (before : grammarRefusalBefore file ≡ none) where
+  abbrev d : List ℕ
+  d = dimensionsOf file
+
+  abbrev e : ℕ → List ℕ
+  e i = recordOf file i
+
+  -- refusals 2, 3 and 5 of the blocks, and 9 at place R
+  abbrev checks : Option Refusal
+  checks = firstFrom (λ k. refuseIf (wrongCheck file k) (Refusal.Grammar 2 k)) 0 (blocks file)
+
+  abbrev kinds : Option Refusal
+  kinds = firstFrom (λ k. refuseIf (wrongBlock file k) (Refusal.Grammar 3 k)) 0 (blocks file)
+
+  abbrev counts : Option Refusal
+  counts = firstFrom (λ k. refuseIf (wrongCount file k) (Refusal.Grammar 5 k)) 1 (blocks file - 1)
+
+  abbrev rest : Option Refusal
+  rest = refuseIf (wrongRest file) (Refusal.Grammar 9 (rulesOf file))
+
+  record Tests : Type 0 where
+    long : length file ≡ 512 * blocksFor (rulesOf file)
+    dimensions : DimensionsIn (grammarOf file)
+    rules : firstFrom (ruleRefusalBefore file) 0 (rulesOf file) ≡ none
+
+  tests : Tests
+  tests =
+      let t = eight-none _ checks kinds _ _ counts _ rest before in
+      let heading = right-heading file (no-refusal (wrongHeading file) (Refusal.Grammar 4 0) (t .3)) in
+      record {
+        long = whole-blocks file (no-refusal (wrongLength file) (Refusal.Grammar 1 0) (t .0)) (no-refusal (wrongBlocks file) (Refusal.Grammar 5 0) (t .4));
+        dimensions = λ c h. within-low 1 4 (getD d c 0) (every-getD (within 1 4) d (heading .dimensions) c h);
+        rules = t .6;
+      }
+
+  -- record i, before
+  module _ (i : ℕ) (here : i < rulesOf file) where
+    record RuleTests : Type 0 where
+      tested : Tested (grammarOf file) (e i)
+      zeros : T (allZero (unusedBytesBefore d (e i)))
+      single : repeatedBefore (recordOf file) i ≡ false
+
+    rule-tests : RuleTests
+    rule-tests =
+        let t = five-none _ _ _ _ _ (none-at (ruleRefusalBefore file) 0 (rulesOf file) (tests .rules) i (omega arith) (omega arith)) in
+        record {
+          tested =
+              record {
+                long = record-long file (tests .long) i here;
+                category = no-refusal (wrongCategory d (e i)) (Refusal.Grammar 6 i) (t .0);
+                word = no-refusal (wrongWord d (e i) (wordsOf file)) (Refusal.Grammar 7 i) (t .1);
+                variables = no-refusal (wrongVariables d (e i)) (Refusal.Grammar 8 i) (t .2);
+              };
+          zeros = not-off (allZero (unusedBytesBefore d (e i))) (no-refusal (unusedSetBefore d (e i)) (Refusal.Grammar 9 i) (t .3));
+          single = no-refusal (repeatedBefore (recordOf file) i) (Refusal.Grammar 10 i) (t .4);
+        }
+
+    -- byte 23 was the last of the unused bytes
+    unused : T (allZero (unusedBytes d (e i))) × (weightOf (e i) ≡ 0)
+    unused = go (hasDaughters (e i)) (rule-tests .zeros)
+      where
+        v : ℕ
+        v = variables d (e i)
+
+        m : ℕ
+        m = dimensionIn d (field (e i) 0)
+
+        front : List ℕ
+        front = fields (e i) (2 + field (e i) 1) (3 - field (e i) 1) ++ fields (e i) 5 2 ++ fields (e i) (7 + m) (4 - m)
+
+        few : v ≤ 12
+        few = twelve (grammarOf file) (e i) (rule-tests .tested) (tests .dimensions)
+
+        long : length (e i) ≡ 24
+        long = rule-tests .tested .long
+
+        weight-at : (p : ℕ) → p ≡ 23 → getD (e i) p 0 ≡ 0 → weightOf (e i) ≡ 0
+        weight-at p q z = ap (λ (x : ℕ). getD (e i) x 0) (sym q) ∙ z
+
+        go : (b : Bool) → T (allZero (if b then front ++ fields (e i) (11 + v) (13 - v) else fields (e i) 2 3 ++ fields (e i) 7 17))
+            → T (allZero (if b then front ++ fields (e i) (11 + v) (12 - v) else fields (e i) 2 3 ++ fields (e i) 7 16)) × (weightOf (e i) ≡ 0)
+        go true t =
+            let l = last-zero (e i) (11 + v) (13 - v) (12 - v) (omega (arith, few)) (omega (arith, few, long)) (every-right (eqb 0) front (fields (e i) (11 + v) (13 - v)) t) in (
+              every-both (eqb 0) front (fields (e i) (11 + v) (12 - v)) (every-left (eqb 0) front (fields (e i) (11 + v) (13 - v)) t) (l .0),
+              weight-at (11 + v + (12 - v)) (omega (arith, few)) (l .1),
+            )
+        go false t =
+            let l = last-zero (e i) 7 17 16 (omega arith) (omega (arith, long)) (every-right (eqb 0) (fields (e i) 2 3) (fields (e i) 7 17) t) in (
+              every-both (eqb 0) (fields (e i) 2 3) (fields (e i) 7 16) (every-left (eqb 0) (fields (e i) 2 3) (fields (e i) 7 17) t) (l .0),
+              weight-at (7 + 16) (omega arith) (l .1),
+            )
+
+  single : (i : ℕ) → i < rulesOf file → repeated (recordOf file) i ≡ false
+  single i h =
+      any-same (λ j. sameRecord (e j) (e i)) (λ j. sameList (e j) (e i)) i
+      (λ j l. same-but-last 23 (e j) (e i) (rule-tests j (omega arith) .tested .long) (rule-tests i h .tested .long) (unused j (omega arith) .1 ∙ sym (unused i h .1)))
+      ∙ rule-tests i h .single
+
+  rule-none : (i : ℕ) → i < rulesOf file → ruleRefusal file i ≡ none
+  rule-none i h =
+      let t = rule-tests i h .tested in
+      rw (t .category, t .word, t .variables, on-not (allZero (unusedBytes d (e i))) (unused i h .0), single i h)
+
+  still-accepted : grammarRefusal file ≡ none
+  still-accepted =
+      other-seventh (refuseIf (wrongLength file) (Refusal.Grammar 1 0)) checks kinds (refuseIf (wrongHeading file) (Refusal.Grammar 4 0))
+      (refuseIf (wrongBlocks file) (Refusal.Grammar 5 0)) counts (firstFrom (ruleRefusalBefore file) 0 (rulesOf file)) rest (firstFrom (ruleRefusal file) 0 (rulesOf file)) before
+      (all-none (ruleRefusal file) 0 (rulesOf file) (λ k lo hi. rule-none k (omega arith)))
+    where
+      all-none : (f : ℕ → Option Refusal) (from n : ℕ) → ((k : ℕ) → from ≤ k → k < from + n → f k ≡ none) → firstFrom f from n ≡ none
+      all-none f from zero h = refl
+      all-none f from (suc n) h = rw (h from (omega arith) (omega arith)) (all-none f (suc from) n (λ k lo hi. h k (omega arith) (omega arith)))
+
+  same-refusal : grammarRefusal file ≡ grammarRefusalBefore file
+  same-refusal = still-accepted ∙ sym before
+
+  same-grammar : grammarOf file ≡ grammarBefore file
+  same-grammar =
+      let r = map-same (ruleRead file) 0 (rulesOf file) (λ k lo hi. without-weight (ruleRead file k) (unused k (omega arith) .1)) in
+      λ i. record { start = grammarOf file .start; words = grammarOf file .words; dimensions = grammarOf file .dimensions; rules = sym r i }
+
+  -- what depends on the file by its refusal and its grammar alone
+  kept-by : {A : Type 0} (f : Option Refusal → Grammar → A) → f (grammarRefusal file) (grammarOf file) ≡ f (grammarRefusalBefore file) (grammarBefore file)
+  kept-by f = ap₂ f same-refusal same-grammar
+
+  pub kept : Kept file
+  kept =
+      record {
+        accepted = still-accepted;
+        weightless = each-rule file (λ rule. rule .weight ≡ 0) (λ r h. unused r h .1);
+        reader = kept-by (λ o g. verdict o (rulesOf file));
+        writer = λ h records q.
+            ap (λ (o : Option Refusal).
+            refuseIf (not (eqb (length (h .dimensions)) 64)) (Refusal.Grammar 4 0) orElse refuseIf (ltb 256 (h .rules)) (Refusal.Grammar 4 0)
+            orElse refuseIf (wrongHeading (headingBlock h)) (Refusal.Grammar 4 0)
+            orElse refuseIf (not (eqb (length records) (24 * h .rules))) (Refusal.Grammar 5 0) orElse o) (ap grammarRefusal q ∙ same-refusal);
+        trace-checker = λ s trace. kept-by (λ o g. verdict (o orElse sentenceRefusal g s orElse traceRefusal g s trace) (length trace));
+        tree-checker = λ s tree. kept-by (λ o g. verdict (o orElse sentenceRefusal g s orElse treeRefusal g s tree) (length tree));
+        trace-to-tree = λ s trace out. (
+          kept-by (λ o g. verdict (o orElse roomRefusal out orElse sentenceRefusal g s orElse traceRefusal g s trace) (length trace)),
+          kept-by (λ o g. written (o orElse roomRefusal out orElse sentenceRefusal g s orElse traceRefusal g s trace) (treeOf g s trace) out),
+        );
+        tree-to-trace = λ s tree out. (
+          kept-by (λ o g. verdict (o orElse roomRefusal out orElse sentenceRefusal g s orElse treeRefusal g s tree) (length tree)),
+          kept-by (λ o g. written (o orElse roomRefusal out orElse sentenceRefusal g s orElse treeRefusal g s tree) (traceOf g s tree) out),
+        );
+        counted = λ s n limit.
+            kept-by (λ o g. countVerdict (o orElse limitsRefusal n limit orElse sentenceRefusal g s orElse effortRefusal g s n limit) (count g s n) (effort g s n));
+        entered = λ s n limit m out. (
+          kept-by (λ o g.
+          verdict (o orElse roomRefusal out orElse limitsRefusal n limit orElse sentenceRefusal g s orElse effortRefusal g s n limit orElse entryRefusal g s n m)
+          (length (entry g s n m))),
+          kept-by (λ o g.
+          written (o orElse roomRefusal out orElse limitsRefusal n limit orElse sentenceRefusal g s orElse effortRefusal g s n limit orElse entryRefusal g s n m)
+          (entry g s n m) out),
+        );
+        survey-refused = λ out. kept-by (λ o g. o orElse roomRefusal out);
+        survey-right = λ figures. (subst (λ (g : Grammar). Surveyed g figures) same-grammar, subst (λ (g : Grammar). Surveyed g figures) (sym same-grammar));
+        printed-as = λ sentenceFile.
+            let s = sentenceIn sentenceFile in
+            let n = limitIn sentenceFile in
+            kept-by (λ o g.
+            printed
+            (o orElse refuseIf (eqb (length sentenceFile % 2) 0) (Refusal.Analysis 11 0) orElse o orElse limitsRefusal n programLimit orElse sentenceRefusal g s
+            orElse effortRefusal g s n programLimit)
+            ((count g s n ∷ effort g s n ∷ []) ∷ listing g s n));
+      }
