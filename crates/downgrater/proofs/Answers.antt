@@ -7,7 +7,8 @@ use Rattle.model.specs.declared.Verdict.{Verdict}
 use Rattle.model.specs.declared.CountVerdict.{CountVerdict}
 use Rattle.model.specs.Calls.{SurveyOutcome}
 use Rattle.downgrater.specs.Packing.{ValueFits, CountsFit, Says, SaysCount}
-use Rattle.downgrater.specs.Exports.{surveyVerdict}
+use Rattle.downgrater.specs.Exports.{surveyVerdict, SaysTraceSum, SaysTreeSum}
+use Rattle.weights.specs.Weights.{TraceWeighed, TreeWeighed}
 
 -- the verdict v that is packed is the model's w
 module _ (v w : Verdict) (is : v ≡ w) where
@@ -26,3 +27,11 @@ module _ (v w : CountVerdict) (is : v ≡ w) where
 
 pub surveyed : (file out : List ℕ) (v : Verdict) (after : List ℕ) → SurveyOutcome file out v after → SurveyOutcome file out (surveyVerdict file out) after
 surveyed file out v after s = record { figures = s .figures; figures-right = s .figures-right; verdict-is = refl; output-is = s .output-is }
+
+-- the sums of weights
+module _ (file sentence list : List ℕ) (v : Verdict) (x : ℕ) (says : Says v x) where
+  pub trace-sum-said : TraceWeighed file sentence list v → SaysTraceSum file sentence list x
+  trace-sum-said w = record { along-trace = said v _ (w .verdict-is) x says; along-tree = λ e. said v _ (w .same-sum e) x says }
+
+  pub tree-sum-said : TreeWeighed file sentence list v → SaysTreeSum file sentence list x
+  tree-sum-said w = record { along-tree = said v _ (w .verdict-is) x says; along-trace = λ e. said v _ (w .same-sum e) x says }

@@ -1,5 +1,5 @@
--- The values of accepted calls fit their bits: a value is at most 7,168, and the effort of a count that is not refused is within its limit, and what is
--- counted is kept from the live prefixes.
+-- The values of accepted calls fit their bits: a value is at most 7,168, a sum of weights at most 24,480, and the effort of a count that is not refused is
+-- within its limit, and what is counted is kept from the live prefixes.
 -- Assumes nothing.
 use mathlib.Core.Path.{_≡_, refl}
 use mathlib.Core.Bool.{not}
@@ -11,6 +11,7 @@ use borrow.Author.Tests.{ltb-false, leb-false}
 use lib.Dec.{ltb, leb, eqb}
 use lib.ListN.{length}
 use Rattle.model.specs.declared.Refusal.{Refusal}
+use Rattle.model.specs.declared.Verdict.{Verdict}
 use Rattle.model.specs.Base.{_orElse_}
 use Rattle.model.specs.Verdict.{refuseIf, verdict, countVerdict}
 use Rattle.model.specs.Grammar.{Grammar}
@@ -27,6 +28,7 @@ use Rattle.model.proofs.Search.{keep-short}
 use Rattle.model.proofs.Demands.{trace-short, tree-short}
 use Rattle.analyses.proofs.Limits.{ranges}
 use Rattle.analyses.proofs.FoundEntry.{is-entry}
+use Rattle.weights.specs.Weights.{largestSum, AtMost}
 use Rattle.downgrater.specs.Packing.{ValueFits, CountsFit}
 use Rattle.downgrater.specs.Exports.{surveyVerdict}
 
@@ -34,6 +36,10 @@ use Rattle.downgrater.specs.Exports.{surveyVerdict}
 value : (o : Option Refusal) (n : ℕ) → (o ≡ none → n ≤ 7168) → ValueFits (verdict o n)
 value none n h = omega (arith, h refl)
 value (some r) n h = tt
+
+pub sum-fits : (v : Verdict) → AtMost largestSum v → ValueFits v
+sum-fits (Verdict.Accepted n) h = omega arith
+sum-fits (Verdict.Refused r) h = tt
 
 pub read-fits : (file : List ℕ) → ValueFits (readVerdict file)
 read-fits file = value (grammarRefusal file) (rulesOf file) (λ e. omega (arith, rules-in file e .1))

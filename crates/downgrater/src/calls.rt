@@ -3,7 +3,7 @@ ghost use mathlib.Core.Path.{_≡_};
 ghost use Rattle.model.specs.Calls.{readVerdict, writeVerdict, writeOutput, checkTraceVerdict, checkTreeVerdict, traceToTreeVerdict, traceToTreeOutput, treeToTraceVerdict, treeToTraceOutput, countCall, entryVerdict, entryOutput, SurveyOutcome};
 ghost use Rattle.writer.specs.Writing.{heading};
 ghost use Rattle.downgrater.specs.Packing.{Says, SaysCount};
-ghost use Rattle.downgrater.specs.Exports.{surveyVerdict};
+ghost use Rattle.downgrater.specs.Exports.{surveyVerdict, SaysTraceSum, SaysTreeSum};
 use crate::packing::count_bits;
 use crate::packing::verdict_bits;
 use analyses::count;
@@ -14,6 +14,8 @@ use reader::read_grammar;
 use recognizer::check_trace;
 use survey::survey;
 use unfold::trace_to_tree;
+use weights::weigh_trace;
+use weights::weigh_tree;
 use writer::write_grammar;
 
 // The reader: the number of rules.
@@ -111,4 +113,20 @@ pub extern "C" fn dg_survey(file: &[u8], out: &mut [u16]) -> u64
     ensures { λ x. ⌜ Says (surveyVerdict (now (file .entry)) (now (out .entry))) x × SurveyOutcome (now (file .entry)) (now (out .entry)) (surveyVerdict (now (file .entry)) (now (out .entry))) (now (out .exit)) ⌝ }
 {
     verdict_bits(survey(file, out))
+}
+
+// The sum of weights along a trace.
+#[no_mangle]
+pub extern "C" fn dg_weigh_trace(file: &[u8], sentence: &[u16], trace: &[u16]) -> u64
+    ensures { λ x. ⌜ SaysTraceSum (now (file .entry)) (now (sentence .entry)) (now (trace .entry)) x ⌝ }
+{
+    verdict_bits(weigh_trace(file, sentence, trace))
+}
+
+// The sum of weights along a tree.
+#[no_mangle]
+pub extern "C" fn dg_weigh_tree(file: &[u8], sentence: &[u16], tree: &[u16]) -> u64
+    ensures { λ x. ⌜ SaysTreeSum (now (file .entry)) (now (sentence .entry)) (now (tree .entry)) x ⌝ }
+{
+    verdict_bits(weigh_tree(file, sentence, tree))
 }
