@@ -1,13 +1,13 @@
 #!/usr/bin/env python3
-"""Writes the grammar files of crates/worked_examples/data: the copy grammar, the pair grammar, one with
-categories that have no tree, and one damaged file for each refusal 1 to 10.
+"""Writes the grammar files of crates/worked_examples/data: the copy grammar, without weights and with,
+the pair grammar, one with categories that have no tree, and one damaged file for each refusal 1 to 10.
 
 Usage: tools/example_grammars.py (at the repository's root)
 """
 import os
 
 
-def record(category, daughters=(), word=0, components=()):
+def record(category, daughters=(), word=0, components=(), weight=0):
     """The 24 bytes of a rule. A variable is (daughter position, component)."""
     lengths = [len(c) for c in components]
     variables = [4 * j + k for c in components for j, k in c]
@@ -15,7 +15,7 @@ def record(category, daughters=(), word=0, components=()):
     e += [word % 256, word // 256]
     e += lengths + [0] * (4 - len(lengths))
     e += variables + [0] * (12 - len(variables))
-    return e + [0]
+    return e + [weight]
 
 
 def check(block):
@@ -63,6 +63,11 @@ def copy(records=COPY):
     return blocks([1, 2, 1, 1], S, 2, records)
 
 
+def weighted(records, weights):
+    """The records with these weights."""
+    return [e[:23] + [w] for e, w in zip(records, weights)]
+
+
 def changed(rule, byte, value):
     """The copy grammar with one byte of one record changed, and the check right again."""
     records = [list(e) for e in COPY]
@@ -86,6 +91,8 @@ def wrong_check():
 
 FILES = {
     "copy": copy(),
+    # every sum of different rules tells them apart
+    "weighted": copy(weighted(COPY, [1, 2, 4, 8, 16, 32, 64])),
     "pair": blocks([1], S, 1, PAIR),
     "barren": blocks([1, 1, 1, 1], 0, 1, BARREN),
     "wrong_length": copy()[:1] + [copy()[1][:511]],
@@ -97,9 +104,10 @@ FILES = {
     "wrong_daughter": changed(1, 3, 4),
     "wrong_word": changed(6, 5, 2),
     "variable_twice": changed(3, 12, 0),
-    "unused_byte": changed(4, 23, 1),
+    "unused_byte": changed(4, 22, 1),
     "rest_of_block": set_byte(1, 507, 1),
     "repeated_rule": copy(COPY + [COPY[5]]),
+    "repeated_but_for_weight": copy(COPY + weighted([COPY[5]], [255])),
 }
 
 folder = "crates/worked_examples/data"

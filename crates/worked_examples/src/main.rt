@@ -1,10 +1,11 @@
-// Runs the calls on the grammar files of data/: the worked examples of document 01 (K3 to K10), and a damaged file for each refusal 1 to 10. Each answer is
-// on a line: its numbers, or R with the refusal's number and place.
+// Runs the calls on the grammar files of data/: the worked examples of document 01 (K3 to K10), sums of weights, and a damaged file for each refusal 1 to 10.
+// Each answer is on a line: its numbers, or R with the refusal's number and place.
 mod conversions;
 mod counts;
 mod figures;
 mod reading;
 mod show;
+mod sums;
 mod traces;
 mod writing;
 
@@ -19,6 +20,11 @@ fn main() {
     let copy = &copy_file[0..n];
     title(b"the copy grammar written again");
     writing::run(copy);
+    let mut weighted_file = [0u8; 1024];
+    let w = load(b"weighted", &mut weighted_file);
+    let weighted = &weighted_file[0..w];
+    title(b"with weights");
+    writing::run(weighted);
     title(b"trace checker");
     traces::run(copy);
     title(b"trees");
@@ -29,4 +35,6 @@ fn main() {
     let k = load(b"pair", &mut pair_file);
     title(b"counts and entries");
     counts::run(copy, &pair_file[0..k]);
+    title(b"sums of weights");
+    sums::run(copy, weighted);
 }

@@ -1,4 +1,4 @@
-// The reader's verdict of two files that it accepts, and of one for each refusal 1 to 10.
+// The reader's verdict of three files that it accepts, and of one for each refusal 1 to 10 (of 9 and 10 two).
 use crate::show::load;
 use crate::show::print_verdict;
 use libc::STDOUT_FILENO;
@@ -30,10 +30,12 @@ fn wrong_rules() {
     show(b"unused_byte");
     show(b"rest_of_block");
     show(b"repeated_rule");
+    show(b"repeated_but_for_weight");
 }
 
 pub fn run() {
     show(b"copy");
+    show(b"weighted");
     show(b"pair");
     wrong_blocks();
     wrong_rules();

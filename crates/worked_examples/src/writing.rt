@@ -1,4 +1,4 @@
-// The copy grammar, written again from its fields: says whether the file comes out the same.
+// A grammar, written again from its fields: says whether the file comes out the same.
 ghost use Prim.Native.Nat.{_<_};
 ghost use lib.ListN.{length};
 use crate::show::title;
@@ -48,8 +48,8 @@ fn rewritten(file: &[u8]) -> bool {
     same_again(file, &records[0..used])
 }
 
-pub fn run(copy: &[u8]) {
-    if rewritten(copy) {
+pub fn run(file: &[u8]) {
+    if rewritten(file) {
         title(b"same");
     } else {
         title(b"other");

@@ -1,0 +1,37 @@
+// The sums of weights along traces and trees of the copy grammar: K3 with its tree K4, and refusals of the checkers (document 02, paper 1).
+use crate::show::print_verdict;
+
+// The sum along a trace.
+fn along_trace(file: &[u8], sentence: &[u16], trace: &[u16]) {
+    print_verdict(weights::weigh_trace(file, sentence, trace));
+}
+
+// The sum along a tree.
+fn along_tree(file: &[u8], sentence: &[u16], tree: &[u16]) {
+    print_verdict(weights::weigh_tree(file, sentence, tree));
+}
+
+// The trace of K3 and the tree that belongs to it; a shorter trace, which is its own tree's list.
+fn sums(file: &[u8]) {
+    along_trace(file, &[0, 1, 0, 1], &[0, 1, 5, 4, 6, 5, 6]);
+    along_tree(file, &[0, 1, 0, 1], &[0, 1, 5, 4, 6, 6, 5]);
+    along_trace(file, &[0, 0], &[0, 3, 5, 5]);
+    along_tree(file, &[0, 0], &[0, 3, 5, 5]);
+}
+
+// K4's list as a trace, a word that is not next, a list that ends, a yield that is not the sentence, an unknown word, and a file that is none.
+fn refusals(file: &[u8]) {
+    along_trace(file, &[0, 1, 0, 1], &[0, 1, 5, 4, 6, 6, 5]);
+    along_trace(file, &[0, 1], &[0, 3, 5, 5]);
+    along_tree(file, &[0, 0], &[0, 3, 5]);
+    along_tree(file, &[0, 1], &[0, 3, 5, 5]);
+    along_tree(file, &[0, 2], &[0, 3, 5, 5]);
+    along_tree(&file[0..0], &[0, 0], &[0, 3, 5, 5]);
+}
+
+// A file without weights has the sum 0.
+pub fn run(copy: &[u8], weighted: &[u8]) {
+    sums(weighted);
+    sums(copy);
+    refusals(weighted);
+}
