@@ -42,8 +42,8 @@ same-but-last (suc n) (x ∷ a) (y ∷ b) h k e = ap (λ (c : Bool). eqb x y && 
 last-zero : (e : List ℕ) (i n k : ℕ) → n ≡ suc k → i + n ≤ length e → T (allZero (fields e i n)) → T (allZero (fields e i k)) × (getD e (i + k) 0 ≡ 0)
 last-zero e i n k q h t = (
   zeros-by (fields e i k) (λ j l.
-  let b : j < k = omega (arith, fields-length e i k (omega arith)) in
-  fields-at e i k j b ∙ sym (fields-at e i n j (omega arith)) ∙ zeros-at (fields e i n) t j),
+      let b : j < k = omega (arith, fields-length e i k (omega arith)) in
+      fields-at e i k j b ∙ sym (fields-at e i n j (omega arith)) ∙ zeros-at (fields e i n) t j),
   sym (fields-at e i n k (omega arith)) ∙ zeros-at (fields e i n) t k,
 )
 
@@ -213,11 +213,11 @@ module _ (file : List ℕ) (before : grammarRefusalBefore file ≡ none) where
             kept-by (λ o g. countVerdict (o orElse limitsRefusal n limit orElse sentenceRefusal g s orElse effortRefusal g s n limit) (count g s n) (effort g s n));
         entered = λ s n limit m out. (
           kept-by (λ o g.
-          verdict (o orElse roomRefusal out orElse limitsRefusal n limit orElse sentenceRefusal g s orElse effortRefusal g s n limit orElse entryRefusal g s n m)
-          (length (entry g s n m))),
+              verdict (o orElse roomRefusal out orElse limitsRefusal n limit orElse sentenceRefusal g s orElse effortRefusal g s n limit orElse entryRefusal g s n m)
+              (length (entry g s n m))),
           kept-by (λ o g.
-          written (o orElse roomRefusal out orElse limitsRefusal n limit orElse sentenceRefusal g s orElse effortRefusal g s n limit orElse entryRefusal g s n m)
-          (entry g s n m) out),
+              written (o orElse roomRefusal out orElse limitsRefusal n limit orElse sentenceRefusal g s orElse effortRefusal g s n limit orElse entryRefusal g s n m)
+              (entry g s n m) out),
         );
         survey-refused = λ out. kept-by (λ o g. o orElse roomRefusal out);
         survey-right = λ figures. (subst (λ (g : Grammar). Surveyed g figures) same-grammar, subst (λ (g : Grammar). Surveyed g figures) (sym same-grammar));
