@@ -1,13 +1,21 @@
 // The sum of an analysis's weights (document 02, paper 1).
 ghost use mathlib.Core.Path.{_≡_};
-ghost use Prim.Native.Nat.{_≤_};
-ghost use lib.ListN.{length};
+ghost use Prim.Native.Nat.{_<_, _≤_};
+ghost use lib.ListN.{length, getD};
 ghost use Rattle.weights.specs.Weights.{recordsSum, largestSum, TraceWeighed, TreeWeighed};
 use derivation::check_tree;
 use grammar::weight_of;
 use model::RuleNumber;
 use model::Verdict;
 use recognizer::check_trace;
+
+// Rule k of a list.
+fn rule_in(list: &[u16], k: usize) -> RuleNumber
+    requires { ⌜ k < length (now list) ⌝ }
+    ensures { λ r. ⌜ r .0 ≡ getD (now (list .entry)) k 0 ⌝ }
+{
+    RuleNumber(list[k])
+}
 
 // The sum of the weights of a list of rules.
 fn sum_weights(file: &[u8], list: &[u16]) -> u64
@@ -17,7 +25,7 @@ fn sum_weights(file: &[u8], list: &[u16]) -> u64
     let mut sum: u64 = 0;
     let mut k: usize = 0;
     while k < list.len() {
-        sum += weight_of(file, RuleNumber(list[k])) as u64;
+        sum += weight_of(file, rule_in(list, k)) as u64;
         k += 1;
     }
     sum

@@ -1,6 +1,6 @@
 -- `weights::sum_weights` meets its contract. The loop keeps: the whole sum is what is summed and the sum of the rest, and k weights are at most 255 each.
 -- Assumes nothing.
-use mathlib.Core.Path.{_≡_}
+use mathlib.Core.Path.{_≡_, ap, _∙_}
 use mathlib.Core.List.{map}
 use Prim.Native.Nat.{ℕ, _≤_, _-_, _+_, _*_}
 use lib.ListN.{length, drop}
@@ -23,11 +23,8 @@ abbrev μ-loop : tie.MeasureT-loop
 loop-holds : tie.Need-loop-holds Inv-loop μ-loop
 loop-holds c = (omega arith, c .before .before .pre, omega arith, omega arith)
 
-mul-t5 : tie.Need-mul-t5 Inv-loop μ-loop
-mul-t5 c = search needs
-
-shared-slice-read-t9 : tie.Need-shared-slice-read-t9 Inv-loop μ-loop
-shared-slice-read-t9 c = search needs
+rule-in-requires : tie.Need-rule-in-requires Inv-loop μ-loop
+rule-in-requires c κs = search needs
 
 weight-of-requires : tie.Need-weight-of-requires Inv-loop μ-loop
 weight-of-requires c κs = search needs
@@ -49,7 +46,8 @@ loop-again c =
     let i = c .before .before .before .loop in
     let a = c .before .before .before .before .before .before .args in
     let m = sum-more (λ r. weightOf (recordOf (a .file .now) r)) (a .list .now) (i .k) (c .before .before .loop-test .taken) in
-    (omega (arith, c .before .before .loop-test .taken), i .inv .1, omega (arith, m, i .inv .2, c .weight-of .ensures), omega (arith, i .inv .3))
+    let w = c .weight-of .ensures ∙ ap (λ (r : ℕ). weightOf (recordOf (a .file .now) r)) (c .before .rule-in .ensures) in
+    (omega (arith, c .before .before .loop-test .taken), i .inv .1, omega (arith, m, i .inv .2, w), omega (arith, i .inv .3))
 
 returns : tie.Need-returns Inv-loop μ-loop
 returns c =
@@ -64,8 +62,7 @@ sum-weights-spec =
     Inv-loop
     μ-loop
     loop-holds
-    mul-t5
-    shared-slice-read-t9
+    rule-in-requires
     weight-of-requires
     cast-sum
     add-sum
