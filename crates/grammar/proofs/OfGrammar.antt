@@ -14,7 +14,7 @@ use lib.Dec.{T, eqb, eqb→eq}
 use lib.ListN.{length, getD, getElem?, take, drop, List·getD-eq-default}
 use lib.Seq.{drop-drop}
 use Rattle.model.specs.Base.{if_then_else_, sumBelow, numbersFrom}
-use Rattle.model.specs.Grammar.{Variable, Rule, Grammar, ruleAt, dimension, isLexical}
+use Rattle.model.specs.Grammar.{Variable, Rule, ruleAt, dimension, isLexical}
 use Rattle.model.specs.GrammarFile.{fields, field, allZero, daughtersOf, lengthsOf, variables, dimensionIn, dimensionsOf, rulesOf, recordOf, unusedBytes, grammarRefusal, decoded, sequences, ruleOf, grammarOf}
 use Rattle.model.proofs.Tests.{not-off, every-getD, every-left, every-right}
 use Rattle.model.proofs.Lists.{map-in, mem-getD}

@@ -1,14 +1,14 @@
 -- The tests of one record one by one: refusals 6 to 9.
 -- Assumes nothing.
-use mathlib.Core.Path.{_≡_, refl, sym, ap, _∙_}
+use mathlib.Core.Path.{_≡_, sym, ap, _∙_}
 use mathlib.Core.Bool.{Bool, true, false, _&&_, not}
-use mathlib.Core.List.{List, [], _∷_, _++_}
+use mathlib.Core.List.{List, _++_}
 use Prim.Native.Nat.{ℕ, _+_, _-_, _<_, _≤_}
 use native.Mathlib.Omega.{arith}
 use borrow.Author.Tests.{lt-ltb, le-ltb, lt-leb, le-leb, eq-eqb, ne-eqb}
 use lib.Dec.{eqb, leb}
 use lib.ListN.{length}
-use Rattle.model.specs.Base.{every, anyBelow, total}
+use Rattle.model.specs.Base.{anyBelow, total}
 use Rattle.model.specs.GrammarFile.{allZero, fields, field, wordOf, dimensionIn, lengthsOf, variables, wrongCategory, wrongWord, eachOnce, wrongVariables, unusedSet}
 use Rattle.model.proofs.Tests.{every-append}
 use Rattle.reader.specs.Reading.{unusedLexical, unusedNonlexical}

@@ -3,18 +3,18 @@
 use mathlib.Core.Path.{_≡_, refl, sym, ap, ap₂, subst, _∙_}
 use mathlib.Core.Bool.{Bool, true, false, not, _&&_}
 use mathlib.Core.List.{List, [], _∷_, _++_, map}
-use mathlib.Core.Option.{Option, none, some}
+use mathlib.Core.Option.{Option, none}
 use Prim.Native.Nat.{ℕ, zero, suc, _+_, _-_, _*_, _%_, _<_, _≤_}
 use native.Mathlib.Omega.{arith}
 use borrow.Author.Tests.{eq-eqb}
 use lib.Dec.{T, ltb, eqb}
 use lib.ListN.{length, getD, take}
 use Rattle.model.specs.declared.Refusal.{Refusal}
-use Rattle.model.specs.Base.{if_then_else_, _orElse_, firstFrom, numbersFrom, sameList, anyBelow}
+use Rattle.model.specs.Base.{if_then_else_, _orElse_, firstFrom, numbersFrom, sameList}
 use Rattle.model.specs.Verdict.{refuseIf, verdict, countVerdict}
-use Rattle.model.specs.Grammar.{Rule, Grammar, ruleAt, unweighted}
-use Rattle.model.specs.GrammarFile.{within, allZero, fields, field, hasDaughters, dimensionIn, variables, weightOf, blocksFor, rulesOf, wordsOf, dimensionsOf, recordOf, sameRecord, repeated, unusedBytes, unusedSet, wrongCategory, wrongWord, wrongVariables, wrongLength, wrongCheck, wrongBlock, wrongHeading, wrongBlocks, wrongCount, wrongRest, blocks, ruleRefusal, grammarRefusal, grammarOf}
-use Rattle.model.specs.Writer.{Heading, headingBlock, fileOf}
+use Rattle.model.specs.Grammar.{Rule, Grammar, unweighted}
+use Rattle.model.specs.GrammarFile.{within, allZero, fields, field, hasDaughters, dimensionIn, variables, weightOf, blocksFor, rulesOf, wordsOf, dimensionsOf, recordOf, sameRecord, repeated, unusedBytes, wrongCategory, wrongWord, wrongVariables, wrongLength, wrongCheck, wrongBlock, wrongHeading, wrongBlocks, wrongCount, wrongRest, blocks, ruleRefusal, grammarRefusal, grammarOf}
+use Rattle.model.specs.Writer.{headingBlock}
 use Rattle.model.specs.Trace.{sentenceRefusal, traceRefusal}
 use Rattle.model.specs.Tree.{treeRefusal}
 use Rattle.model.specs.Conversions.{treeOf, traceOf}
@@ -22,7 +22,7 @@ use Rattle.model.specs.Counting.{limitsRefusal, effortRefusal, entryRefusal, co
 use Rattle.model.specs.Survey.{Surveyed}
 use Rattle.model.specs.Calls.{written, roomRefusal}
 use Rattle.model.specs.Program.{sentenceIn, limitIn, programLimit, printed}
-use Rattle.model.proofs.Tests.{no-refusal, not-off, on-not, none-at, first-same, any-same, every-left, every-right, every-both, every-getD, within-low}
+use Rattle.model.proofs.Tests.{no-refusal, not-off, on-not, none-at, any-same, every-left, every-right, every-both, every-getD, within-low}
 use Rattle.model.proofs.ByteLists.{fields-length, fields-at, zeros-by, zeros-at}
 use Rattle.model.proofs.FileTests.{eight-none, five-none, whole-blocks, record-long, right-heading}
 use Rattle.model.proofs.RuleFromRecord.{Tested, DimensionsIn, twelve}

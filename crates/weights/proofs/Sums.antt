@@ -1,6 +1,6 @@
 -- The sum of weights along a trace is that along the tree that belongs to it, so what the two calls answer is what they promise.
 -- Assumes nothing.
-use mathlib.Core.Path.{_≡_, refl, sym, ap, ap₂, subst, _∙_}
+use mathlib.Core.Path.{_≡_, refl, sym, ap, subst, _∙_}
 use mathlib.Core.Option.{Option, none, some}
 use mathlib.Core.List.{List, [], _∷_, _++_, map}
 use Prim.Native.Nat.{ℕ, _+_, _≤_}
@@ -10,10 +10,9 @@ use lib.ListN.{length}
 use Rattle.model.specs.declared.Refusal.{Refusal}
 use Rattle.model.specs.declared.Verdict.{Verdict}
 use Rattle.model.specs.Base.{_orElse_, total}
-use Rattle.model.specs.Verdict.{verdict}
 use Rattle.model.specs.Grammar.{Rule, Grammar, ruleAt}
 use Rattle.model.specs.GrammarFile.{weightOf, recordOf, grammarRefusal, grammarOf}
-use Rattle.model.specs.WellFormed.{Right}
+use Rattle.model.specs.WellFormed.{Perm, Right}
 use Rattle.model.specs.Trace.{sentenceRefusal, traceRefusal}
 use Rattle.model.specs.Tree.{Tree, Forest, node, nil, cons, preorder, preorders, hasRoot, hasRoots, rootBy, derives, treeRefusal}
 use Rattle.model.specs.Conversions.{BelongsTo, treeOf, traceOf}
@@ -22,13 +21,13 @@ use Rattle.model.specs.Demands.{traceOfTree}
 use Rattle.model.proofs.Tests.{and-l, and-r, both-none, none-some}
 use Rattle.model.proofs.Perm.{perm-map, perm-total}
 use Rattle.model.proofs.Verdicts.{none-accepted, passed, refused, accepted}
-use Rattle.model.proofs.FromFile.{rule-is, ruleRead, accepted-right}
+use Rattle.model.proofs.FromFile.{rule-is, accepted-right}
 use Rattle.model.proofs.Analyses.{trace-rules, rooted-of}
 use Rattle.model.proofs.Reading.{accepted-derives}
 use Rattle.model.proofs.Checker.{accepted-trace}
 use Rattle.model.proofs.Demands.{belongs, tree-back, trace-short, tree-short, demand-2}
 use Rattle.model.proofs.Refusals.{trace-decided, tree-decided}
-use Rattle.weights.specs.Weights.{weightBy, weightAt, weightSum, recordsSum, largestSum, AtMost, weighTraceVerdict, weighTreeVerdict, TraceWeighed, TreeWeighed, Demand1Weighed, SameRules, BelongTogether}
+use Rattle.weights.specs.Weights.{weightBy, weightAt, weightSum, recordsSum, largestSum, TraceWeighed, TreeWeighed, Demand1Weighed, SameRules}
 
 pub demand-1-weighed : Demand1Weighed
 demand-1-weighed =
@@ -38,10 +37,12 @@ demand-1-weighed =
     }
 
 -- a trace and a tree that belong to each other
-pub same-rules : (g : Grammar) → Right g → BelongTogether g
-same-rules g right sentence trace tree h b =
-    let p = trace-rules g right sentence tree trace (rooted-of g right sentence tree h) b in
-    record { rules = p; sums = perm-total (perm-map (weightAt g) p) }
+module _ (g : Grammar) (right : Right g) where
+  permuted : (sentence trace : List ℕ) (tree : Tree) → T (derives g sentence tree) → BelongsTo g sentence trace tree → Perm trace (preorder tree)
+  permuted sentence trace tree h b = trace-rules g right sentence tree trace (rooted-of g right sentence tree h) b
+
+  pub same-rules : SameRules g
+  same-rules = record { rules = permuted; sums = λ sentence trace tree h b. perm-total (perm-map (weightAt g) (permuted sentence trace tree h b)) }
 
 -- the sum over a list, part by part
 sum-append : (f : ℕ → ℕ) (a b : List ℕ) → total (map f (a ++ b)) ≡ total (map f a) + total (map f b)
@@ -92,9 +93,11 @@ module _ (file : List ℕ) where
   module _ (sentence : List ℕ) where
     derived-weighed : Right g → (t : Tree) → T (derives g sentence t) → Weighed (traceOfTree g sentence t) (preorder t)
     derived-weighed right t h =
-        let s = same-rules g right sentence (traceOfTree g sentence t) t h (belongs g right sentence t h .traces) in
+        let trace = traceOfTree g sentence t in
+        let b = belongs g right sentence t h .traces in
+        let s = same-rules g right .sums sentence trace t h b in
         let l = tree-read t (g .start) (rooted-of g right sentence t h) in
-        record { same-sum = s .sums; trace-read = perm-total (perm-map read (s .rules)) ∙ l ∙ sym (s .sums); list-read = l }
+        record { same-sum = s; trace-read = perm-total (perm-map read (permuted g right sentence trace t h b)) ∙ l ∙ sym s; list-read = l }
 
     trace-weighed : Right g → (trace : List ℕ) → traceRefusal g sentence trace ≡ none → Weighed trace (treeOf g sentence trace)
     trace-weighed right trace e =

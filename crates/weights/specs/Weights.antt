@@ -69,10 +69,8 @@ pub record Demand1Weighed : Type 0 where
   pub tree-weighed : (file sentence tree : List ℕ)
       → Decided (checkTreeTests file sentence tree) (weightSum (grammarOf file) tree ∷ []) (verdictAnswer (weighTreeVerdict file sentence tree))
 
--- a trace and a tree that belong to each other have the same rules, each as often, in some order; so the sums are the same
-pub record SameRules (g : Grammar) (sentence trace : List ℕ) (tree : Tree) : Type 0 where
-  pub rules : Perm trace (preorder tree)
-  pub sums : weightSum g trace ≡ weightSum g (preorder tree)
-
-abbrev pub BelongTogether : Grammar → Type 0
-BelongTogether g = (sentence trace : List ℕ) (tree : Tree) → T (derives g sentence tree) → BelongsTo g sentence trace tree → SameRules g sentence trace tree
+-- "the tree that belongs to it": a trace and a tree that belong to each other have the same rules, each as often, in some order, and so the same sum
+pub record SameRules (g : Grammar) : Type 0 where
+  pub rules : (sentence trace : List ℕ) (tree : Tree) → T (derives g sentence tree) → BelongsTo g sentence trace tree → Perm trace (preorder tree)
+  pub sums : (sentence trace : List ℕ) (tree : Tree) → T (derives g sentence tree) → BelongsTo g sentence trace tree
+      → weightSum g trace ≡ weightSum g (preorder tree)

@@ -1,10 +1,8 @@
 -- `weights::sum_weights` meets its contract. The loop keeps: the whole sum is what is summed and the sum of the rest, and k weights are at most 255 each.
 -- Assumes nothing.
 use mathlib.Core.Path.{_≡_, ap, _∙_}
-use mathlib.Core.List.{map}
 use Prim.Native.Nat.{ℕ, _≤_, _-_, _+_, _*_}
 use lib.ListN.{length, drop}
-use Rattle.model.specs.Base.{total}
 use Rattle.model.specs.GrammarFile.{weightOf, recordOf}
 use Rattle.grammar.proofs.Walks.{sum-more, sum-end}
 use Rattle.weights.specs.Weights.{recordsSum}
