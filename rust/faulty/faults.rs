@@ -29,12 +29,17 @@ pub const FAULTS: &[Fault] = &[
         "        if wrong_variables(setting, record) {",
         "        if unused_not_zero(setting, record) {\n            return Err(Refusal::grammar(9, r));\n        }\n        if wrong_variables(setting, record) {",
     ),
-    ("10 compares with the record before alone", "record", "records[..r].contains(record)", "r > 0 && records[r - 1] == *record"),
+    (
+        "10 compares with the record before alone",
+        "record",
+        "records[..r].iter().any(|earlier| equal_but_for_weight(earlier, record))",
+        "r > 0 && equal_but_for_weight(&records[r - 1], record)",
+    ),
     (
         "10 of a rule tested after 6 to 9 of every rule",
         "record",
-        "        if records[..r].contains(record) {\n            return Err(Refusal::grammar(10, r));\n        }\n    }\n",
-        "    }\n    if let Some(r) = (0..records.len()).find(|&r| records[..r].contains(&records[r])) {\n        return Err(Refusal::grammar(10, r));\n    }\n",
+        "        if records[..r].iter().any(|earlier| equal_but_for_weight(earlier, record)) {\n            return Err(Refusal::grammar(10, r));\n        }\n    }\n",
+        "    }\n    if let Some(r) = (0..records.len()).find(|&r| records[..r].iter().any(|earlier| equal_but_for_weight(earlier, &records[r]))) {\n        return Err(Refusal::grammar(10, r));\n    }\n",
     ),
     (
         "6 of every rule tested before 7 of any",
@@ -51,7 +56,7 @@ pub const FAULTS: &[Fault] = &[
         "let lengths: usize = lengths_of(setting, record).iter().sum();",
         "let lengths: usize = record[7..11].iter().map(|&length| length as usize).sum();",
     ),
-    ("last byte of a record not tested", "record", "        _ => false,", "        _ => true,"),
+    ("the byte before the weight not tested", "record", "(0..WEIGHT).any(", "(0..WEIGHT - 1).any("),
     // one step: a digit for a lone variable, digits dropped otherwise or an index behind its proper prefix change no order, and no call
     // shows them; K3 in the reference's tests does
     (
