@@ -22,6 +22,12 @@ pub const FAULTS: &[Fault] = &[
         "    let last = blocks.len() - 1;\n    if blocks[last][4 + RECORD * records_held(rules, last)..508].iter().any(|&b| b != 0) {\n        return Err(Refusal::grammar(9, rules));\n    }\n    let read = read_records(&setting, &records)?;",
     ),
     ("place of the rest of the last block", "file", "Refusal::grammar(9, rules)", "Refusal::grammar(9, rules - 1)"),
+    (
+        "weights where the last block has no records",
+        "file",
+        "records_held(rules, last)..508].iter().any(|&b| b != 0)",
+        "records_held(rules, last)..508].iter().enumerate().any(|(i, &b)| b != 0 && i % RECORD != 23)",
+    ),
     // records
     (
         "9 tested before 8",
@@ -57,6 +63,26 @@ pub const FAULTS: &[Fault] = &[
         "let lengths: usize = record[7..11].iter().map(|&length| length as usize).sum();",
     ),
     ("the byte before the weight not tested", "record", "(0..WEIGHT).any(", "(0..WEIGHT - 1).any("),
+    ("9 still covers byte 23", "record", "(0..WEIGHT).any(", "(0..RECORD).any("),
+    ("9 covers byte 23 of a lexical rule", "record", "(0..WEIGHT).any(", "is_lexical(record) && record[WEIGHT] != 0 || (0..WEIGHT).any("),
+    ("255 is no weight", "record", "(0..WEIGHT).any(", "record[WEIGHT] == 255 || (0..WEIGHT).any("),
+    (
+        "unused variable bytes not tested",
+        "record",
+        "        _ => !is_lexical(record) && i - 11 < variables_of_daughters(setting, record).len(),",
+        "        _ => true,",
+    ),
+    ("10 compares the weight", "record", "earlier[..WEIGHT] == record[..WEIGHT]", "earlier == record"),
+    (
+        "10 leaves out the last two variables",
+        "record",
+        "earlier[..WEIGHT] == record[..WEIGHT]",
+        "earlier[..WEIGHT - 2] == record[..WEIGHT - 2]",
+    ),
+    ("the weight is byte 22", "record", "weight: record[WEIGHT]", "weight: record[WEIGHT - 1]"),
+    ("a lexical rule has no weight", "record", "weight: record[WEIGHT]", "weight: if is_lexical(record) { 0 } else { record[WEIGHT] }"),
+    ("a nonlexical rule has no weight", "record", "weight: record[WEIGHT]", "weight: if is_lexical(record) { record[WEIGHT] } else { 0 }"),
+    ("a weight above 127 is 127", "record", "weight: record[WEIGHT]", "weight: record[WEIGHT].min(127)"),
     // one step: a digit for a lone variable, digits dropped otherwise or an index behind its proper prefix change no order, and no call
     // shows them; K3 in the reference's tests does
     (
@@ -153,6 +179,173 @@ pub const FAULTS: &[Fault] = &[
         "if rule.category != wanted {",
         "if rule.category != wanted && (at == 0 || grammar.dimensions[rule.category] != grammar.dimensions[wanted]) {",
     ),
+    // weighing
+    (
+        "the last step not weighed",
+        "weight",
+        "    Ok(trace.iter().map(|&rule| weight_of(grammar, rule)).sum())",
+        "    Ok(trace[..trace.len() - 1].iter().map(|&rule| weight_of(grammar, rule)).sum())",
+    ),
+    (
+        "the first step's weight for every step",
+        "weight",
+        "    Ok(trace.iter().map(|&rule| weight_of(grammar, rule)).sum())",
+        "    Ok(trace.len() * weight_of(grammar, trace[0]))",
+    ),
+    (
+        "a trace's sum is that of its rule numbers",
+        "weight",
+        "    Ok(trace.iter().map(|&rule| weight_of(grammar, rule)).sum())",
+        "    Ok(trace.iter().map(|&rule| rule as usize).sum())",
+    ),
+    (
+        "a rule that a trace has twice weighs once",
+        "weight",
+        "    Ok(trace.iter().map(|&rule| weight_of(grammar, rule)).sum())",
+        "    Ok(trace.iter().collect::<std::collections::BTreeSet<_>>().into_iter().map(|&rule| weight_of(grammar, rule)).sum())",
+    ),
+    (
+        "lexical steps weigh nothing",
+        "weight",
+        "    Ok(trace.iter().map(|&rule| weight_of(grammar, rule)).sum())",
+        "    let nonlexical = |rule: &&u16| !matches!(grammar.rules[**rule as usize].body, crate::grammar::Body::Lexical(_));\n    Ok(trace.iter().filter(nonlexical).map(|&rule| weight_of(grammar, rule)).sum())",
+    ),
+    (
+        "a trace's sum cut to 8 bits",
+        "weight",
+        "    Ok(trace.iter().map(|&rule| weight_of(grammar, rule)).sum())",
+        "    Ok(trace.iter().map(|&rule| weight_of(grammar, rule)).sum::<usize>() % 256)",
+    ),
+    (
+        "a trace's sum cut to 14 bits",
+        "weight",
+        "    Ok(trace.iter().map(|&rule| weight_of(grammar, rule)).sum())",
+        "    Ok(trace.iter().map(|&rule| weight_of(grammar, rule)).sum::<usize>() % 16_384)",
+    ),
+    (
+        "a trace's sum is at most 24,479",
+        "weight",
+        "    Ok(trace.iter().map(|&rule| weight_of(grammar, rule)).sum())",
+        "    Ok(trace.iter().map(|&rule| weight_of(grammar, rule)).sum::<usize>().min(24_479))",
+    ),
+    (
+        "a refused trace gives the sum before its refusal",
+        "weight",
+        "    check_trace(grammar, sentence, trace)?;\n",
+        "    if let Err(refusal) = check_trace(grammar, sentence, trace) {\n        let before = trace.get(..refusal.place as usize).filter(|_| refusal.number >= 13);\n        return before.map(|steps| steps.iter().map(|&rule| weight_of(grammar, rule)).sum()).ok_or(refusal);\n    }\n",
+    ),
+    (
+        "a trace of existing rules weighed without its tests",
+        "weight",
+        "    check_trace(grammar, sentence, trace)?;\n",
+        "    if trace.iter().any(|&rule| rule as usize >= grammar.rules.len()) {\n        check_trace(grammar, sentence, trace)?;\n    }\n",
+    ),
+    (
+        "18 not tested before weighing",
+        "weight",
+        "    check_trace(grammar, sentence, trace)?;\n",
+        "    check_trace(grammar, sentence, trace).map(|_| ()).or_else(|refusal| if refusal.number == 18 { Ok(()) } else { Err(refusal) })?;\n",
+    ),
+    (
+        "the empty trace weighs 0",
+        "weight",
+        "    check_trace(grammar, sentence, trace)?;\n",
+        "    if trace.is_empty() {\n        return Ok(0);\n    }\n    check_trace(grammar, sentence, trace)?;\n",
+    ),
+    (
+        "a trace weighed up to step 96",
+        "weight",
+        "    check_trace(grammar, sentence, trace)?;\n",
+        "    let trace = &trace[..trace.len().min(96)];\n    check_trace(grammar, sentence, trace)?;\n",
+    ),
+    (
+        "a trace weighed by a refused grammar",
+        "reference",
+        "answer(read(file).and_then(|grammar| weigh_trace(&grammar, sentence, trace)))",
+        "answer(read(file).map_or(Ok(0), |grammar| weigh_trace(&grammar, sentence, trace)))",
+    ),
+    ("a tree weighed by its number of nodes", "weight", "    Ok(sum_from(grammar, &tree))", "    Ok(list.len())"),
+    (
+        "the root not weighed",
+        "weight",
+        "    Ok(sum_from(grammar, &tree))",
+        "    Ok(sum_from(grammar, &tree) - weight_of(grammar, tree.rule))",
+    ),
+    (
+        "third daughters not weighed",
+        "weight",
+        "node.daughters.iter().map(|daughter| sum_from(grammar, daughter)).sum();",
+        "node.daughters.iter().take(2).map(|daughter| sum_from(grammar, daughter)).sum();",
+    ),
+    (
+        "the heaviest branch weighed",
+        "weight",
+        "node.daughters.iter().map(|daughter| sum_from(grammar, daughter)).sum();",
+        "node.daughters.iter().map(|daughter| sum_from(grammar, daughter)).max().unwrap_or(0);",
+    ),
+    (
+        "lexical nodes weigh nothing",
+        "weight",
+        "    weight_of(grammar, node.rule) + below",
+        "    if node.daughters.is_empty() {\n        return 0;\n    }\n    weight_of(grammar, node.rule) + below",
+    ),
+    (
+        "a node weighs once for each daughter",
+        "weight",
+        "    weight_of(grammar, node.rule) + below",
+        "    weight_of(grammar, node.rule) * node.daughters.len().max(1) + below",
+    ),
+    ("a tree's sum cut to 8 bits", "weight", "    Ok(sum_from(grammar, &tree))", "    Ok(sum_from(grammar, &tree) % 256)"),
+    ("a tree's sum is at most 24,479", "weight", "    Ok(sum_from(grammar, &tree))", "    Ok(sum_from(grammar, &tree).min(24_479))"),
+    (
+        "a tree weighed with nodes left over",
+        "weight",
+        "    let tree = check_tree(grammar, sentence, list)?;\n",
+        "    let list = match check_tree(grammar, sentence, list) {\n        Err(refusal) if refusal.number == 21 => &list[..refusal.place as usize],\n        _ => list,\n    };\n    let tree = check_tree(grammar, sentence, list)?;\n",
+    ),
+    (
+        "22 not tested before weighing",
+        "weight",
+        "    let tree = check_tree(grammar, sentence, list)?;\n",
+        "    if check_tree(grammar, sentence, list).is_err_and(|refusal| refusal.number == 22) {\n        return Ok(list.iter().map(|&rule| weight_of(grammar, rule)).sum());\n    }\n    let tree = check_tree(grammar, sentence, list)?;\n",
+    ),
+    (
+        "a tree weighed as a trace",
+        "weight",
+        "    let tree = check_tree(grammar, sentence, list)?;\n",
+        "    return weigh_trace(grammar, sentence, list);\n    let tree = check_tree(grammar, sentence, list)?;\n",
+    ),
+    (
+        "a tree weighed up to node 96",
+        "weight",
+        "    let tree = check_tree(grammar, sentence, list)?;\n",
+        "    let list = &list[..list.len().min(96)];\n    let tree = check_tree(grammar, sentence, list)?;\n",
+    ),
+    (
+        "a tree weighed by a refused grammar",
+        "reference",
+        "answer(read(file).and_then(|grammar| weigh_tree(&grammar, sentence, tree)))",
+        "answer(read(file).map_or(Ok(0), |grammar| weigh_tree(&grammar, sentence, tree)))",
+    ),
+    // the sums alone depend on the weights
+    (
+        "the trace checker gives the sum",
+        "reference",
+        "answer(read(file).and_then(|grammar| check_trace(&grammar, sentence, trace)).map(|_| trace.len()))",
+        "answer(read(file).and_then(|grammar| weigh_trace(&grammar, sentence, trace)))",
+    ),
+    (
+        "the tree checker gives the sum",
+        "reference",
+        "answer(read(file).and_then(|grammar| check_tree(&grammar, sentence, tree)).map(|_| tree.len()))",
+        "answer(read(file).and_then(|grammar| weigh_tree(&grammar, sentence, tree)))",
+    ),
+    (
+        "a rule of weight 255 is no step of a live prefix",
+        "live",
+        "            if let Ok(next) = step(",
+        "            if self.grammar.rules[rule as usize].weight == 255 {\n                continue;\n            }\n            if let Ok(next) = step(",
+    ),
     // count and listing
     ("effort equal to the limit refused", "live", "live.effort > self.effort_limit", "live.effort >= self.effort_limit"),
     ("the empty list not counted", "reference", "effort: listing.effort as u32", "effort: listing.effort as u32 - 1"),
@@ -244,6 +437,18 @@ pub const FAULTS: &[Fault] = &[
     ),
     ("an output of 96 is too short", "reference", "out.len() < MOST", "out.len() <= MOST"),
     // writer
+    (
+        "the writer leaves the weights out",
+        "writer",
+        "        block[4..4 + held.len()].copy_from_slice(held);\n",
+        "        block[4..4 + held.len()].copy_from_slice(held);\n        for record in block[4..4 + held.len()].chunks_exact_mut(RECORD) {\n            record[23] = 0;\n        }\n",
+    ),
+    (
+        "the writer's 9 covers byte 23",
+        "writer",
+        "    read_records(&setting_of(heading),",
+        "    if let Some(r) = records.chunks(RECORD).position(|record| record[23] != 0) {\n        return Err(Refusal::grammar(9, r));\n    }\n    read_records(&setting_of(heading),",
+    ),
     (
         "the writer's 23 tested before its records",
         "reference",
