@@ -40,6 +40,14 @@ uint64_t dg_check_trace(const uint8_t *file, size_t file_len, const uint16_t *se
 uint64_t dg_check_tree(const uint8_t *file, size_t file_len, const uint16_t *sentence, size_t words,
                        const uint16_t *tree, size_t tree_len);
 
+/* The weighing of a trace, refused as by the trace checker; its value is the sum of weights, one for each step. */
+uint64_t dg_weigh_trace(const uint8_t *file, size_t file_len, const uint16_t *sentence, size_t words,
+                        const uint16_t *trace, size_t trace_len);
+
+/* The weighing of a tree, refused as by the tree checker; its value is the sum of weights, one for each node. */
+uint64_t dg_weigh_tree(const uint8_t *file, size_t file_len, const uint16_t *sentence, size_t words,
+                       const uint16_t *tree, size_t tree_len);
+
 /* The conversions; their value is the number of nodes, and they ask an output of 96 numbers. */
 uint64_t dg_trace_to_tree(const uint8_t *file, size_t file_len, const uint16_t *sentence, size_t words,
                           const uint16_t *trace, size_t trace_len, uint16_t *out, size_t out_len);

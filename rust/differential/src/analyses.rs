@@ -5,7 +5,8 @@ use reference::tree::{joined, tree_to_trace};
 
 use crate::rng::Rng;
 
-/// A sentence with a tree that derives it and the trace of that tree.
+/// A sentence, a tree and a trace; as `random` makes them, the tree derives the sentence and the trace is that of the tree.
+#[derive(Debug)]
 pub struct Analysis {
     pub sentence: Vec<u16>,
     pub tree: Vec<u16>,

@@ -11,6 +11,7 @@ use crate::grammars::{self, Made};
 use crate::rng::Rng;
 use crate::show::show_file;
 use crate::tally::Call;
+use crate::weights;
 
 pub fn case(pair: &mut Pair, rng: &mut Rng) -> Done {
     let made = grammars::random(rng);
@@ -28,7 +29,8 @@ pub fn case(pair: &mut Pair, rng: &mut Rng) -> Done {
     };
     let nodes = analysis.as_ref().map_or(3, |analysis| analysis.tree.len());
     counts(pair, rng, &made, &sentence, nodes)?;
-    mixed(pair, rng, &made, analysis.as_ref())
+    mixed(pair, rng, &made, analysis.as_ref())?;
+    other_weights(pair, rng, &made, analysis.as_ref())
 }
 
 /// The length of an output of numbers: mostly enough, often at the border.
@@ -81,7 +83,7 @@ fn writer(pair: &mut Pair, rng: &mut Rng, made: &Made) -> Done {
                     damage::record(rng, made, &mut records[r..r + 24]);
                     let other = 24 * rng.below(records.len() / 24);
                     if rng.chance(20) {
-                        records.copy_within(r..r + 24, other);
+                        damage::double(rng, &mut records, r, other);
                     }
                 }
                 _ => {}
@@ -116,14 +118,14 @@ fn round_trip_of_file(pair: &mut Pair, made: &Made) -> Done {
 
 fn right_analysis(pair: &mut Pair, rng: &mut Rng, made: &Made, analysis: &Analysis) -> Done {
     let Analysis { sentence, tree, trace } = analysis;
-    pair.check_trace(&made.file, sentence, trace)?;
-    pair.check_tree(&made.file, sentence, tree)?;
+    pair.check_and_weigh_trace(&made.file, sentence, trace)?;
+    pair.check_and_weigh_tree(&made.file, sentence, tree)?;
     pair.trace_to_tree(&made.file, sentence, trace, output(rng))?;
     pair.tree_to_trace(&made.file, sentence, tree, output(rng))?;
     round_trip_of_trace(pair, made, analysis)?;
     // each list taken for the other
-    pair.check_trace(&made.file, sentence, tree)?;
-    pair.check_tree(&made.file, sentence, trace)?;
+    pair.check_and_weigh_trace(&made.file, sentence, tree)?;
+    pair.check_and_weigh_tree(&made.file, sentence, trace)?;
     Ok(())
 }
 
@@ -147,15 +149,15 @@ fn wrong_analyses(pair: &mut Pair, rng: &mut Rng, made: &Made, analysis: &Analys
         };
         let trace = analyses::changed_list(rng, &made.grammar, &analysis.trace);
         let tree = analyses::changed_list(rng, &made.grammar, &analysis.tree);
-        pair.check_trace(&made.file, &sentence, &trace)?;
-        pair.check_tree(&made.file, &sentence, &tree)?;
+        pair.check_and_weigh_trace(&made.file, &sentence, &trace)?;
+        pair.check_and_weigh_tree(&made.file, &sentence, &tree)?;
         pair.trace_to_tree(&made.file, &sentence, &trace, output(rng))?;
         pair.tree_to_trace(&made.file, &sentence, &tree, output(rng))?;
     }
     for _ in 0..3 {
         let sentence = analyses::changed_sentence(rng, &made.grammar, &analysis.sentence);
-        pair.check_trace(&made.file, &sentence, &analysis.trace)?;
-        pair.check_tree(&made.file, &sentence, &analysis.tree)?;
+        pair.check_and_weigh_trace(&made.file, &sentence, &analysis.trace)?;
+        pair.check_and_weigh_tree(&made.file, &sentence, &analysis.tree)?;
     }
     Ok(())
 }
@@ -195,28 +197,44 @@ fn counts(pair: &mut Pair, rng: &mut Rng, made: &Made, sentence: &[u16], nodes: 
     Ok(())
 }
 
+/// A sentence and lists, each right or wrong by itself.
+fn right_or_wrong(rng: &mut Rng, made: &Made, analysis: Option<&Analysis>) -> Analysis {
+    let sentence = match (rng.below(4), analysis) {
+        (0 | 1, Some(analysis)) => analysis.sentence.clone(),
+        (2, Some(analysis)) => analyses::changed_sentence(rng, &made.grammar, &analysis.sentence),
+        _ => analyses::any_sentence(rng, &made.grammar),
+    };
+    let (trace, tree) = match analysis {
+        Some(analysis) if rng.chance(60) => (analysis.trace.clone(), analysis.tree.clone()),
+        _ => (analyses::any_list(rng, &made.grammar), analyses::any_list(rng, &made.grammar)),
+    };
+    Analysis { sentence, tree, trace }
+}
+
 /// Every argument right or wrong by itself, so that two tests meet and the first one answers.
 fn mixed(pair: &mut Pair, rng: &mut Rng, made: &Made, analysis: Option<&Analysis>) -> Done {
     for _ in 0..4 {
         let file = if rng.chance(70) { made.file.clone() } else { damage::damaged(rng, made) };
-        let sentence = match (rng.below(4), analysis) {
-            (0 | 1, Some(analysis)) => analysis.sentence.clone(),
-            (2, Some(analysis)) => analyses::changed_sentence(rng, &made.grammar, &analysis.sentence),
-            _ => analyses::any_sentence(rng, &made.grammar),
-        };
-        let (trace, tree) = match analysis {
-            Some(analysis) if rng.chance(60) => (analysis.trace.clone(), analysis.tree.clone()),
-            _ => (analyses::any_list(rng, &made.grammar), analyses::any_list(rng, &made.grammar)),
-        };
+        let Analysis { sentence, tree, trace } = right_or_wrong(rng, made, analysis);
         let node_limit = rng.pick(&[0, 1, 5, tree.len() as u64, 96, 97, (1 << 32) + 5]);
         let effort_limit = rng.pick(&[0, 1, 30, 30, 100]);
         let m = rng.pick(&[0, 0, 1, 1 << 32]);
-        pair.check_trace(&file, &sentence, &trace)?;
-        pair.check_tree(&file, &sentence, &tree)?;
+        pair.check_and_weigh_trace(&file, &sentence, &trace)?;
+        pair.check_and_weigh_tree(&file, &sentence, &tree)?;
         pair.trace_to_tree(&file, &sentence, &trace, output(rng))?;
         pair.tree_to_trace(&file, &sentence, &tree, output(rng))?;
         pair.count(&file, &sentence, node_limit, effort_limit)?;
         pair.entry(&file, &sentence, (node_limit, effort_limit), m, output(rng))?;
     }
     Ok(())
+}
+
+/// The same grammar with another weight on one rule or on all.
+fn other_weights(pair: &mut Pair, rng: &mut Rng, made: &Made, analysis: Option<&Analysis>) -> Done {
+    let (one, all) = (rng.below(made.grammar.rules.len()), rng.chance(50));
+    let other = made.with_weights(|rule| if all || rule == one { rng.byte() } else { made.grammar.rules[rule].weight });
+    let input = right_or_wrong(rng, made, analysis);
+    weights::change_sums_alone(pair, made, &other, &input)?;
+    pair.check_and_weigh_trace(&other.file, &input.sentence, &input.trace)?;
+    pair.check_and_weigh_tree(&other.file, &input.sentence, &input.tree)
 }

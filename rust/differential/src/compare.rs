@@ -85,16 +85,45 @@ impl Pair<'_> {
         self.settle(Call::WriteGrammar, answers, buffer, input)
     }
 
-    pub fn check_trace(&mut self, file: &[u8], sentence: &[u16], trace: &[u16]) -> Done {
-        let answers = (self.tested.check_trace(file, sentence, trace), Reference.check_trace(file, sentence, trace));
+    /// The trace checker and the weighing. An accepted trace has the same sum as its tree.
+    pub fn check_and_weigh_trace(&mut self, file: &[u8], sentence: &[u16], trace: &[u16]) -> Done {
         let input = || format!("sentence {sentence:?}\ntrace {trace:?}\n{}", show_file(file));
-        self.settle(Call::CheckTrace, answers, None, input)
+        let checked = (self.tested.check_trace(file, sentence, trace), Reference.check_trace(file, sentence, trace));
+        self.settle(Call::CheckTrace, checked, None, input)?;
+        let weighed = (self.tested.weigh_trace(file, sentence, trace), Reference.weigh_trace(file, sentence, trace));
+        self.settle(Call::WeighTrace, weighed, None, input)?;
+        let Answer::Accepted(sum) = weighed.0 else { return Ok(()) };
+        self.trace_to_tree(file, sentence, trace, 96)?;
+        let mut tree = [0; 96];
+        self.tested.trace_to_tree(file, sentence, trace, &mut tree);
+        let along_tree = self.tested.weigh_tree(file, sentence, &tree[..trace.len()]);
+        self.same_sum(Call::WeighTree, sum, along_tree, input)
     }
 
-    pub fn check_tree(&mut self, file: &[u8], sentence: &[u16], tree: &[u16]) -> Done {
-        let answers = (self.tested.check_tree(file, sentence, tree), Reference.check_tree(file, sentence, tree));
+    /// The tree checker and the weighing. An accepted tree has the same sum as its trace.
+    pub fn check_and_weigh_tree(&mut self, file: &[u8], sentence: &[u16], tree: &[u16]) -> Done {
         let input = || format!("sentence {sentence:?}\ntree {tree:?}\n{}", show_file(file));
-        self.settle(Call::CheckTree, answers, None, input)
+        let checked = (self.tested.check_tree(file, sentence, tree), Reference.check_tree(file, sentence, tree));
+        self.settle(Call::CheckTree, checked, None, input)?;
+        let weighed = (self.tested.weigh_tree(file, sentence, tree), Reference.weigh_tree(file, sentence, tree));
+        self.settle(Call::WeighTree, weighed, None, input)?;
+        let Answer::Accepted(sum) = weighed.0 else { return Ok(()) };
+        self.tree_to_trace(file, sentence, tree, 96)?;
+        let mut trace = [0; 96];
+        self.tested.tree_to_trace(file, sentence, tree, &mut trace);
+        let along_trace = self.tested.weigh_trace(file, sentence, &trace[..tree.len()]);
+        self.same_sum(Call::WeighTrace, sum, along_trace, input)
+    }
+
+    /// The sum of a list, and what weighing the list that belongs to it answers.
+    fn same_sum(&mut self, call: Call, sum: u32, other: Answer, input: impl FnOnce() -> String) -> Done {
+        if other != Answer::Accepted(sum) {
+            let text = format!("answer   {other:?}\nexpected {sum}, the sum of the list that belongs to it:\n{}", input());
+            return Err(Difference { call, text });
+        }
+        self.tally.sums += 1;
+        self.tally.highest_sum = self.tally.highest_sum.max(sum);
+        Ok(())
     }
 
     pub fn trace_to_tree(&mut self, file: &[u8], sentence: &[u16], trace: &[u16], out: usize) -> Done {

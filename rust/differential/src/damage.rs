@@ -15,6 +15,7 @@ pub fn damaged(rng: &mut Rng, made: &Made) -> Vec<u8> {
             2..=4 => heading(rng, made, &mut file),
             5 => record_count(rng, &mut file),
             6 => rest_of_last_block(rng, made, &mut file),
+            7 => equal_records(rng, made, &mut file),
             _ => {
                 let r = rng.below(made.grammar.rules.len());
                 let bytes = &mut file[at(r)..at(r) + 24];
@@ -136,7 +137,7 @@ pub fn record(rng: &mut Rng, made: &Made, bytes: &mut [u8]) {
         6 => bytes[11 + rng.below(12)] = rng.below(13) as u8,
         7 => bytes.swap(11 + rng.below(12), 11 + rng.below(12)),
         8 => bytes[11 + rng.below(12)] = bytes[11 + rng.below(12)],
-        9 => bytes[23] = 1 + rng.below(255) as u8,
+        9 => bytes[rng.pick(&[22, 23])] = 1 + rng.below(255) as u8,
         10 => bytes[rng.below(24)] = rng.byte(),
         _ => bytes[rng.below(24)] = 0,
     }
@@ -144,5 +145,13 @@ pub fn record(rng: &mut Rng, made: &Made, bytes: &mut [u8]) {
 
 fn equal_records(rng: &mut Rng, made: &Made, file: &mut [u8]) {
     let (a, b) = (rng.below(made.grammar.rules.len()), rng.below(made.grammar.rules.len()));
-    file.copy_within(at(a)..at(a) + 24, at(b));
+    double(rng, file, at(a), at(b));
+}
+
+/// Puts the record at one place over the record at another, half the time with another weight.
+pub fn double(rng: &mut Rng, bytes: &mut [u8], from: usize, to: usize) {
+    bytes.copy_within(from..from + 24, to);
+    if rng.chance(50) {
+        bytes[to + 23] = rng.byte();
+    }
 }

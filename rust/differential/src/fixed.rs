@@ -2,10 +2,10 @@
 
 use reference::file::BLOCK;
 use reference::live::live_prefixes;
-use reference::samples::{COPY, PAIR, SHUFFLED, SMALL};
+use reference::samples::{CHAIN, COPY, PAIR, SHUFFLED, SMALL};
 
 use crate::compare::{Done, Pair};
-use crate::damage::seal;
+use crate::damage::{at, seal};
 use crate::grammars::Made;
 
 pub fn fixed(pair: &mut Pair) -> Done {
@@ -15,6 +15,8 @@ pub fn fixed(pair: &mut Pair) -> Done {
     limits(pair)?;
     entries(pair)?;
     numbers_of_rules(pair)?;
+    weights(pair)?;
+    doubles(pair)?;
     writer(pair)?;
     lengths_of_files(pair)?;
     bytes_of_files(pair)
@@ -37,21 +39,21 @@ fn words(rules: usize) -> Made {
 fn known(pair: &mut Pair) -> Done {
     let file = &copy().file;
     let sentence = &[0, 1, 0, 1];
-    pair.check_trace(file, sentence, &[0, 1, 5, 4, 6, 5, 6])?;
+    pair.check_and_weigh_trace(file, sentence, &[0, 1, 5, 4, 6, 5, 6])?;
     pair.trace_to_tree(file, sentence, &[0, 1, 5, 4, 6, 5, 6], 96)?;
     pair.tree_to_trace(file, sentence, &[0, 1, 5, 4, 6, 6, 5], 96)?;
-    pair.check_trace(file, sentence, &[0, 1, 5, 4, 6, 6, 5])?;
+    pair.check_and_weigh_trace(file, sentence, &[0, 1, 5, 4, 6, 6, 5])?;
     pair.count(file, sentence, 7, 13)?;
     pair.count(file, sentence, 7, 12)?;
     pair.count(file, sentence, 6, 1000)?;
     for sentence in [&[0, 0][..], &[0, 1], &[0, 0, 0]] {
-        pair.check_trace(file, sentence, &[0, 3, 5, 5])?;
+        pair.check_and_weigh_trace(file, sentence, &[0, 3, 5, 5])?;
     }
     for trace in [&[0, 1, 5][..], &[0, 3, 5, 5, 5]] {
-        pair.check_trace(file, &[0, 0], trace)?;
+        pair.check_and_weigh_trace(file, &[0, 0], trace)?;
     }
     for tree in [&[0, 3, 5][..], &[0, 3, 5, 6], &[0, 3, 5, 5, 5], &[0, 3, 5, 5]] {
-        pair.check_tree(file, &[0, 0], tree)?;
+        pair.check_and_weigh_tree(file, &[0, 0], tree)?;
     }
     let file = &pair_grammar().file;
     pair.count(file, &[0, 0, 0], 5, 1_000_000)?;
@@ -71,8 +73,8 @@ fn lengths_of_lists(pair: &mut Pair) -> Done {
         trace.extend(vec![1; n]);
         for length in [trace.len(), n] {
             trace.truncate(length);
-            pair.check_trace(file, &sentence, &trace)?;
-            pair.check_tree(file, &sentence, &trace)?;
+            pair.check_and_weigh_trace(file, &sentence, &trace)?;
+            pair.check_and_weigh_tree(file, &sentence, &trace)?;
             pair.trace_to_tree(file, &sentence, &trace, 96)?;
             pair.tree_to_trace(file, &sentence, &trace, 96)?;
         }
@@ -81,7 +83,7 @@ fn lengths_of_lists(pair: &mut Pair) -> Done {
         for last in [1, 65_535] {
             let mut sentence = sentence.clone();
             sentence.push(last);
-            pair.check_trace(file, &sentence, &[0])?;
+            pair.check_and_weigh_trace(file, &sentence, &[0])?;
             pair.count(file, &sentence, 9, 500)?;
         }
     }
@@ -152,10 +154,58 @@ fn numbers_of_rules(pair: &mut Pair) -> Done {
             seal(&mut file);
             pair.read_grammar(&file)?;
         }
-        pair.check_tree(&made.file, &[rules as u16 - 1], &[rules as u16 - 1])?;
-        pair.check_trace(&made.file, &[rules as u16 - 1], &[rules as u16])?;
+        pair.check_and_weigh_tree(&made.file, &[rules as u16 - 1], &[rules as u16 - 1])?;
+        pair.check_and_weigh_trace(&made.file, &[rules as u16 - 1], &[rules as u16])?;
     }
     Ok(())
+}
+
+/// Every weight on every rule of the copy grammar, up to 97 times the highest weight, and 256 rules of different weights.
+fn weights(pair: &mut Pair) -> Done {
+    for one in 0..7 {
+        for weight in 0..=255 {
+            let made = copy().with_weights(|rule| if rule == one { weight } else { 0 });
+            pair.read_grammar(&made.file)?;
+            pair.write_grammar(&made.heading, &made.records, made.file.len())?;
+            pair.check_and_weigh_trace(&made.file, &[0, 1, 0, 1], &[0, 1, 5, 4, 6, 5, 6])?;
+            pair.check_and_weigh_tree(&made.file, &[0, 1, 0, 1], &[0, 1, 5, 4, 6, 6, 5])?;
+        }
+    }
+    let file = &Made::of_text(CHAIN).with_weights(|_| 255).file;
+    for above in 0..=96 {
+        let chain = [vec![0; above], vec![2]].concat();
+        pair.check_and_weigh_trace(file, &[0], &chain)?;
+        pair.check_and_weigh_tree(file, &[0], &chain)?;
+    }
+    let file = &words(256).with_weights(|rule| 255 - rule as u8).file;
+    for rule in 0..256 {
+        pair.check_and_weigh_trace(file, &[rule], &[rule])?;
+        pair.check_and_weigh_tree(file, &[rule], &[rule])?;
+    }
+    Ok(())
+}
+
+/// Each record of the copy grammar in the place of each other one, with the same weight and with others; and two records that differ in
+/// their last two variables alone.
+fn doubles(pair: &mut Pair) -> Done {
+    let made = copy().with_weights(|_| 1);
+    for (a, b) in (0..7).flat_map(|a| (0..7).map(move |b| (a, b))) {
+        for weight in [0, 1, 2, 255] {
+            let (mut records, mut file) = (made.records.clone(), made.file.clone());
+            records.copy_within(24 * a..24 * a + 24, 24 * b);
+            records[24 * b + 23] = weight;
+            pair.write_grammar(&made.heading, &records, 1024)?;
+            file[at(b)..at(b) + 24].copy_from_slice(&records[24 * b..24 * b + 24]);
+            seal(&mut file);
+            pair.read_grammar(&file)?;
+        }
+    }
+    let last_two = Made::of_text(
+        "S(abcdefghijkl) <- Q(a,b,c,d) Q(e,f,g,h) Q(i,j,k,l)
+         S(abcdefghijlk) <- Q(a,b,c,d) Q(e,f,g,h) Q(i,j,k,l)",
+    );
+    pair.read_grammar(&last_two.file)?;
+    pair.write_grammar(&last_two.heading, &last_two.records, 1024)
 }
 
 /// Record bytes of every length, outputs of every length, and headings in and out of range.
@@ -237,8 +287,8 @@ fn bytes_of_files(pair: &mut Pair) -> Done {
 }
 
 fn every_call(pair: &mut Pair, file: &[u8]) -> Done {
-    pair.check_trace(file, &[0, 0], &[0, 3, 5, 5])?;
-    pair.check_tree(file, &[0, 0], &[0, 3, 5, 5])?;
+    pair.check_and_weigh_trace(file, &[0, 0], &[0, 3, 5, 5])?;
+    pair.check_and_weigh_tree(file, &[0, 0], &[0, 3, 5, 5])?;
     pair.trace_to_tree(file, &[0, 0], &[0, 3, 5, 5], 96)?;
     pair.tree_to_trace(file, &[0, 0], &[0, 3, 5, 5], 96)?;
     pair.count(file, &[0, 0], 4, 20)?;

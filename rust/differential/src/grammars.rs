@@ -1,10 +1,11 @@
-//! Random grammars that the reader accepts: dimensions 1 to 4, empty words and components, 1 to 3 daughters, 1 to 256 rules.
+//! Random grammars that the reader accepts: dimensions 1 to 4, empty words and components, 1 to 3 daughters, 1 to 256 rules, with weights
+//! and without.
 
 use std::collections::HashSet;
 
 use reference::file::read;
 use reference::grammar::{Grammar, EMPTY_WORD};
-use reference::notation::parts;
+use reference::notation::{parts, put_weights};
 use reference::samples::SMALL;
 use reference::writer::write;
 use reference::Heading;
@@ -30,9 +31,31 @@ impl Made {
         let (heading, records) = parts(text);
         Made::new(heading, records)
     }
+
+    /// The same grammar, with these weights of its rules.
+    pub fn with_weights(&self, weight_of: impl FnMut(usize) -> u8) -> Made {
+        let mut records = self.records.clone();
+        put_weights(&mut records, (0..).map(weight_of));
+        Made::new(self.heading.clone(), records)
+    }
 }
 
+/// A random grammar: four of ten have no weights, one of ten has the highest on every rule.
 pub fn random(rng: &mut Rng) -> Made {
+    let made = without_weights(rng);
+    match rng.below(10) {
+        0..=3 => made,
+        4 => made.with_weights(|_| 255),
+        5 => {
+            let one = rng.below(made.grammar.rules.len());
+            let weight = rng.byte();
+            made.with_weights(|rule| if rule == one { weight } else { 0 })
+        }
+        _ => made.with_weights(|_| rng.byte()),
+    }
+}
+
+fn without_weights(rng: &mut Rng) -> Made {
     match rng.below(20) {
         0 => Made::of_text(rng.pick(&SMALL)),
         1..=8 => sized(rng, (1, 4), (1, 10), (1, 3)),

@@ -12,6 +12,7 @@ mod rng;
 mod self_test;
 mod show;
 mod tally;
+mod weights;
 
 use std::process::ExitCode;
 use std::time::Instant;
@@ -79,6 +80,10 @@ fn run(tested: &dyn Calls, options: &Options) -> bool {
     let tally = &pair.tally;
     print!("{tally}");
     println!("{} round trips, {} listings by trees and by live prefixes", tally.round_trips, tally.agreements);
+    println!(
+        "{} sums along a trace and along its tree, the highest {}; {} grammars with other weights",
+        tally.sums, tally.highest_sum, tally.reweighed
+    );
     if options.program.is_some() {
         println!("{} runs of the program", tally.programs);
     }

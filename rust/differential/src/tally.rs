@@ -10,6 +10,8 @@ pub enum Call {
     WriteGrammar,
     CheckTrace,
     CheckTree,
+    WeighTrace,
+    WeighTree,
     TraceToTree,
     TreeToTrace,
     Count,
@@ -17,11 +19,13 @@ pub enum Call {
     Survey,
 }
 
-pub const CALLS: [Call; 9] = [
+pub const CALLS: [Call; 11] = [
     Call::ReadGrammar,
     Call::WriteGrammar,
     Call::CheckTrace,
     Call::CheckTree,
+    Call::WeighTrace,
+    Call::WeighTree,
     Call::TraceToTree,
     Call::TreeToTrace,
     Call::Count,
@@ -38,8 +42,8 @@ impl Call {
         match self {
             Call::ReadGrammar => file.collect(),
             Call::WriteGrammar => (4..=10).chain([23]).collect(),
-            Call::CheckTrace => file.chain(trace).collect(),
-            Call::CheckTree => file.chain(tree).collect(),
+            Call::CheckTrace | Call::WeighTrace => file.chain(trace).collect(),
+            Call::CheckTree | Call::WeighTree => file.chain(tree).collect(),
             Call::TraceToTree => file.chain(trace).chain([23]).collect(),
             Call::TreeToTrace => file.chain(tree).chain([23]).collect(),
             Call::Count => file.chain([11, 24, 25]).collect(),
@@ -49,20 +53,28 @@ impl Call {
     }
 }
 
+/// The highest sum of weights: 255 for each of 96 steps or nodes.
+const HIGHEST_SUM: u32 = 96 * 255;
+
 /// For each call how often it was accepted (at 0) and how often each refusal was met.
 pub struct Tally {
-    met: [[u64; 27]; 9],
+    met: [[u64; 27]; CALLS.len()],
     /// Listings where trees and live prefixes were compared.
     pub agreements: u64,
     /// Round trips: a file's fields written again, a trace to its tree and back.
     pub round_trips: u64,
+    /// Sums of weights compared along a trace and along its tree.
+    pub sums: u64,
+    pub highest_sum: u32,
+    /// Grammars compared with themselves under other weights.
+    pub reweighed: u64,
     /// Runs of the program.
     pub programs: u64,
 }
 
 impl Tally {
     pub fn new() -> Tally {
-        Tally { met: [[0; 27]; 9], agreements: 0, round_trips: 0, programs: 0 }
+        Tally { met: [[0; 27]; CALLS.len()], agreements: 0, round_trips: 0, sums: 0, highest_sum: 0, reweighed: 0, programs: 0 }
     }
 
     pub fn add(&mut self, call: Call, answer: Answer) {
@@ -91,6 +103,9 @@ impl Tally {
                     missing.push(format!("{call:?} never met refusal {number}"));
                 }
             }
+        }
+        if self.highest_sum < HIGHEST_SUM {
+            missing.push(format!("no analysis had the sum {HIGHEST_SUM}"));
         }
         missing
     }

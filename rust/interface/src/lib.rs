@@ -32,7 +32,8 @@ impl Refusal {
 /// A verdict: the values of the call, or its refusal.
 #[derive(Clone, Copy, Debug, PartialEq, Eq)]
 pub enum Answer {
-    /// A node count; of the reader R, of the survey C, of the writer the file's length, of an entry its number of steps.
+    /// A node count; of the reader R, of the survey C, of the writer the file's length, of an entry its number of steps, of a weighing
+    /// the sum of weights.
     Accepted(u32),
     Counted {
         count: u32,
@@ -58,6 +59,7 @@ pub trait Calls: TreeCalls {
     fn read_grammar(&self, file: &[u8]) -> Answer;
     fn write_grammar(&self, heading: &Heading, records: &[u8], out: &mut [u8]) -> Answer;
     fn check_trace(&self, file: &[u8], sentence: &[u16], trace: &[u16]) -> Answer;
+    fn weigh_trace(&self, file: &[u8], sentence: &[u16], trace: &[u16]) -> Answer;
     fn count(&self, file: &[u8], sentence: &[u16], node_limit: u64, effort_limit: u64) -> Answer;
     fn entry(&self, file: &[u8], sentence: &[u16], node_limit: u64, effort_limit: u64, entry: u64, out: &mut [u16]) -> Answer;
     fn survey(&self, file: &[u8], out: &mut [u16]) -> Answer;
@@ -66,6 +68,7 @@ pub trait Calls: TreeCalls {
 /// The public calls on derivation trees.
 pub trait TreeCalls {
     fn check_tree(&self, file: &[u8], sentence: &[u16], tree: &[u16]) -> Answer;
+    fn weigh_tree(&self, file: &[u8], sentence: &[u16], tree: &[u16]) -> Answer;
     fn trace_to_tree(&self, file: &[u8], sentence: &[u16], trace: &[u16], out: &mut [u16]) -> Answer;
     fn tree_to_trace(&self, file: &[u8], sentence: &[u16], tree: &[u16], out: &mut [u16]) -> Answer;
 }

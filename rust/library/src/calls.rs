@@ -21,6 +21,7 @@ extern "C" {
         out_len: usize,
     ) -> u64;
     fn dg_check_trace(file: *const u8, file_len: usize, sentence: *const u16, words: usize, trace: *const u16, trace_len: usize) -> u64;
+    fn dg_weigh_trace(file: *const u8, file_len: usize, sentence: *const u16, words: usize, trace: *const u16, trace_len: usize) -> u64;
     fn dg_count(file: *const u8, file_len: usize, sentence: *const u16, words: usize, node_limit: u64, effort_limit: u64) -> u64;
     fn dg_entry(
         file: *const u8,
@@ -82,6 +83,10 @@ impl Calls for Library {
 
     fn check_trace(&self, file: &[u8], sentence: &[u16], trace: &[u16]) -> Answer {
         verdict(unsafe { dg_check_trace(at(file), file.len(), at(sentence), sentence.len(), at(trace), trace.len()) })
+    }
+
+    fn weigh_trace(&self, file: &[u8], sentence: &[u16], trace: &[u16]) -> Answer {
+        verdict(unsafe { dg_weigh_trace(at(file), file.len(), at(sentence), sentence.len(), at(trace), trace.len()) })
     }
 
     fn count(&self, file: &[u8], sentence: &[u16], node_limit: u64, effort_limit: u64) -> Answer {

@@ -7,6 +7,7 @@ use crate::calls::{at, at_mut, Library};
 
 extern "C" {
     fn dg_check_tree(file: *const u8, file_len: usize, sentence: *const u16, words: usize, tree: *const u16, tree_len: usize) -> u64;
+    fn dg_weigh_tree(file: *const u8, file_len: usize, sentence: *const u16, words: usize, tree: *const u16, tree_len: usize) -> u64;
     fn dg_trace_to_tree(
         file: *const u8,
         file_len: usize,
@@ -32,6 +33,10 @@ extern "C" {
 impl TreeCalls for Library {
     fn check_tree(&self, file: &[u8], sentence: &[u16], tree: &[u16]) -> Answer {
         verdict(unsafe { dg_check_tree(at(file), file.len(), at(sentence), sentence.len(), at(tree), tree.len()) })
+    }
+
+    fn weigh_tree(&self, file: &[u8], sentence: &[u16], tree: &[u16]) -> Answer {
+        verdict(unsafe { dg_weigh_tree(at(file), file.len(), at(sentence), sentence.len(), at(tree), tree.len()) })
     }
 
     fn trace_to_tree(&self, file: &[u8], sentence: &[u16], trace: &[u16], out: &mut [u16]) -> Answer {

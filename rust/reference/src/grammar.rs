@@ -1,4 +1,4 @@
-//! A grammar, as document 01 describes it ("A grammar").
+//! A grammar, as document 01 describes it ("A grammar"), with a weight on each rule (document 02, paper 1).
 
 /// 65,535 in a record's word field: the empty word.
 pub const EMPTY_WORD: u16 = 65_535;
@@ -16,6 +16,8 @@ pub struct Grammar {
 pub struct Rule {
     pub category: usize,
     pub body: Body,
+    /// Of every rule, lexical or not.
+    pub weight: u8,
 }
 
 #[derive(Clone, Debug, PartialEq, Eq)]

@@ -11,15 +11,29 @@
 
 use crate::calls::Heading;
 use crate::grammar::EMPTY_WORD;
+use crate::record::{RECORD, WEIGHT};
 use crate::writer::write;
 
 /// The grammar file of a text. A test that gives a wrong text stops.
 pub fn grammar_file(text: &str) -> Vec<u8> {
-    let (heading, records) = parts(text);
+    weighted_file(text, &[])
+}
+
+/// The grammar file of a text whose rules have these weights in turn; those past the last one have weight 0.
+pub fn weighted_file(text: &str, weights: &[u8]) -> Vec<u8> {
+    let (heading, mut records) = parts(text);
+    put_weights(&mut records, weights.iter().copied());
     write(&heading, &records).expect("the text is a grammar")
 }
 
-/// The writer's input for a text.
+/// Puts weights into records, in turn.
+pub fn put_weights(records: &mut [u8], weights: impl Iterator<Item = u8>) {
+    for (record, weight) in records.chunks_exact_mut(RECORD).zip(weights) {
+        record[WEIGHT] = weight;
+    }
+}
+
+/// The writer's input for a text, without weights.
 pub fn parts(text: &str) -> (Heading, Vec<u8>) {
     let mut categories = Categories { names: vec![], dimensions: vec![] };
     let mut words = 1;

@@ -7,6 +7,9 @@ pub const RECORD: usize = 24;
 
 pub type Record = [u8; RECORD];
 
+/// Byte 23 is the rule's weight.
+pub const WEIGHT: usize = 23;
+
 /// The records that stand in these bytes, one after the other.
 pub fn records_in(bytes: &[u8]) -> impl Iterator<Item = Record> + '_ {
     bytes.chunks_exact(RECORD).map(|record| record.try_into().expect("a record has 24 bytes"))
@@ -33,7 +36,7 @@ pub fn read_records(setting: &Setting, records: &[Record]) -> Result<Vec<Rule>, 
         if unused_not_zero(setting, record) {
             return Err(Refusal::grammar(9, r));
         }
-        if records[..r].contains(record) {
+        if records[..r].iter().any(|earlier| equal_but_for_weight(earlier, record)) {
             return Err(Refusal::grammar(10, r));
         }
     }
@@ -64,11 +67,12 @@ fn wrong_variables(setting: &Setting, record: &Record) -> bool {
     lengths != wanted.len() || wanted.iter().any(|v| given.iter().filter(|&g| g == v).count() != 1)
 }
 
-/// 9: unused byte not 0. Fields that a rule of its kind lacks are unused.
+/// 9: unused byte not 0. Fields that a rule of its kind lacks are unused. "Refusal 9 no longer covers byte 23."
 fn unused_not_zero(setting: &Setting, record: &Record) -> bool {
-    (0..RECORD).any(|i| record[i] != 0 && !used(setting, record, i))
+    (0..WEIGHT).any(|i| record[i] != 0 && !used(setting, record, i))
 }
 
+/// Whether the rule has a field at byte i, from 0 to 22.
 fn used(setting: &Setting, record: &Record, i: usize) -> bool {
     let daughters = record[1] as usize;
     match i {
@@ -76,9 +80,13 @@ fn used(setting: &Setting, record: &Record, i: usize) -> bool {
         2..=4 => i - 2 < daughters,
         5 | 6 => is_lexical(record),
         7..=10 => !is_lexical(record) && i - 7 < setting.dimensions[record[0] as usize],
-        11..=22 => !is_lexical(record) && i - 11 < variables_of_daughters(setting, record).len(),
-        _ => false,
+        _ => !is_lexical(record) && i - 11 < variables_of_daughters(setting, record).len(),
     }
+}
+
+/// 10: "Two records that differ only in weight still meet refusal 10."
+fn equal_but_for_weight(earlier: &Record, record: &Record) -> bool {
+    earlier[..WEIGHT] == record[..WEIGHT]
 }
 
 fn is_lexical(record: &Record) -> bool {
@@ -110,11 +118,16 @@ fn variables_of_daughters(setting: &Setting, record: &Record) -> Vec<u8> {
 }
 
 fn rule_of(setting: &Setting, record: &Record) -> Rule {
-    let category = record[0] as usize;
-    if is_lexical(record) {
-        let word = word_of(record);
-        return Rule { category, body: Body::Lexical(if word == EMPTY_WORD { None } else { Some(word) }) };
-    }
+    let body = if is_lexical(record) { lexical_body(record) } else { nonlexical_body(setting, record) };
+    Rule { category: record[0] as usize, body, weight: record[WEIGHT] }
+}
+
+fn lexical_body(record: &Record) -> Body {
+    let word = word_of(record);
+    Body::Lexical(if word == EMPTY_WORD { None } else { Some(word) })
+}
+
+fn nonlexical_body(setting: &Setting, record: &Record) -> Body {
     let mut at = 11;
     let mut components = Vec::new();
     for length in lengths_of(setting, record) {
@@ -122,5 +135,5 @@ fn rule_of(setting: &Setting, record: &Record) -> Rule {
         components.push(variables.map(|v| Variable { daughter: v / 4, component: v % 4 }).collect());
         at += length;
     }
-    Rule { category, body: Body::Nonlexical { daughters: daughters_of(record).collect(), components } }
+    Body::Nonlexical { daughters: daughters_of(record).collect(), components }
 }

@@ -6,6 +6,7 @@ use crate::listing::{entry, listing};
 use crate::survey::least_heights;
 use crate::trace::{check_trace, trace_to_tree, MOST};
 use crate::tree::{check_tree, tree_to_trace};
+use crate::weight::{weigh_trace, weigh_tree};
 use crate::writer::write;
 
 pub struct Reference;
@@ -82,6 +83,10 @@ impl Calls for Reference {
         answer(read(file).and_then(|grammar| check_trace(&grammar, sentence, trace)).map(|_| trace.len()))
     }
 
+    fn weigh_trace(&self, file: &[u8], sentence: &[u16], trace: &[u16]) -> Answer {
+        answer(read(file).and_then(|grammar| weigh_trace(&grammar, sentence, trace)))
+    }
+
     fn count(&self, file: &[u8], sentence: &[u16], node_limit: u64, effort_limit: u64) -> Answer {
         match read(file).and_then(|grammar| listing(&grammar, sentence, node_limit, effort_limit)) {
             Ok(listing) => Answer::Counted { count: listing.traces.len() as u32, effort: listing.effort as u32 },
@@ -101,6 +106,10 @@ impl Calls for Reference {
 impl TreeCalls for Reference {
     fn check_tree(&self, file: &[u8], sentence: &[u16], tree: &[u16]) -> Answer {
         answer(read(file).and_then(|grammar| check_tree(&grammar, sentence, tree)).map(|_| tree.len()))
+    }
+
+    fn weigh_tree(&self, file: &[u8], sentence: &[u16], tree: &[u16]) -> Answer {
+        answer(read(file).and_then(|grammar| weigh_tree(&grammar, sentence, tree)))
     }
 
     fn trace_to_tree(&self, file: &[u8], sentence: &[u16], trace: &[u16], out: &mut [u16]) -> Answer {

@@ -3,7 +3,7 @@
 use reference::file::read;
 use reference::listing::traces_of_trees;
 use reference::live::live_prefixes;
-use reference::notation::grammar_file;
+use reference::notation::{grammar_file, weighted_file};
 use reference::samples::{SMALL, TWELVE};
 use reference::survey::{least_heights, survey_is_right};
 use reference::{Answer, Calls, Reference, TreeCalls};
@@ -59,8 +59,10 @@ fn six_words_of_twelve_variables() {
 
 #[test]
 fn round_trips_of_the_listing() {
+    // all different, and no rule's own number
+    let weights: Vec<u8> = (0..20).map(|rule| 255 - 11 * rule).collect();
     for text in SMALL {
-        let file = grammar_file(text);
+        let file = weighted_file(text, &weights);
         let grammar = read(&file).unwrap();
         for sentence in sentences(grammar.words.min(2), 4) {
             let Some(live) = live_prefixes(&grammar, &sentence, 10, 2_000) else { continue };
@@ -70,6 +72,9 @@ fn round_trips_of_the_listing() {
                 assert_eq!(Reference.trace_to_tree(&file, &sentence, trace, &mut tree), n);
                 assert_eq!(Reference.tree_to_trace(&file, &sentence, &tree[..trace.len()], &mut back), n);
                 assert_eq!(&back[..trace.len()], trace);
+                let sum = Answer::Accepted(trace.iter().map(|&rule| weights[rule as usize] as u32).sum());
+                assert_eq!(Reference.weigh_trace(&file, &sentence, trace), sum);
+                assert_eq!(Reference.weigh_tree(&file, &sentence, &tree[..trace.len()]), sum);
             }
         }
     }

@@ -1,7 +1,7 @@
-//! Every refusal of document 01 at least once, with its place and whose it is.
+//! Every refusal of document 01 at least once, with its place and whose it is, as paper 1 of document 02 has them.
 
 use reference::file::{check, BLOCK};
-use reference::notation::{grammar_file, parts};
+use reference::notation::{grammar_file, parts, weighted_file};
 use reference::program::{output, sentence_file};
 use reference::samples::{COPY, PAIR};
 use reference::{Answer, Calls, Reference, Refusal, TreeCalls};
@@ -145,11 +145,16 @@ fn refusal_9_unused_bytes() {
     assert_eq!(read_with(&[(at(0, 5), 255), (at(0, 6), 255)]), grammar(9, 0));
     assert_eq!(read_with(&[(at(0, 8), 1)]), grammar(9, 0));
     assert_eq!(read_with(&[(at(0, 13), 1)]), grammar(9, 0));
-    assert_eq!(read_with(&[(at(3, 23), 1)]), grammar(9, 3));
+    assert_eq!(read_with(&[(at(3, 22), 1)]), grammar(9, 3));
+    assert_eq!(read_with(&[(at(3, 22), 1), (at(3, 23), 1)]), grammar(9, 3));
     assert_eq!(read_with(&[(at(5, 2), 1)]), grammar(9, 5));
     assert_eq!(read_with(&[(at(5, 7), 1)]), grammar(9, 5));
     assert_eq!(read_with(&[(at(5, 22), 1)]), grammar(9, 5));
     assert_eq!(read_with(&[(at(7, 0), 1)]), grammar(9, 7));
+    // no record, so no weight
+    for r in 7..21 {
+        assert_eq!(read_with(&[(at(r, 23), 1)]), grammar(9, 7));
+    }
     assert_eq!(read_with(&[(BLOCK + 507, 1)]), grammar(9, 7));
     assert_eq!(read_with(&[(BLOCK + 507, 1), (at(6, 0), 9)]), grammar(6, 6));
 }
@@ -158,6 +163,10 @@ fn refusal_9_unused_bytes() {
 fn refusal_10_equal_records() {
     assert_eq!(read_with(&[(at(6, 0), 2), (at(6, 5), 0)]), grammar(10, 6));
     assert_eq!(read_with(&[(at(1, 2), 3), (at(1, 4), 3), (at(6, 0), 99)]), grammar(10, 2));
+    // the same two doubles, which now differ only in weight
+    assert_eq!(read_with(&[(at(6, 0), 2), (at(6, 5), 0), (at(6, 23), 1)]), grammar(10, 6));
+    assert_eq!(read_with(&[(at(6, 0), 2), (at(6, 5), 0), (at(5, 23), 255)]), grammar(10, 6));
+    assert_eq!(read_with(&[(at(1, 2), 3), (at(1, 4), 3), (at(1, 23), 7), (at(2, 23), 8)]), grammar(10, 2));
 }
 
 #[test]
@@ -167,6 +176,8 @@ fn the_grammar_comes_first() {
     let mut out = [7; 200];
     assert_eq!(Reference.check_trace(&file, &sentence, &[]), grammar(3, 0));
     assert_eq!(Reference.check_tree(&file, &sentence, &[]), grammar(3, 0));
+    assert_eq!(Reference.weigh_trace(&file, &sentence, &[]), grammar(3, 0));
+    assert_eq!(Reference.weigh_tree(&file, &sentence, &[]), grammar(3, 0));
     assert_eq!(Reference.trace_to_tree(&file, &sentence, &[], &mut out[..3]), grammar(3, 0));
     assert_eq!(Reference.tree_to_trace(&file, &sentence, &[], &mut out[..3]), grammar(3, 0));
     assert_eq!(Reference.count(&file, &sentence, 0, 0), grammar(3, 0));
@@ -178,16 +189,22 @@ fn the_grammar_comes_first() {
 #[test]
 fn refusal_11_sentence() {
     let file = grammar_file(COPY);
-    assert_eq!(Reference.check_trace(&file, &[9; 97], &[0; 97]), analysis(11, 96));
-    assert_eq!(Reference.check_trace(&file, &[0, 1, 2, 3], &[0; 97]), analysis(11, 2));
-    assert_eq!(Reference.check_tree(&file, &[0, 65_535], &[]), analysis(11, 1));
+    for check in [Reference::check_trace, Reference::weigh_trace, Reference::check_tree, Reference::weigh_tree] {
+        assert_eq!(check(&Reference, &file, &[9; 97], &[0; 97]), analysis(11, 96));
+        assert_eq!(check(&Reference, &file, &[0, 1, 2, 3], &[0; 97]), analysis(11, 2));
+        assert_eq!(check(&Reference, &file, &[0, 65_535], &[]), analysis(11, 1));
+    }
     assert_eq!(Reference.count(&file, &[2], 1, 1), analysis(11, 0));
 }
 
 #[test]
 fn refusals_12_to_18_trace() {
-    let file = grammar_file(COPY);
-    let check = |sentence: &[u16], trace: &[u16]| Reference.check_trace(&file, sentence, trace);
+    let file = weighted_file(COPY, &[3; 7]);
+    let check = |sentence: &[u16], trace: &[u16]| {
+        let refused = Reference.check_trace(&file, sentence, trace);
+        assert_eq!(Reference.weigh_trace(&file, sentence, trace), refused);
+        refused
+    };
     assert_eq!(check(&[], &[9; 97]), analysis(12, 0));
     assert_eq!(check(&[], &[]), analysis(17, 0));
     assert_eq!(check(&[], &[9; 96]), analysis(13, 0));
@@ -205,8 +222,12 @@ fn refusals_12_to_18_trace() {
 
 #[test]
 fn refusals_12_to_22_tree() {
-    let file = grammar_file(COPY);
-    let check = |sentence: &[u16], tree: &[u16]| Reference.check_tree(&file, sentence, tree);
+    let file = weighted_file(COPY, &[3; 7]);
+    let check = |sentence: &[u16], tree: &[u16]| {
+        let refused = Reference.check_tree(&file, sentence, tree);
+        assert_eq!(Reference.weigh_tree(&file, sentence, tree), refused);
+        refused
+    };
     assert_eq!(check(&[], &[9; 97]), analysis(12, 0));
     assert_eq!(check(&[], &[]), analysis(19, 0));
     assert_eq!(check(&[0, 0], &[0, 3, 5]), analysis(19, 3));
@@ -272,6 +293,8 @@ fn writer() {
     assert_eq!(Reference.write_grammar(&heading, &bytes, &mut []), grammar(8, 0));
     bytes = records.clone();
     bytes.copy_within(24 * 5..24 * 6, 24 * 6);
+    assert_eq!(Reference.write_grammar(&heading, &bytes, &mut []), grammar(10, 6));
+    bytes[24 * 6 + 23] = 1;
     assert_eq!(Reference.write_grammar(&heading, &bytes, &mut []), grammar(10, 6));
 }
 
