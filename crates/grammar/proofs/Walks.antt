@@ -8,7 +8,7 @@ use native.Mathlib.Omega.{arith}
 use native.Mathlib.Numerals.{add-one}
 use borrow.Author.Tests.{eq-eqb, ne-eqb}
 use lib.Dec.{eqb}
-use lib.ListN.{length, getD, drop, drop-of-length-le}
+use lib.ListN.{length, getD, take, drop, drop-of-length-le}
 use lib.Seq.{drop-cons}
 use Rattle.model.specs.Base.{every, occurrences, total, sameList}
 use Rattle.model.specs.GrammarFile.{weighted}
@@ -77,3 +77,10 @@ same-length (x ∷ a) (y ∷ b) d = go (eqb x y) (same-length a b (λ e. d (ap s
     go : (t : Bool) → sameList a b ≡ false → t && sameList a b ≡ false
     go true e = e
     go false e = refl
+
+-- lists that begin with different numbers
+pub differ-at-first : (n : ℕ) (a b : List ℕ) → (getD a 0 0 ≡ getD b 0 0 → ⊥) → sameList (take (suc n) a) (take (suc n) b) ≡ false
+differ-at-first n [] [] h = absurd (h refl)
+differ-at-first n [] (y ∷ b) h = refl
+differ-at-first n (x ∷ a) [] h = refl
+differ-at-first n (x ∷ a) (y ∷ b) h = rw (ne-eqb x y h)

@@ -4,6 +4,7 @@ ghost use Prim.Native.Nat.{_<_};
 ghost use lib.ListN.{length};
 ghost use Rattle.model.specs.Base.{occurrences, sameList, total};
 ghost use Rattle.model.specs.GrammarFile.{allZero, fields, weighted, sameRecord};
+use crate::bytes::byte;
 use crate::bytes::fields;
 
 // Whether every byte is 0.
@@ -87,9 +88,12 @@ pub fn same_bytes(a: &[u8], b: &[u8]) -> bool
     true
 }
 
-// Whether two records are the same, weight aside.
+// Whether two records are the same, weight aside. Most differ in their category, byte 0, and are then compared no further.
 pub fn same_record(a: &[u8], b: &[u8]) -> bool
     ensures { λ r. ⌜ r ≡ sameRecord (now (a .entry)) (now (b .entry)) ⌝ }
 {
+    if byte(a, 0) != byte(b, 0) {
+        return false;
+    }
     same_bytes(fields(a, 0, 23), fields(b, 0, 23))
 }
