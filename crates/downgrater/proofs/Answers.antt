@@ -2,13 +2,15 @@
 -- Assumes nothing.
 use mathlib.Core.Path.{_≡_, refl, sym, subst}
 use mathlib.Core.List.{List}
+use mathlib.Core.Option.{Option}
 use Prim.Native.Nat.{ℕ}
+use Rattle.model.specs.declared.Refusal.{Refusal}
 use Rattle.model.specs.declared.Verdict.{Verdict}
 use Rattle.model.specs.declared.CountVerdict.{CountVerdict}
 use Rattle.model.specs.Calls.{SurveyOutcome}
 use Rattle.downgrater.specs.Packing.{ValueFits, CountsFit, Says, SaysCount}
-use Rattle.downgrater.specs.Exports.{surveyVerdict, SaysTraceSum, SaysTreeSum}
-use Rattle.weights.specs.Weights.{TraceWeighed, TreeWeighed}
+use Rattle.downgrater.specs.Exports.{surveyVerdict, SaysBoth}
+use Rattle.weights.specs.Weights.{Weighed}
 
 -- the verdict v that is packed is the model's w
 module _ (v w : Verdict) (is : v ≡ w) where
@@ -29,9 +31,5 @@ pub surveyed : (file out : List ℕ) (v : Verdict) (after : List ℕ) → Survey
 surveyed file out v after s = record { figures = s .figures; figures-right = s .figures-right; verdict-is = refl; output-is = s .output-is }
 
 -- the sums of weights
-module _ (file sentence list : List ℕ) (v : Verdict) (x : ℕ) (says : Says v x) where
-  pub trace-sum-said : TraceWeighed file sentence list v → SaysTraceSum file sentence list x
-  trace-sum-said w = record { along-trace = said v _ (w .verdict-is) x says; along-tree = λ e. said v _ (w .same-sum e) x says }
-
-  pub tree-sum-said : TreeWeighed file sentence list v → SaysTreeSum file sentence list x
-  tree-sum-said w = record { along-tree = said v _ (w .verdict-is) x says; along-trace = λ e. said v _ (w .same-sum e) x says }
+pub sum-said : {o : Option Refusal} {own belonging v : Verdict} (x : ℕ) → Says v x → Weighed o own belonging v → SaysBoth o own belonging x
+sum-said x says w = record { says-own = said _ _ (w .verdict-is) x says; says-belonging = λ e. said _ _ (w .same-sum e) x says }

@@ -10,13 +10,14 @@ use Prim.Native.Nat.{ℕ, zero, suc, _+_, _-_, _/_, _<_, _≤_}
 use native.Mathlib.Omega.{arith}
 use native.Mathlib.Decide.{decLt}
 use borrow.Author.Tests.{lt-ltb, le-ltb}
-use lib.Dec.{T, eqb, eqb→eq}
+use lib.Dec.{T, eqb}
 use lib.ListN.{length, getD, getElem?, take, drop, List·getD-eq-default}
 use lib.Seq.{drop-drop}
 use Rattle.model.specs.Base.{if_then_else_, sumBelow, numbersFrom}
 use Rattle.model.specs.Grammar.{Variable, Rule, ruleAt, dimension, isLexical}
 use Rattle.model.specs.GrammarFile.{fields, field, allZero, daughtersOf, lengthsOf, variables, dimensionIn, dimensionsOf, rulesOf, recordOf, unusedBytes, grammarRefusal, decoded, sequences, ruleOf, grammarOf}
-use Rattle.model.proofs.Tests.{not-off, every-getD, every-left, every-right}
+use Rattle.model.proofs.Tests.{not-off, every-left, every-right}
+use Rattle.model.proofs.ByteLists.{zero-field}
 use Rattle.model.proofs.Lists.{map-in, mem-getD}
 use Rattle.model.proofs.Perm.{perm-mem}
 use Rattle.model.proofs.Variables.{parts-length, vars-out}
@@ -72,10 +73,6 @@ module _ (file : List ℕ) (accepted : grammarRefusal file ≡ none) (r : ℕ) (
   dim-four : dim ≤ 4
   dim-four = dimensions-four file accepted (field e 0)
 
-  unused-zero : (i k j : ℕ) → i + k ≤ 24 → T (allZero (fields e i k)) → j < k → field e (i + j) ≡ 0
-  unused-zero i k j h t l =
-      sym (eqb→eq 0 (getD (fields e i k) j 0) (every-getD (eqb 0) (fields e i k) t j (omega (arith, field-length (grammarOf file) e tested i k h))) ∙ field-at (grammarOf file) e tested i k j l)
-
   -- a length that the rule lacks
   length-lacking : 0 < n → (k : ℕ) → dim ≤ k → k < 4 → field e (7 + k) ≡ 0
   length-lacking h k a b =
@@ -85,13 +82,12 @@ module _ (file : List ℕ) (accepted : grammarRefusal file ≡ none) (r : ℕ) (
       let D = fields e (11 + variables d e) (12 - variables d e) in
       let t : T (allZero (A ++ B ++ C ++ D)) = rw (lt-ltb 0 n h) at nothing-unused in
       let u : T (allZero C) = every-right (eqb 0) (A ++ B) C (every-left (eqb 0) (A ++ B ++ C) D t) in
-      let z : 7 + dim + (k - dim) ≡ 7 + k = omega arith in
-      subst (λ (i : ℕ). field e i ≡ 0) z (unused-zero (7 + dim) (4 - dim) (k - dim) (omega (arith, dim-four)) u (omega arith))
+      zero-field e (7 + dim) (4 - dim) u (7 + k) (k - dim) (omega arith) (omega arith)
 
   length-lexical : n ≡ 0 → (k : ℕ) → k < 4 → field e (7 + k) ≡ 0
   length-lexical h k b =
       let t : T (allZero (fields e 2 3 ++ fields e 7 16)) = rw (le-ltb 0 n (omega arith)) at nothing-unused in
-      unused-zero 7 16 k (omega arith) (every-right (eqb 0) (fields e 2 3) (fields e 7 16) t) (omega arith)
+      zero-field e 7 16 (every-right (eqb 0) (fields e 2 3) (fields e 7 16) t) (7 + k) k refl (omega arith)
 
   length-at : 0 < n → (k : ℕ) → k < 4 → getD (lengthsOf d e) k 0 ≡ field e (7 + k)
   length-at h k b = go (decLt k dim)

@@ -88,7 +88,7 @@ pub fn same_bytes(a: &[u8], b: &[u8]) -> bool
     true
 }
 
-// Whether two records are the same, weight aside. Most differ in their category, byte 0, and are then compared no further.
+// Whether two records are the same, weight aside. Records of different categories, byte 0, are compared no further.
 pub fn same_record(a: &[u8], b: &[u8]) -> bool
     ensures { λ r. ⌜ r ≡ sameRecord (now (a .entry)) (now (b .entry)) ⌝ }
 {

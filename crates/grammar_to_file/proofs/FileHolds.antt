@@ -26,7 +26,7 @@ use Rattle.model.proofs.WriterFile.{file-written}
 use Rattle.model.proofs.WriterFields.{written-categories, written-start, written-words, written-rules, written-dimensions, written-record-of, written-bytes}
 use Rattle.model.proofs.WriterHeading.{wrongNumbers, writer-refusal}
 use Rattle.model.proofs.WriterBack.{read-back}
-use Rattle.grammar_to_file.specs.FileFor.{codeOf, bytesFor, recordFor, headingFor, fileFor, Storable}
+use Rattle.grammar_to_file.specs.FileFor.{codeOf, bytesBeforeWeight, recordFor, headingFor, fileFor, Storable}
 use Rattle.grammar_to_file.proofs.Records.{lens, codes, fromVariables, fromLengths, fromWord, fromDaughters, long, front-is}
 use Rattle.grammar_to_file.proofs.RecordTests.{none-by, category-passes, word-passes, variables-pass, unused-passes, holds-rule, word-passes-lexical, variables-pass-lexical, unused-passes-lexical, holds-lexical, codes-small, lengths-small}
 
@@ -162,11 +162,11 @@ module _ (g : Grammar) (s : Storable g) where
   -- records that are the same, weight aside, are those of rules that are
   same-aside : (a b : Rule) → Sound a → Sound b → T (sameRecord (recordFor a) (recordFor b)) → unweighted a ≡ unweighted b
   same-aside a b p q t =
-      let front : bytesFor a ≡ bytesFor b = sym (front-is a) ∙ same-list (fields (recordFor a) 0 23) (fields (recordFor b) 0 23) t ∙ front-is b in
+      let front : bytesBeforeWeight a ≡ bytesBeforeWeight b = sym (front-is a) ∙ same-list (fields (recordFor a) 0 23) (fields (recordFor b) 0 23) t ∙ front-is b in
       sym (passing (unweighted a) (weight-aside a p) .holds) ∙ ap (λ (x : List ℕ). ruleOf (g .dimensions) (x ++ (0 ∷ []))) front
       ∙ passing (unweighted b) (weight-aside b q) .holds
 
-  -- no record twice
+  -- no record twice, weight aside
   not-repeated : (i : ℕ) (rule : Rule) → ruleAt g i ≡ some rule → repeated (λ j. fields records (24 * j) 24) i ≡ false
   not-repeated i rule e =
       none-by (λ j. sameRecord (fields records (24 * j) 24) (fields records (24 * i) 24)) i
@@ -205,8 +205,8 @@ module _ (g : Grammar) (s : Storable g) where
       let lengths : Bytes (fromLengths rule) = bytes-append (padded 4 (lens rule)) (fromVariables rule) (bytes-padded 4 (lens rule) (bytes-of (lens rule) (parts (rule .daughters) refl .0))) variables in
       let word : Bytes (fromWord rule) = bytes-append (little2 (rule .word)) (fromLengths rule) (bytes-little2 (rule .word)) lengths in
       let daughters : Bytes (fromDaughters rule) = bytes-append (padded 3 (rule .daughters)) (fromWord rule) (bytes-padded 3 (rule .daughters) (bytes-of (rule .daughters) (λ d m. omega (arith, w .daughters-are d m)))) word in
-      let bytes : Bytes (bytesFor rule) = bytes-append (rule .category ∷ length (rule .daughters) ∷ []) (fromDaughters rule) (bytes-of (rule .category ∷ length (rule .daughters) ∷ []) front) daughters in
-      bytes-append (bytesFor rule) (rule .weight ∷ []) bytes (bytes-of (rule .weight ∷ []) weight)
+      let bytes : Bytes (bytesBeforeWeight rule) = bytes-append (rule .category ∷ length (rule .daughters) ∷ []) (fromDaughters rule) (bytes-of (rule .category ∷ length (rule .daughters) ∷ []) front) daughters in
+      bytes-append (bytesBeforeWeight rule) (rule .weight ∷ []) bytes (bytes-of (rule .weight ∷ []) weight)
     where
       weight : (x : ℕ) → List·Memᴰ x (rule .weight ∷ []) → x < 256
       weight x m = ⊎-elim (λ q. omega (arith, s .weights r rule e)) (λ i. elim i [ ]) (List·Memᴰ·cases-cons m)

@@ -15,16 +15,13 @@ use Rattle.model.specs.Grammar.{Variable, Rule, Grammar, isLexical}
 use Rattle.model.specs.WellFormed.{named}
 use Rattle.model.specs.GrammarFile.{allZero, fields, field, daughtersOf, hasDaughters, wordOf, dimensionIn, lengthsOf, variables, unusedBytes, unusedSet, decoded, sequences, ruleOf}
 use Rattle.model.proofs.Tests.{not-off, every-left, every-right}
-use Rattle.model.proofs.ByteLists.{fields-at, zeros-at, Bytes, two-again}
+use Rattle.model.proofs.ByteLists.{zero-field, Bytes, two-again}
 use Rattle.model.proofs.RuleFromRecord.{Tested, DimensionsIn, category-in, three, field-length, field-at, daughters-length, twelve, lengths-total, named-are}
 use Rattle.grammar_to_file.specs.FileFor.{codeOf, recordFor}
 use Rattle.grammar_to_file.proofs.Records.{long, at-daughter, at-length, at-variable, at-weight, from-5}
 
 pub zero-split : (a b : List ℕ) → T (allZero (a ++ b)) → T (allZero a) × T (allZero b)
 zero-split a b t = (every-left (eqb 0) a b t, every-right (eqb 0) a b t)
-
-pub zero-field : (e : List ℕ) (i k : ℕ) → T (allZero (fields e i k)) → (p j : ℕ) → p ≡ i + j → j < k → getD e p 0 ≡ 0
-zero-field e i k t p j q h = ap (λ (x : ℕ). getD e x 0) q ∙ sym (fields-at e i k j h) ∙ zeros-at (fields e i k) t j
 
 code-list : (l : List ℕ) → map codeOf (map decoded l) ≡ l
 code-list [] = refl

@@ -13,7 +13,7 @@ use Rattle.model.specs.WellFormed.{named}
 use Rattle.model.specs.GrammarFile.{allZero, fields, daughtersOf, wordOf}
 use Rattle.model.specs.Writer.{little2, padded}
 use Rattle.model.proofs.ByteLists.{fields-length, fields-at, after-front, padded-length, padded-at, zeros-by, two-back}
-use Rattle.grammar_to_file.specs.FileFor.{codeOf, bytesFor, recordFor}
+use Rattle.grammar_to_file.specs.FileFor.{codeOf, bytesBeforeWeight, recordFor}
 
 -- where the bytes stand
 module _ (rule : Rule) where
@@ -41,7 +41,7 @@ module _ (rule : Rule) where
   abbrev pub fromDaughters : List ℕ
   fromDaughters = padded 3 ds ++ fromWord
 
-  front-long : length (bytesFor rule) ≡ 23
+  front-long : length (bytesBeforeWeight rule) ≡ 23
   front-long =
       omega (
         arith,
@@ -54,15 +54,15 @@ module _ (rule : Rule) where
       )
 
   pub long : length e ≡ 24
-  long = omega (arith, length-append (bytesFor rule) (rule .weight ∷ []), front-long)
+  long = omega (arith, length-append (bytesBeforeWeight rule) (rule .weight ∷ []), front-long)
 
   -- bytes 0 to 22
-  pub front-is : fields e 0 23 ≡ bytesFor rule
-  front-is = take-at (bytesFor rule) (rule .weight ∷ []) 23 front-long
+  pub front-is : fields e 0 23 ≡ bytesBeforeWeight rule
+  front-is = take-at (bytesBeforeWeight rule) (rule .weight ∷ []) 23 front-long
 
   from-2 : (p j : ℕ) → p ≡ 2 + j → p < 23 → getD e p 0 ≡ getD fromDaughters j 0
   from-2 p j q h =
-      List·getD-append (bytesFor rule) (rule .weight ∷ []) 0 p (omega (arith, front-long))
+      List·getD-append (bytesBeforeWeight rule) (rule .weight ∷ []) 0 p (omega (arith, front-long))
       ∙ after-front (rule .category ∷ length ds ∷ []) fromDaughters 2 p j refl q
 
   pub from-5 : (p j : ℕ) → p ≡ 5 + j → p < 23 → getD e p 0 ≡ getD fromWord j 0
@@ -84,7 +84,7 @@ module _ (rule : Rule) where
   at-variable p j q h = from-11 p j q (omega arith) ∙ padded-at 12 codes j h
 
   pub at-weight : (p : ℕ) → p ≡ 23 → getD e p 0 ≡ rule .weight
-  at-weight p q = after-front (bytesFor rule) (rule .weight ∷ []) 23 p 0 front-long (omega arith)
+  at-weight p q = after-front (bytesBeforeWeight rule) (rule .weight ∷ []) 23 p 0 front-long (omega arith)
 
   -- a field that holds a whole list
   whole : (l : List ℕ) (i n : ℕ) → length l ≡ n → i + n ≤ 24 → ((j : ℕ) → j < n → getD e (i + j) 0 ≡ getD l j 0) → fields e i n ≡ l

@@ -15,16 +15,16 @@ use Rattle.model.specs.Grammar.{Rule, Grammar, ruleAt, isLexical, unweighted}
 use Rattle.model.specs.GrammarFile.{allZero, fields, field, daughtersOf, wordOf, dimensionIn, dimensionsOf, wordsOf, rulesOf, recordPlace, recordOf, lengthsOf, variables, sequences, sameRecord, ruleOf, grammarRefusal, grammarOf, categoriesOf, startOf}
 use Rattle.model.specs.Writer.{allBytes, padded, headingOf, fileOf}
 use Rattle.model.proofs.Tests.{and-both, not-both, any-none}
-use Rattle.model.proofs.ByteLists.{bytes-at, bytes-fields, padded-length, padded-at, fields-length, fields-at}
+use Rattle.model.proofs.ByteLists.{zero-field, bytes-at, bytes-fields, padded-length, padded-at, fields-length, fields-at}
 use Rattle.model.proofs.FileTests.{passed}
 use Rattle.model.proofs.FromFile.{rule-is, rule-passed, record-tested, dimensions-in, dimensions-length}
 use Rattle.model.proofs.RuleFromRecord.{daughters-length}
 use Rattle.model.proofs.WellFormed.{accepted-well, rules-length}
 use lib.Seq.{ext-getD}
 use Rattle.model.proofs.WriterBack.{written-again}
-use Rattle.grammar_to_file.specs.FileFor.{bytesFor, recordFor, headingFor, fileFor, Storable}
+use Rattle.grammar_to_file.specs.FileFor.{bytesBeforeWeight, recordFor, headingFor, fileFor, Storable}
 use Rattle.grammar_to_file.proofs.Records.{front-is}
-use Rattle.grammar_to_file.proofs.RecordAgain.{record-again, zero-split, zero-field, zeros}
+use Rattle.grammar_to_file.proofs.RecordAgain.{record-again, zero-split, zeros}
 
 list-same : (a : List ℕ) → T (sameList a a)
 list-same [] = tt
@@ -40,14 +40,14 @@ module _ (file : List ℕ) (bytes : T (allBytes file)) (accepted : grammarRefusa
   pub again : (r : ℕ) → r < rulesOf file → recordFor (ruleOf dimensions (recordOf file r)) ≡ recordOf file r
   again r h = record-again g (recordOf file r) (record-tested file accepted r h) (dimensions-in file accepted) (rule-passed file accepted r h .unused) (bytes-fields file (recordPlace r) 24 (bytes-at file bytes))
 
-  front-again : (r : ℕ) → r < rulesOf file → bytesFor (ruleOf dimensions (recordOf file r)) ≡ fields (recordOf file r) 0 23
+  front-again : (r : ℕ) → r < rulesOf file → bytesBeforeWeight (ruleOf dimensions (recordOf file r)) ≡ fields (recordOf file r) 0 23
   front-again r h = sym (front-is (ruleOf dimensions (recordOf file r))) ∙ ap (λ (x : List ℕ). fields x 0 23) (again r h)
 
   -- no rule twice, weight aside
   apart : (i j : ℕ) → i < j → j < rulesOf file → unweighted (ruleOf dimensions (recordOf file i)) ≡ unweighted (ruleOf dimensions (recordOf file j)) → ⊥
   apart i j h k e =
       let a = fields (recordOf file i) 0 23 in
-      let same : a ≡ fields (recordOf file j) 0 23 = sym (front-again i (omega arith)) ∙ ap bytesFor e ∙ front-again j k in
+      let same : a ≡ fields (recordOf file j) 0 23 = sym (front-again i (omega arith)) ∙ ap bytesBeforeWeight e ∙ front-again j k in
       let t : T (sameRecord (recordOf file i) (recordOf file j)) = subst (λ (x : List ℕ). T (sameList a x)) same (list-same a) in
       subst T (any-none (λ j′. sameRecord (recordOf file j′) (recordOf file j)) j (rule-passed file accepted j k .single) i h) t
 

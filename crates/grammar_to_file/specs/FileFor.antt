@@ -19,17 +19,17 @@ use Rattle.model.specs.Writer.{Heading, allBytes, little2, padded, fileOf}
 abbrev pub codeOf : Variable → ℕ
 codeOf v = 4 * v .daughter + v .component
 
--- "byte 0 category; byte 1 daughters; bytes 2-4 their categories; bytes 5-6 the word (65,535 is the empty word); bytes 7-10 component lengths; bytes 11-22
+-- bytes 0 to 22: "byte 0 category; byte 1 daughters; bytes 2-4 their categories; bytes 5-6 the word (65,535 is the empty word); bytes 7-10 component lengths; bytes 11-22
 -- variables, component after component"
-abbrev pub bytesFor : Rule → List ℕ
-bytesFor rule =
+abbrev pub bytesBeforeWeight : Rule → List ℕ
+bytesBeforeWeight rule =
     (rule .category ∷ length (rule .daughters) ∷ [])
     ++ (padded 3 (rule .daughters)
     ++ (little2 (rule .word) ++ (padded 4 (map length (rule .components)) ++ padded 12 (map codeOf (named (rule .components))))))
 
 -- "Byte 23 of a record, so far unused, becomes a weight" (document 02, paper 1)
 abbrev pub recordFor : Rule → List ℕ
-recordFor rule = bytesFor rule ++ (rule .weight ∷ [])
+recordFor rule = bytesBeforeWeight rule ++ (rule .weight ∷ [])
 
 -- the heading's numbers, and the dimensions with 0 for the categories that there are not
 abbrev pub headingFor : Grammar → Heading

@@ -92,6 +92,10 @@ zeros-at l t k = go (decLt k (length l))
     go (no h) = List·getD-eq-default l 0 (omega arith)
 
 -- every element is a byte, the 0 past the end too
+-- a byte of a part that is all 0
+pub zero-field : (e : List ℕ) (i k : ℕ) → T (allZero (fields e i k)) → (p j : ℕ) → p ≡ i + j → j < k → getD e p 0 ≡ 0
+zero-field e i k t p j q h = ap (λ (x : ℕ). getD e x 0) q ∙ sym (fields-at e i k j h) ∙ zeros-at (fields e i k) t j
+
 pub bytes-at : (l : List ℕ) → T (allBytes l) → (k : ℕ) → getD l k 0 < 256
 bytes-at l t k = go (decLt k (length l))
   where

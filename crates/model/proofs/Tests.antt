@@ -36,6 +36,9 @@ rest-of (some r) b e = none-some e
 pub both-none : (a b : Option Refusal) → a orElse b ≡ none → (a ≡ none) × (b ≡ none)
 both-none a b e = (first-of a b e, rest-of a b e)
 
+pub three-none : (a b c : Option Refusal) → a orElse b orElse c ≡ none → (a ≡ none) × (b ≡ none) × (c ≡ none)
+three-none a b c e = let r = rest-of a (b orElse c) e in (first-of a (b orElse c) e, first-of b c r, rest-of b c r)
+
 pub first-none : (f : ℕ → Option Refusal) (from n : ℕ) → firstFrom f from n ≡ none → (k : ℕ) → k < n → f (from + k) ≡ none
 first-none f from zero e k h = let z : ⊥ = omega arith in absurd z
 first-none f from (suc n) e zero h = let a : from + 0 ≡ from = omega arith in rw a (first-of (f from) (firstFrom f (suc from) n) e)

@@ -22,6 +22,21 @@ use Rattle.model.proofs.Expand.{queueSlots}
 use Rattle.model.proofs.Forward.{Good, nodes, predict-good, predict-nodes, predict-row, scan-good, scan-nodes, scan-front}
 use Rattle.model.proofs.Tests.{and-l, and-r}
 
+-- the rule of a node that has category c as root, and what stands below it
+pub root-rule : (g : Grammar) (r c : ℕ) (ts : Forest) → T (hasRoot g (node r ts) c)
+    → (rule : Rule) × (ruleAt g r ≡ some rule) × (rule .category ≡ c) × T (hasRoots g ts (rule .daughters))
+root-rule g r c ts h = go (ruleAt g r) refl h
+  where
+    go : (o : Option Rule) → ruleAt g r ≡ o → T (rootBy o c (λ categories. hasRoots g ts categories))
+        → (rule : Rule) × (ruleAt g r ≡ some rule) × (rule .category ≡ c) × T (hasRoots g ts (rule .daughters))
+    go none e t = absurd t
+    go (some rule) e t = (
+      rule,
+      e,
+      eqb→eq (rule .category) c (and-l (eqb (rule .category) c) (hasRoots g ts (rule .daughters)) t),
+      and-r (eqb (rule .category) c) (hasRoots g ts (rule .daughters)) t,
+    )
+
 -- the root of a tree that has one of category c
 pub record Root (g : Grammar) (t : Tree) (c : ℕ) : Type 0 where
   pub rule : Rule
@@ -32,19 +47,9 @@ pub record Root (g : Grammar) (t : Tree) (c : ℕ) : Type 0 where
   pub below : T (hasRoots g trees (rule .daughters))
 
 pub root : (g : Grammar) (t : Tree) (c : ℕ) → T (hasRoot g t c) → Root g t c
-root g (node r ts) c h = go (ruleAt g r) refl h
-  where
-    go : (o : Option Rule) → ruleAt g r ≡ o → T (rootBy o c (λ categories. hasRoots g ts categories)) → Root g (node r ts) c
-    go none e t = absurd t
-    go (some rule) e t =
-        record {
-          rule = rule;
-          trees = ts;
-          is-node = refl;
-          is-rule = e;
-          of-cat = eqb→eq (rule .category) c (and-l (eqb (rule .category) c) (hasRoots g ts (rule .daughters)) t);
-          below = and-r (eqb (rule .category) c) (hasRoots g ts (rule .daughters)) t;
-        }
+root g (node r ts) c h =
+    let (rule, is-rule, of-cat, below) = root-rule g r c ts h in
+    record { rule = rule; trees = ts; is-node = refl; is-rule = is-rule; of-cat = of-cat; below = below }
 
 module _ (g : Grammar) where
   abbrev pub after : Rule → Prediction Tree → List (Prediction Tree) → List ℕ → State Tree

@@ -1,4 +1,4 @@
--- The outcome of every public call, refused input included: its refusals in order, its verdict, and every number of the output that it is lent
+-- The outcome of every call of document 01, refused input included: its refusals in order, its verdict, and every number of the output that it is lent
 -- (document 01, "Who can cause a refusal" and "What the promises say"). Every call but the writer tests the grammar file first.
 -- Assumes nothing.
 use mathlib.Core.Path.{_≡_}

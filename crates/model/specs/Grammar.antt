@@ -49,11 +49,12 @@ daughtersBy (some rule) = rule .daughters
 abbrev pub variable : ℕ → ℕ → Variable
 variable j c = record { daughter = j; component = c }
 
--- "A lexical rule has no daughters, A has dimension 1, and it gives one word or the empty word." Its weight is 0 here.
+-- "A lexical rule has no daughters, A has dimension 1, and it gives one word or the empty word." A rule made by this has weight 0.
 abbrev pub lexical : ℕ → ℕ → Rule
 lexical category word = record { category = category; daughters = []; word = word; components = []; weight = 0 }
 
--- "A nonlexical rule has 1 to 3 daughters and, for each component of A, a sequence of variables, possibly of length 0." Its weight is 0 here.
+-- "A nonlexical rule has 1 to 3 daughters and, for each component of A, a sequence of variables, possibly of length 0." A rule made by this has
+-- weight 0.
 abbrev pub nonlexical : ℕ → List ℕ → List (List Variable) → Rule
 nonlexical category daughters components = record { category = category; daughters = daughters; word = 0; components = components; weight = 0 }
 

@@ -10,7 +10,7 @@ pub enum Refusal {
     Desk(u8, u16),
 }
 
-// A node count (of the reader R, of the survey C, of the writer the file's length), or a refusal.
+// A node count (of the reader R, of the survey C, of the writer the file's length; of the weighing calls the sum of weights), or a refusal.
 pub enum Verdict {
     Accepted(u64),
     Refused(Refusal),

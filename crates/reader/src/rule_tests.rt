@@ -34,7 +34,7 @@ pub fn record_refusal(dimensions: &[u8], words: u16, e: &[u8], r: RuleNumber) ->
     Tested::Passed
 }
 
-// Refusal 10: the rule's record is equal to an earlier one.
+// Refusal 10: the rule's record is equal to an earlier one, weight aside.
 fn repeated_rule(file: &[u8], r: RuleNumber) -> bool
     ensures { λ b. ⌜ b ≡ repeated (recordOf (now (file .entry))) (r .0) ⌝ }
 {

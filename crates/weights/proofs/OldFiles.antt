@@ -12,22 +12,22 @@ use lib.ListN.{length, getD, take}
 use Rattle.model.specs.declared.Refusal.{Refusal}
 use Rattle.model.specs.Base.{if_then_else_, _orElse_, firstFrom, numbersFrom, sameList}
 use Rattle.model.specs.Verdict.{refuseIf, verdict, countVerdict}
-use Rattle.model.specs.Grammar.{Rule, Grammar, unweighted}
-use Rattle.model.specs.GrammarFile.{within, allZero, fields, field, hasDaughters, dimensionIn, variables, weightOf, blocksFor, rulesOf, wordsOf, dimensionsOf, recordOf, sameRecord, repeated, unusedBytes, wrongCategory, wrongWord, wrongVariables, wrongLength, wrongCheck, wrongBlock, wrongHeading, wrongBlocks, wrongCount, wrongRest, blocks, ruleRefusal, grammarRefusal, grammarOf}
-use Rattle.model.specs.Writer.{headingBlock}
+use Rattle.model.specs.Grammar.{Rule, Grammar}
+use Rattle.model.specs.GrammarFile.{within, allZero, fields, field, hasDaughters, dimensionIn, variables, weightOf, blocksFor, categoriesOf, startOf, rulesOf, wordsOf, dimensionsOf, recordOf, sameRecord, repeated, unusedBytes, wrongCategory, wrongWord, wrongVariables, wrongLength, wrongCheck, wrongBlock, wrongHeading, wrongBlocks, wrongCount, wrongRest, blocks, ruleRefusal, grammarRefusal, grammarOf}
+use Rattle.model.specs.Writer.{Heading, headingBlock}
 use Rattle.model.specs.Trace.{sentenceRefusal, traceRefusal}
 use Rattle.model.specs.Tree.{treeRefusal}
 use Rattle.model.specs.Conversions.{treeOf, traceOf}
 use Rattle.model.specs.Counting.{limitsRefusal, effortRefusal, entryRefusal, count, effort, listing, entry}
 use Rattle.model.specs.Survey.{Surveyed}
-use Rattle.model.specs.Calls.{written, roomRefusal}
+use Rattle.model.specs.Calls.{written, roomRefusal, surveyRefusal}
 use Rattle.model.specs.Program.{sentenceIn, limitIn, programLimit, printed}
-use Rattle.model.proofs.Tests.{no-refusal, not-off, on-not, none-at, any-same, every-left, every-right, every-both, every-getD, within-low}
-use Rattle.model.proofs.ByteLists.{fields-length, fields-at, zeros-by, zeros-at}
+use Rattle.model.proofs.Tests.{no-refusal, not-off, on-not, none-at, first-same, any-same, every-left, every-right, every-both, every-getD, within-low}
+use Rattle.model.proofs.ByteLists.{fields-length, fields-at, zeros-by, zero-field}
 use Rattle.model.proofs.FileTests.{eight-none, five-none, whole-blocks, record-long, right-heading}
 use Rattle.model.proofs.RuleFromRecord.{Tested, DimensionsIn, twelve}
 use Rattle.model.proofs.FromFile.{ruleRead, each-rule}
-use Rattle.weights.specs.OldFiles.{unusedBytesBefore, unusedSetBefore, repeatedBefore, ruleRefusalBefore, grammarRefusalBefore, grammarBefore, Kept}
+use Rattle.weights.specs.OldFiles.{unusedBytesBefore, unusedSetBefore, repeatedBefore, ruleRefusalBefore, grammarRefusalBefore, ruleBefore, grammarBefore, Kept, OldFilesKept}
 
 -- two lists of n + 1 numbers that end with the same one are the same just if their first n numbers are
 same-but-last : (n : ℕ) (a b : List ℕ) → length a ≡ suc n → length b ≡ suc n → getD a n 0 ≡ getD b n 0 → sameList (take n a) (take n b) ≡ sameList a b
@@ -43,25 +43,15 @@ last-zero : (e : List ℕ) (i n k : ℕ) → n ≡ suc k → i + n ≤ length e 
 last-zero e i n k q h t = (
   zeros-by (fields e i k) (λ j l.
       let b : j < k = omega (arith, fields-length e i k (omega arith)) in
-      fields-at e i k j b ∙ sym (fields-at e i n j (omega arith)) ∙ zeros-at (fields e i n) t j),
-  sym (fields-at e i n k (omega arith)) ∙ zeros-at (fields e i n) t k,
+      fields-at e i k j b ∙ zero-field e i n t (i + j) j refl (omega arith)),
+  zero-field e i n t (i + k) k refl (omega arith),
 )
 
--- where none of eight tests meets, none does with another seventh that does not
-other-seventh : (a b c d e f g h x : Option Refusal) → a orElse b orElse c orElse d orElse e orElse f orElse g orElse h ≡ none → x ≡ none
-    → a orElse b orElse c orElse d orElse e orElse f orElse x orElse h ≡ none
-other-seventh a b c d e f g h x r q =
-    let t = eight-none a b c d e f g h r in
-    rw (t .0, t .1, t .2, t .3, t .4, t .5, q) (t .7)
-
--- rules that stay as they are without their weights
-map-same : (f : ℕ → Rule) (from n : ℕ) → ((k : ℕ) → from ≤ k → k < from + n → unweighted (f k) ≡ f k) → map unweighted (map f (numbersFrom from n)) ≡ map f (numbersFrom from n)
-map-same f from zero h = refl
-map-same f from (suc n) h =
-    ap₂ (λ (x : Rule) (l : List Rule). x ∷ l) (h from (omega arith) (omega arith)) (map-same f (suc from) n (λ k lo hi. h k (omega arith) (omega arith)))
-
-without-weight : (rule : Rule) → rule .weight ≡ 0 → unweighted rule ≡ rule
-without-weight rule e = λ i. record { category = rule .category; daughters = rule .daughters; word = rule .word; components = rule .components; weight = sym e i }
+-- rules that are the same at each number
+map-same : (f g : ℕ → Rule) (from n : ℕ) → ((k : ℕ) → from ≤ k → k < from + n → f k ≡ g k) → map f (numbersFrom from n) ≡ map g (numbersFrom from n)
+map-same f g from zero h = refl
+map-same f g from (suc n) h =
+    ap₂ (λ (x : Rule) (l : List Rule). x ∷ l) (h from (omega arith) (omega arith)) (map-same f g (suc from) n (λ k lo hi. h k (omega arith) (omega arith)))
 
 module _ (file : List ℕ) (before : grammarRefusalBefore file ≡ none) where
   abbrev d : List ℕ
@@ -70,19 +60,6 @@ module _ (file : List ℕ) (before : grammarRefusalBefore file ≡ none) where
   abbrev e : ℕ → List ℕ
   e i = recordOf file i
 
-  -- refusals 2, 3 and 5 of the blocks, and 9 at place R
-  abbrev checks : Option Refusal
-  checks = firstFrom (λ k. refuseIf (wrongCheck file k) (Refusal.Grammar 2 k)) 0 (blocks file)
-
-  abbrev kinds : Option Refusal
-  kinds = firstFrom (λ k. refuseIf (wrongBlock file k) (Refusal.Grammar 3 k)) 0 (blocks file)
-
-  abbrev counts : Option Refusal
-  counts = firstFrom (λ k. refuseIf (wrongCount file k) (Refusal.Grammar 5 k)) 1 (blocks file - 1)
-
-  abbrev rest : Option Refusal
-  rest = refuseIf (wrongRest file) (Refusal.Grammar 9 (rulesOf file))
-
   record Tests : Type 0 where
     long : length file ≡ 512 * blocksFor (rulesOf file)
     dimensions : DimensionsIn (grammarOf file)
@@ -90,13 +67,19 @@ module _ (file : List ℕ) (before : grammarRefusalBefore file ≡ none) where
 
   tests : Tests
   tests =
-      let t = eight-none _ checks kinds _ _ counts _ rest before in
+      let t = eight-none _ (firstFrom (λ k. refuseIf (wrongCheck file k) (Refusal.Grammar 2 k)) 0 (blocks file))
+      (firstFrom (λ k. refuseIf (wrongBlock file k) (Refusal.Grammar 3 k)) 0 (blocks file)) _ _
+      (firstFrom (λ k. refuseIf (wrongCount file k) (Refusal.Grammar 5 k)) 1 (blocks file - 1)) _ (refuseIf (wrongRest file) (Refusal.Grammar 9 (rulesOf file)))
+      before in
       let heading = right-heading file (no-refusal (wrongHeading file) (Refusal.Grammar 4 0) (t .3)) in
       record {
         long = whole-blocks file (no-refusal (wrongLength file) (Refusal.Grammar 1 0) (t .0)) (no-refusal (wrongBlocks file) (Refusal.Grammar 5 0) (t .4));
         dimensions = λ c h. within-low 1 4 (getD d c 0) (every-getD (within 1 4) d (heading .dimensions) c h);
         rules = t .6;
       }
+
+  old-none : (i : ℕ) → i < rulesOf file → ruleRefusalBefore file i ≡ none
+  old-none i h = none-at (ruleRefusalBefore file) 0 (rulesOf file) (tests .rules) i (omega arith) (omega arith)
 
   -- record i, before
   module _ (i : ℕ) (here : i < rulesOf file) where
@@ -107,7 +90,7 @@ module _ (file : List ℕ) (before : grammarRefusalBefore file ≡ none) where
 
     rule-tests : RuleTests
     rule-tests =
-        let t = five-none _ _ _ _ _ (none-at (ruleRefusalBefore file) 0 (rulesOf file) (tests .rules) i (omega arith) (omega arith)) in
+        let t = five-none _ _ _ _ _ (old-none i here) in
         record {
           tested =
               record {
@@ -166,39 +149,45 @@ module _ (file : List ℕ) (before : grammarRefusalBefore file ≡ none) where
       let t = rule-tests i h .tested in
       rw (t .category, t .word, t .variables, on-not (allZero (unusedBytes d (e i))) (unused i h .0), single i h)
 
-  still-accepted : grammarRefusal file ≡ none
-  still-accepted =
-      other-seventh (refuseIf (wrongLength file) (Refusal.Grammar 1 0)) checks kinds (refuseIf (wrongHeading file) (Refusal.Grammar 4 0))
-      (refuseIf (wrongBlocks file) (Refusal.Grammar 5 0)) counts (firstFrom (ruleRefusalBefore file) 0 (rulesOf file)) rest (firstFrom (ruleRefusal file) 0 (rulesOf file)) before
-      (all-none (ruleRefusal file) 0 (rulesOf file) (λ k lo hi. rule-none k (omega arith)))
-    where
-      all-none : (f : ℕ → Option Refusal) (from n : ℕ) → ((k : ℕ) → from ≤ k → k < from + n → f k ≡ none) → firstFrom f from n ≡ none
-      all-none f from zero h = refl
-      all-none f from (suc n) h = rw (h from (omega arith) (omega arith)) (all-none f (suc from) n (λ k lo hi. h k (omega arith) (omega arith)))
-
   same-refusal : grammarRefusal file ≡ grammarRefusalBefore file
-  same-refusal = still-accepted ∙ sym before
+  same-refusal =
+      ap (λ (rules : Option Refusal).
+      refuseIf (wrongLength file) (Refusal.Grammar 1 0)
+      orElse firstFrom (λ k. refuseIf (wrongCheck file k) (Refusal.Grammar 2 k)) 0 (blocks file)
+      orElse firstFrom (λ k. refuseIf (wrongBlock file k) (Refusal.Grammar 3 k)) 0 (blocks file)
+      orElse refuseIf (wrongHeading file) (Refusal.Grammar 4 0)
+      orElse refuseIf (wrongBlocks file) (Refusal.Grammar 5 0)
+      orElse firstFrom (λ k. refuseIf (wrongCount file k) (Refusal.Grammar 5 k)) 1 (blocks file - 1)
+      orElse rules
+      orElse refuseIf (wrongRest file) (Refusal.Grammar 9 (rulesOf file)))
+      (first-same (ruleRefusal file) (ruleRefusalBefore file) 0 (rulesOf file) (λ k lo hi. rule-none k (omega arith) ∙ sym (old-none k (omega arith))))
 
   same-grammar : grammarOf file ≡ grammarBefore file
   same-grammar =
-      let r = map-same (ruleRead file) 0 (rulesOf file) (λ k lo hi. without-weight (ruleRead file k) (unused k (omega arith) .1)) in
-      λ i. record { start = grammarOf file .start; words = grammarOf file .words; dimensions = grammarOf file .dimensions; rules = sym r i }
+      let r = map-same (ruleRead file) (λ i. ruleBefore d (e i)) 0 (rulesOf file) (λ k lo hi. same-rule k (unused k (omega arith) .1)) in
+      λ i. record { start = startOf file; words = wordsOf file; dimensions = d; rules = r i }
+    where
+      same-rule : (k : ℕ) → weightOf (e k) ≡ 0 → ruleRead file k ≡ ruleBefore d (e k)
+      same-rule k w =
+          let rule = ruleRead file k in
+          λ i. record { category = rule .category; daughters = rule .daughters; word = rule .word; components = rule .components; weight = w i }
 
   -- what depends on the file by its refusal and its grammar alone
   kept-by : {A : Type 0} (f : Option Refusal → Grammar → A) → f (grammarRefusal file) (grammarOf file) ≡ f (grammarRefusalBefore file) (grammarBefore file)
   kept-by f = ap₂ f same-refusal same-grammar
 
-  pub kept : Kept file
-  kept =
+  keeps : Kept file
+  keeps =
       record {
-        accepted = still-accepted;
-        weightless = each-rule file (λ rule. rule .weight ≡ 0) (λ r h. unused r h .1);
+        accepted = same-refusal ∙ before;
+        weights-zero = each-rule file (λ rule. rule .weight ≡ 0) (λ r h. unused r h .1);
         reader = kept-by (λ o g. verdict o (rulesOf file));
-        writer = λ h records q.
-            ap (λ (o : Option Refusal).
-            refuseIf (not (eqb (length (h .dimensions)) 64)) (Refusal.Grammar 4 0) orElse refuseIf (ltb 256 (h .rules)) (Refusal.Grammar 4 0)
-            orElse refuseIf (wrongHeading (headingBlock h)) (Refusal.Grammar 4 0)
-            orElse refuseIf (not (eqb (length records) (24 * h .rules))) (Refusal.Grammar 5 0) orElse o) (ap grammarRefusal q ∙ same-refusal);
+        writer = λ h records out q. (
+          ap₂ (λ (o : Option Refusal) (l : ℕ). verdict (own h records o orElse refuseIf (ltb (length out) l) (Refusal.Desk 23 0)) l) (ap grammarRefusal q ∙ same-refusal)
+              (ap length q),
+          ap₂ (λ (o : Option Refusal) (f : List ℕ). written (own h records o orElse refuseIf (ltb (length out) (length f)) (Refusal.Desk 23 0)) f out)
+              (ap grammarRefusal q ∙ same-refusal) q,
+        );
         trace-checker = λ s trace. kept-by (λ o g. verdict (o orElse sentenceRefusal g s orElse traceRefusal g s trace) (length trace));
         tree-checker = λ s tree. kept-by (λ o g. verdict (o orElse sentenceRefusal g s orElse treeRefusal g s tree) (length tree));
         trace-to-tree = λ s trace out. (
@@ -219,9 +208,23 @@ module _ (file : List ℕ) (before : grammarRefusalBefore file ≡ none) where
               written (o orElse roomRefusal out orElse limitsRefusal n limit orElse sentenceRefusal g s orElse effortRefusal g s n limit orElse entryRefusal g s n m)
               (entry g s n m) out),
         );
-        survey-refused = λ out. kept-by (λ o g. o orElse roomRefusal out);
-        survey-right = λ figures. (subst (λ (g : Grammar). Surveyed g figures) same-grammar, subst (λ (g : Grammar). Surveyed g figures) (sym same-grammar));
-        printed-as = λ sentenceFile.
+        surveyed = λ out answer after. (
+          λ s.
+              record {
+                figures = s .figures;
+                figures-right = λ n. subst (λ (g : Grammar). Surveyed g (s .figures)) same-grammar (s .figures-right (room out ∙ n));
+                verdict-is = s .verdict-is ∙ ap (λ (o : Option Refusal). verdict o (categoriesOf file)) (room out);
+                output-is = s .output-is ∙ ap (λ (o : Option Refusal). written o (s .figures) out) (room out);
+              },
+          λ s.
+              record {
+                figures = s .figures;
+                figures-right = λ n. subst (λ (g : Grammar). Surveyed g (s .figures)) (sym same-grammar) (s .figures-right (sym (room out) ∙ n));
+                verdict-is = s .verdict-is ∙ ap (λ (o : Option Refusal). verdict o (categoriesOf file)) (sym (room out));
+                output-is = s .output-is ∙ ap (λ (o : Option Refusal). written o (s .figures) out) (sym (room out));
+              },
+        );
+        program-prints = λ sentenceFile.
             let s = sentenceIn sentenceFile in
             let n = limitIn sentenceFile in
             kept-by (λ o g.
@@ -230,3 +233,18 @@ module _ (file : List ℕ) (before : grammarRefusalBefore file ≡ none) where
             orElse effortRefusal g s n programLimit)
             ((count g s n ∷ effort g s n ∷ []) ∷ listing g s n));
       }
+    where
+      -- the writer's own tests, and then those of its file
+      own : Heading → List ℕ → Option Refusal → Option Refusal
+      own h records o =
+          refuseIf (not (eqb (length (h .dimensions)) 64)) (Refusal.Grammar 4 0)
+          orElse refuseIf (ltb 256 (h .rules)) (Refusal.Grammar 4 0)
+          orElse refuseIf (wrongHeading (headingBlock h)) (Refusal.Grammar 4 0)
+          orElse refuseIf (not (eqb (length records) (24 * h .rules))) (Refusal.Grammar 5 0)
+          orElse o
+
+      room : (out : List ℕ) → surveyRefusal file out ≡ (grammarRefusalBefore file orElse roomRefusal out)
+      room out = kept-by (λ o g. o orElse roomRefusal out)
+
+pub kept : OldFilesKept
+kept file before = keeps file before

@@ -1,5 +1,6 @@
--- Grammar files from before the weights (document 02, paper 1): "All files accepted before have weight 0 and keep their verdicts." What a call answered before
--- is its definition over what the reader refused before and over the grammar as it was read before.
+-- Grammar files from before the weights (document 02, paper 1): "All files accepted before have weight 0 and keep their verdicts." Paper 1 changes refusals 9
+-- and 10 and gives rules a weight; every other definition is as it was. So what a call answered before is its definition over the refusals of then
+-- (`grammarRefusalBefore`) and over rules without weights (`grammarBefore`).
 -- Assumes nothing.
 use mathlib.Core.Path.{_≡_}
 use Prim.Native.Nat.{ℕ, _+_, _-_, _*_, _%_}
@@ -9,11 +10,12 @@ use mathlib.Core.Option.{Option, none, some}
 use lib.Dec.{ltb, eqb}
 use lib.ListN.{length}
 use Rattle.model.specs.declared.Refusal.{Refusal}
-use Rattle.model.specs.Base.{if_then_else_, _orElse_, firstFrom, sameList, anyBelow}
+use Rattle.model.specs.declared.Verdict.{Verdict}
+use Rattle.model.specs.Base.{if_then_else_, _orElse_, firstFrom, numbersFrom, sameList, anyBelow}
 use Rattle.model.specs.Verdict.{refuseIf, verdict, countVerdict}
-use Rattle.model.specs.Grammar.{Rule, Grammar, ruleAt, unweighted}
-use Rattle.model.specs.GrammarFile.{allZero, fields, field, hasDaughters, dimensionIn, variables, blocks, rulesOf, wordsOf, dimensionsOf, recordOf, wrongCategory, wrongWord, wrongVariables, wrongLength, wrongCheck, wrongBlock, wrongHeading, wrongBlocks, wrongCount, wrongRest, grammarRefusal, grammarOf}
-use Rattle.model.specs.Writer.{Heading, headingBlock, fileOf, writerRefusal}
+use Rattle.model.specs.Grammar.{Rule, Grammar, ruleAt}
+use Rattle.model.specs.GrammarFile.{allZero, fields, field, daughtersOf, hasDaughters, wordOf, lengthsOf, sequences, dimensionIn, variables, blocks, categoriesOf, startOf, rulesOf, wordsOf, dimensionsOf, recordOf, wrongCategory, wrongWord, wrongVariables, wrongLength, wrongCheck, wrongBlock, wrongHeading, wrongBlocks, wrongCount, wrongRest, grammarRefusal, grammarOf}
+use Rattle.model.specs.Writer.{Heading, headingBlock, fileOf}
 use Rattle.model.specs.Trace.{sentenceRefusal, traceRefusal}
 use Rattle.model.specs.Tree.{treeRefusal}
 use Rattle.model.specs.Conversions.{treeOf, traceOf}
@@ -21,7 +23,7 @@ use Rattle.model.specs.Counting.{limitsRefusal, effortRefusal, entryRefusal, co
 use Rattle.model.specs.Survey.{Surveyed}
 use Rattle.model.specs.Program.{sentenceIn, limitIn, programLimit, printed, program}
 use Rattle.model.specs.Demands.{_⇔_}
-use Rattle.model.specs.Calls.{written, roomRefusal, readVerdict, checkTraceVerdict, checkTreeVerdict, traceToTreeVerdict, traceToTreeOutput, treeToTraceVerdict, treeToTraceOutput, countCall, entryVerdict, entryOutput, surveyRefusal}
+use Rattle.model.specs.Calls.{written, roomRefusal, readVerdict, writeVerdict, writeOutput, checkTraceVerdict, checkTreeVerdict, traceToTreeVerdict, traceToTreeOutput, treeToTraceVerdict, treeToTraceOutput, countCall, entryVerdict, entryOutput, SurveyOutcome}
 
 -- refusal 9 as document 01 has it: byte 23 is one of the unused bytes
 abbrev pub unusedBytesBefore : List ℕ → List ℕ → List ℕ
@@ -39,7 +41,7 @@ unusedSetBefore dimensions e = not (allZero (unusedBytesBefore dimensions e))
 abbrev pub repeatedBefore : (ℕ → List ℕ) → ℕ → Bool
 repeatedBefore recordAt i = anyBelow (λ j. sameList (recordAt j) (recordAt i)) i
 
--- what the reader refused
+-- what the reader refused before
 abbrev pub ruleRefusalBefore : List ℕ → ℕ → Option Refusal
 ruleRefusalBefore file i =
     refuseIf (wrongCategory (dimensionsOf file) (recordOf file i)) (Refusal.Grammar 6 i)
@@ -59,14 +61,29 @@ grammarRefusalBefore file =
     orElse firstFrom (ruleRefusalBefore file) 0 (rulesOf file)
     orElse refuseIf (wrongRest file) (Refusal.Grammar 9 (rulesOf file))
 
--- the grammar that was read: no rule had a weight
+-- the rule that a record held, which had no weight
+abbrev pub ruleBefore : List ℕ → List ℕ → Rule
+ruleBefore dimensions e =
+    record {
+      category = field e 0;
+      daughters = daughtersOf e;
+      word = wordOf e;
+      components = if hasDaughters e then sequences (lengthsOf dimensions e) (fields e 11 12) else [];
+      weight = 0;
+    }
+
+-- the grammar that a file held
 abbrev pub grammarBefore : List ℕ → Grammar
 grammarBefore file =
-    let g = grammarOf file in
-    record { start = g .start; words = g .words; dimensions = g .dimensions; rules = map unweighted (g .rules) }
+    record {
+      start = startOf file;
+      words = wordsOf file;
+      dimensions = dimensionsOf file;
+      rules = map (λ i. ruleBefore (dimensionsOf file) (recordOf file i)) (numbersFrom 0 (rulesOf file));
+    }
 
--- a file that was accepted: it is accepted, its rules have weight 0, and every call answers and writes what it did, by what was refused before and by the
--- grammar that was read before
+-- Of a file that was accepted before: it is accepted, its rules have weight 0, and every call answers and writes what it did, by what was refused before and
+-- by the grammar as it was read before.
 module _ (file : List ℕ) where
   abbrev refused : Option Refusal
   refused = grammarRefusalBefore file
@@ -74,17 +91,25 @@ module _ (file : List ℕ) where
   abbrev g : Grammar
   g = grammarBefore file
 
+  -- the survey's figures are free within their line
+  pub record SurveyedBefore (out : List ℕ) (answer : Verdict) (after : List ℕ) : Type 0 where
+    pub figures : List ℕ
+    pub figures-right : (refused orElse roomRefusal out) ≡ none → Surveyed g figures
+    pub verdict-is : answer ≡ verdict (refused orElse roomRefusal out) (categoriesOf file)
+    pub output-is : after ≡ written (refused orElse roomRefusal out) figures out
+
   pub record Kept : Type 0 where
     pub accepted : grammarRefusal file ≡ none
-    pub weightless : (r : ℕ) (rule : Rule) → ruleAt (grammarOf file) r ≡ some rule → rule .weight ≡ 0
+    pub weights-zero : (r : ℕ) (rule : Rule) → ruleAt (grammarOf file) r ≡ some rule → rule .weight ≡ 0
     pub reader : readVerdict file ≡ verdict refused (rulesOf file)
-    pub writer : (h : Heading) (records : List ℕ) → fileOf h records ≡ file
-        → writerRefusal h records
-        ≡ (refuseIf (not (eqb (length (h .dimensions)) 64)) (Refusal.Grammar 4 0)
+    pub writer : (h : Heading) (records out : List ℕ) → fileOf h records ≡ file
+        → let own = refuseIf (not (eqb (length (h .dimensions)) 64)) (Refusal.Grammar 4 0)
         orElse refuseIf (ltb 256 (h .rules)) (Refusal.Grammar 4 0)
         orElse refuseIf (wrongHeading (headingBlock h)) (Refusal.Grammar 4 0)
         orElse refuseIf (not (eqb (length records) (24 * h .rules))) (Refusal.Grammar 5 0)
-        orElse refused)
+        orElse refused in
+        let o = own orElse refuseIf (ltb (length out) (length file)) (Refusal.Desk 23 0) in
+        (writeVerdict h records out ≡ verdict o (length file)) × (writeOutput h records out ≡ written o file out)
     pub trace-checker : (sentence trace : List ℕ)
         → checkTraceVerdict file sentence trace ≡ verdict (refused orElse sentenceRefusal g sentence orElse traceRefusal g sentence trace) (length trace)
     pub tree-checker : (sentence tree : List ℕ)
@@ -104,12 +129,14 @@ module _ (file : List ℕ) where
         orElse entryRefusal g sentence n m in
         (entryVerdict file sentence n limit m out ≡ verdict o (length (entry g sentence n m)))
         × (entryOutput file sentence n limit m out ≡ written o (entry g sentence n m) out)
-    -- the survey's figures are free within their line: what is refused, and which figures are right, stays
-    pub survey-refused : (out : List ℕ) → surveyRefusal file out ≡ (refused orElse roomRefusal out)
-    pub survey-right : (figures : List ℕ) → Surveyed (grammarOf file) figures ⇔ Surveyed g figures
-    pub printed-as : (sentenceFile : List ℕ)
+    pub surveyed : (out : List ℕ) (answer : Verdict) (after : List ℕ) → SurveyOutcome file out answer after ⇔ SurveyedBefore out answer after
+    -- the program tests the grammar, then the sentence file's length, then as the count, which tests the grammar again
+    pub program-prints : (sentenceFile : List ℕ)
         → let sentence = sentenceIn sentenceFile in
         let n = limitIn sentenceFile in
         let o = refused orElse refuseIf (eqb (length sentenceFile % 2) 0) (Refusal.Analysis 11 0) orElse refused orElse limitsRefusal n programLimit
         orElse sentenceRefusal g sentence orElse effortRefusal g sentence n programLimit in
         program file sentenceFile ≡ printed o ((count g sentence n ∷ effort g sentence n ∷ []) ∷ listing g sentence n)
+
+abbrev pub OldFilesKept : Type 0
+OldFilesKept = (file : List ℕ) → grammarRefusalBefore file ≡ none → Kept file

@@ -17,7 +17,7 @@ fn record_at(records: &[u8], r: RuleNumber) -> &[u8]
     fields(records, 24 * (r.0 as usize), 24)
 }
 
-// Refusal 10: the record of rule r is equal to an earlier one.
+// Refusal 10: the record of rule r is equal to an earlier one, weight aside.
 fn repeated_record(records: &[u8], r: RuleNumber) -> bool
     ensures { λ b. ⌜ b ≡ repeated (recordAt (now (records .entry))) (r .0) ⌝ }
 {

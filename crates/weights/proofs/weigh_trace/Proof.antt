@@ -6,7 +6,7 @@ use borrow.Author.Needs.{needs}
 use Rattle.model.specs.Calls.{checkTraceRefusal}
 use Rattle.model.proofs.Verdicts.{passed, met}
 use Rattle.weights.specs.Weights.{TraceWeighed}
-use Rattle.weights.proofs.Sums.{trace-few, trace-refused, trace-accepted}
+use Rattle.weights.proofs.Sums.{weighed-refused, trace-few, trace-weighed}
 use Rattle.weights.proofs.weigh_trace.Statement.{statement}
 use Rattle.weights.proofs.weigh_trace.Tie as tie
 
@@ -26,7 +26,7 @@ returns c =
     let v = c .before .before .check-trace in
     let e = c .enum-told2 .given .1 in
     subst (TraceWeighed (a .file .now) (a .sentence .now) (a .trace .now)) (sym e)
-    (trace-refused (a .file .now) (a .sentence .now) (a .trace .now) (c .enum-told2 .given .0 .0) (met o (length (a .trace .now)) (v .result) (v .ensures) e))
+    (weighed-refused o _ _ (c .enum-told2 .given .0 .0) (met o (length (a .trace .now)) (v .result) (v .ensures) e))
 
 sum-weights-requires : tie.Need-sum-weights-requires
 sum-weights-requires c κs =
@@ -42,7 +42,7 @@ returns-2 c =
     let v = c .before .before .before .check-trace in
     let p = passed o (length (a .trace .now)) (v .result) (v .ensures) (c .before .enum-told .given .1) in
     let s = c .sum-weights in
-    trace-accepted (a .file .now) (a .sentence .now) (a .trace .now) (s .result) p (s .ensures .0) (s .ensures .1)
+    trace-weighed (a .file .now) (a .sentence .now) (a .trace .now) p (s .result) (s .ensures .0) (s .ensures .1)
 
 pub weigh-trace-spec : {M : Type 1} → statement M
 weigh-trace-spec = tie.close (tie.spec check-trace-requires enum-told enum-told-2 returns sum-weights-requires returns-2)

@@ -6,7 +6,7 @@ use borrow.Author.Needs.{needs}
 use Rattle.model.specs.Calls.{checkTreeRefusal}
 use Rattle.model.proofs.Verdicts.{passed, met}
 use Rattle.weights.specs.Weights.{TreeWeighed}
-use Rattle.weights.proofs.Sums.{tree-few, tree-refused, tree-accepted}
+use Rattle.weights.proofs.Sums.{weighed-refused, tree-few, tree-weighed}
 use Rattle.weights.proofs.weigh_tree.Statement.{statement}
 use Rattle.weights.proofs.weigh_tree.Tie as tie
 
@@ -26,7 +26,7 @@ returns c =
     let v = c .before .before .check-tree in
     let e = c .enum-told2 .given .1 in
     subst (TreeWeighed (a .file .now) (a .sentence .now) (a .tree .now)) (sym e)
-    (tree-refused (a .file .now) (a .sentence .now) (a .tree .now) (c .enum-told2 .given .0 .0) (met o (length (a .tree .now)) (v .result) (v .ensures) e))
+    (weighed-refused o _ _ (c .enum-told2 .given .0 .0) (met o (length (a .tree .now)) (v .result) (v .ensures) e))
 
 sum-weights-requires : tie.Need-sum-weights-requires
 sum-weights-requires c κs =
@@ -42,7 +42,7 @@ returns-2 c =
     let v = c .before .before .before .check-tree in
     let p = passed o (length (a .tree .now)) (v .result) (v .ensures) (c .before .enum-told .given .1) in
     let s = c .sum-weights in
-    tree-accepted (a .file .now) (a .sentence .now) (a .tree .now) (s .result) p (s .ensures .0) (s .ensures .1)
+    tree-weighed (a .file .now) (a .sentence .now) (a .tree .now) p (s .result) (s .ensures .0) (s .ensures .1)
 
 pub weigh-tree-spec : {M : Type 1} → statement M
 weigh-tree-spec = tie.close (tie.spec check-tree-requires enum-told enum-told-2 returns sum-weights-requires returns-2)
