@@ -9,7 +9,7 @@ use Rattle.model.specs.declared.Tested.{Tested}
 use Rattle.model.specs.Base.{_orElse_}
 use Rattle.model.specs.Verdict.{refuseIf, tested}
 use Rattle.model.specs.GrammarFile.{wrongCategory, wrongWord, wrongVariables, unusedSet, repeated, recordRefusal}
-use Rattle.reader.specs.Reading.{recordTests}
+use Rattle.record_tests.specs.RecordTests.{recordTests}
 use Rattle.model.proofs.Verdicts.{tests-pass, tests-stop, tests-after}
 
 -- tests joined in two groups

@@ -3,7 +3,7 @@
 -- Assumes nothing.
 use Prim.Native.Nat.{ℕ, _+_, _-_}
 use mathlib.Core.Bool.{Bool, _&&_}
-use mathlib.Core.List.{List, _++_}
+use mathlib.Core.List.{List}
 use mathlib.Core.Option.{Option}
 use Rattle.model.specs.declared.Refusal.{Refusal}
 use Rattle.reader.specs.declared.blocks.BlockTest.{BlockTest}
@@ -11,7 +11,7 @@ use Rattle.reader.specs.declared.blocks.BlockTest.the-variants.{Check, K
 use Rattle.model.specs.Base.{_orElse_, firstFrom}
 use Rattle.model.specs.Verdict.{refuseIf}
 use lib.Dec.{ltb, eqb}
-use Rattle.model.specs.GrammarFile.{within, allZero, fields, categoriesOf, startOf, wordsOf, dimensionsOf, dimensionIn, field, variables, blocks, wrongCheck, wrongBlock, wrongHeading, wrongBlocks, wrongCount, wrongRest, ruleRefusal, rulesOf, wrongCategory, wrongWord, wrongVariables, unusedSet}
+use Rattle.model.specs.GrammarFile.{within, allZero, fields, categoriesOf, startOf, wordsOf, dimensionsOf, dimensionIn, blocks, wrongCheck, wrongBlock, wrongHeading, wrongBlocks, wrongCount, wrongRest, ruleRefusal, rulesOf}
 
 -- the number of the refusal that a test of a block gives: "2 check wrong", "3 block number or kind", "5 number of blocks or a record count"
 abbrev pub testNumber : BlockTest → ℕ
@@ -41,24 +41,6 @@ startRight file = ltb (startOf file) (categoriesOf file) && eqb (dimensionIn (di
 
 abbrev pub unusedRight : List ℕ → Bool
 unusedRight file = allZero (fields file 9 7) && allZero (fields file (16 + categoriesOf file) (508 - (16 + categoriesOf file)))
-
--- refusal 9 of a record by its kind: the bytes that a lexical and a nonlexical rule do not use
-abbrev pub unusedLexical : List ℕ → List ℕ
-unusedLexical e = fields e 2 3 ++ fields e 7 16
-
-abbrev pub unusedNonlexical : List ℕ → List ℕ → List ℕ
-unusedNonlexical dimensions e =
-    fields e (2 + field e 1) (3 - field e 1) ++ fields e 5 2
-    ++ fields e (7 + dimensionIn dimensions (field e 0)) (4 - dimensionIn dimensions (field e 0))
-    ++ fields e (11 + variables dimensions e) (12 - variables dimensions e)
-
--- refusals 6 to 9 of record e at place i; with refusal 10 they are `recordRefusal`
-abbrev pub recordTests : List ℕ → ℕ → List ℕ → ℕ → Option Refusal
-recordTests dimensions words e i =
-    refuseIf (wrongCategory dimensions e) (Refusal.Grammar 6 i)
-    orElse refuseIf (wrongWord dimensions e words) (Refusal.Grammar 7 i)
-    orElse refuseIf (wrongVariables dimensions e) (Refusal.Grammar 8 i)
-    orElse refuseIf (unusedSet dimensions e) (Refusal.Grammar 9 i)
 
 -- refusals 6 to 10 of the rules 0 to n - 1, rule after rule: the first there is
 abbrev pub rulesRefusal : List ℕ → ℕ → Option Refusal

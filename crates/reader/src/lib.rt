@@ -2,7 +2,6 @@
 mod blocks;
 mod heading;
 mod reader;
-mod record_tests;
 mod rule_tests;
 
 pub use blocks::blocks_for;
@@ -11,4 +10,3 @@ pub use heading::dimensions_right;
 pub use heading::within;
 pub use reader::grammar_refusal;
 pub use reader::read_grammar;
-pub use rule_tests::record_refusal;

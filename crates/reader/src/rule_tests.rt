@@ -2,11 +2,7 @@
 ghost use mathlib.Core.Path.{_≡_};
 ghost use Rattle.model.specs.Verdict.{tested};
 ghost use Rattle.model.specs.GrammarFile.{recordOf, repeated, ruleRefusal};
-ghost use Rattle.reader.specs.Reading.{recordTests, rulesRefusal};
-use crate::record_tests::unused_set;
-use crate::record_tests::wrong_category;
-use crate::record_tests::wrong_variables;
-use crate::record_tests::wrong_word;
+ghost use Rattle.reader.specs.Reading.{rulesRefusal};
 use grammar::dimensions;
 use grammar::record_of;
 use grammar::same_record;
@@ -14,25 +10,7 @@ use grammar::words;
 use model::Refusal;
 use model::RuleNumber;
 use model::Tested;
-
-// Refusals 6 to 9 of record e, which is that of rule r.
-pub fn record_refusal(dimensions: &[u8], words: u16, e: &[u8], r: RuleNumber) -> Tested
-    ensures { λ t. ⌜ t ≡ tested (recordTests (now (dimensions .entry)) words (now (e .entry)) (r .0)) ⌝ }
-{
-    if wrong_category(dimensions, e) {
-        return Tested::Met(Refusal::Grammar(6, r.0));
-    }
-    if wrong_word(dimensions, e, words) {
-        return Tested::Met(Refusal::Grammar(7, r.0));
-    }
-    if wrong_variables(dimensions, e) {
-        return Tested::Met(Refusal::Grammar(8, r.0));
-    }
-    if unused_set(dimensions, e) {
-        return Tested::Met(Refusal::Grammar(9, r.0));
-    }
-    Tested::Passed
-}
+use record_tests::record_refusal;
 
 // Refusal 10: the rule's record is equal to an earlier one, weight aside.
 fn repeated_rule(file: &[u8], r: RuleNumber) -> bool

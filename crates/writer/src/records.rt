@@ -8,7 +8,7 @@ use grammar::same_record;
 use model::Refusal;
 use model::RuleNumber;
 use model::Tested;
-use reader::record_refusal;
+use record_tests::record_refusal;
 
 // The record of rule r.
 fn record_at(records: &[u8], r: RuleNumber) -> &[u8]

@@ -6,7 +6,7 @@ use mathlib.Core.List.{List}
 use Prim.Native.Nat.{ℕ, _≤_, _-_}
 use Rattle.model.specs.Base.{anyBelow}
 use Rattle.model.specs.GrammarFile.{recordOf, sameRecord}
-use Rattle.reader.proofs.Below.{any-more, any-hit}
+use Rattle.grammar.proofs.Below.{any-more, any-hit}
 use borrow.Author.Needs.{needs}
 use native.Mathlib.Omega.{arith}
 use Rattle.reader.proofs.rule_tests.repeated_rule.Statement.{statement}

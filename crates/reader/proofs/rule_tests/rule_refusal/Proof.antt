@@ -7,7 +7,7 @@ use Rattle.model.specs.declared.Refusal.{Refusal}
 use Rattle.model.specs.declared.Tested.{Tested}
 use Rattle.model.specs.Verdict.{tested}
 use Rattle.model.specs.GrammarFile.{dimensionsOf, wordsOf, recordOf, repeated}
-use Rattle.reader.specs.Reading.{recordTests}
+use Rattle.record_tests.specs.RecordTests.{recordTests}
 use Rattle.reader.proofs.Answers.{refuse-on, refuse-off}
 use Rattle.reader.proofs.RuleTests.{upTo9, record-stop, record-pass}
 use borrow.Author.Needs.{needs}

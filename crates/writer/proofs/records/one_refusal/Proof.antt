@@ -6,7 +6,7 @@ use Prim.Native.Nat.{ℕ}
 use Rattle.model.specs.declared.Refusal.{Refusal}
 use Rattle.model.specs.GrammarFile.{repeated}
 use Rattle.model.specs.Verdict.{tested}
-use Rattle.reader.specs.Reading.{recordTests}
+use Rattle.record_tests.specs.RecordTests.{recordTests}
 use Rattle.reader.proofs.Answers.{refuse-on, refuse-off}
 use Rattle.writer.specs.Writing.{recordAt}
 use Rattle.reader.proofs.RuleTests.{record-stop, record-pass}

@@ -7,7 +7,7 @@ use Prim.Native.Nat.{ℕ, _≤_, _-_}
 use native.Mathlib.Omega.{arith}
 use Rattle.model.specs.Base.{anyBelow}
 use Rattle.model.specs.GrammarFile.{sameRecord}
-use Rattle.reader.proofs.Below.{any-more, any-hit}
+use Rattle.grammar.proofs.Below.{any-more, any-hit}
 use Rattle.writer.specs.Writing.{recordAt}
 use borrow.Author.Needs.{needs}
 use Rattle.writer.proofs.records.repeated_record.Statement.{statement}

@@ -1,4 +1,4 @@
--- `reader::each_once` meets its contract. The loops keep: each variable of the daughters before j occurs once, and of daughter j those before c.
+-- `record_tests::each_once` meets its contract. The loops keep: each variable of the daughters before j occurs once, and of daughter j those before c.
 -- Assumes nothing.
 use mathlib.Core.Path.{_≡_, refl, sym, ap, ap₂, _∙_}
 use mathlib.Core.Bool.{Bool, true}
@@ -8,11 +8,11 @@ use borrow.Author.Tests.{eq-eqb, ne-eqb}
 use lib.Dec.{eqb}
 use Rattle.model.specs.Base.{allBelow, occurrences}
 use Rattle.model.specs.GrammarFile.{field, fields, dimensionIn, variables}
-use Rattle.reader.proofs.Below.{all-more, all-miss}
+use Rattle.grammar.proofs.Below.{all-more, all-miss}
 use borrow.Author.Needs.{needs}
 use native.Mathlib.Omega.{arith}
-use Rattle.reader.proofs.record_tests.each_once.Statement.{statement}
-use Rattle.reader.proofs.record_tests.each_once.Tie as tie
+use Rattle.record_tests.proofs.each_once.Statement.{statement}
+use Rattle.record_tests.proofs.each_once.Tie as tie
 
 -- component i of the daughter at position j occurs once
 abbrev once-at : List ℕ → ℕ → ℕ → Bool

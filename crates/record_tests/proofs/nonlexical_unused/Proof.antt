@@ -1,12 +1,12 @@
--- `reader::nonlexical_unused` meets its contract.
+-- `record_tests::nonlexical_unused` meets its contract.
 -- Assumes nothing.
 use mathlib.Core.Path.{sym, ap, _∙_}
 use borrow.Author.Tests.{not-true, not-false}
 use Rattle.model.specs.GrammarFile.{dimensionIn}
-use Rattle.reader.proofs.RecordTests.{zero-part, daughters-set, word-set, lengths-set, variables-left}
+use Rattle.record_tests.proofs.Tests.{zero-part, daughters-set, word-set, lengths-set, variables-left}
 use borrow.Author.Needs.{needs}
-use Rattle.reader.proofs.record_tests.nonlexical_unused.Statement.{statement}
-use Rattle.reader.proofs.record_tests.nonlexical_unused.Tie as tie
+use Rattle.record_tests.proofs.nonlexical_unused.Statement.{statement}
+use Rattle.record_tests.proofs.nonlexical_unused.Tie as tie
 
 record-daughters-requires : tie.Need-record-daughters-requires
 record-daughters-requires c κs = search needs

@@ -1,11 +1,11 @@
--- `reader::unused_set` meets its contract.
+-- `record_tests::unused_set` meets its contract.
 -- Assumes nothing.
 use mathlib.Core.Path.{sym, ap, _∙_}
 use mathlib.Core.Bool.{not}
-use Rattle.reader.proofs.RecordTests.{unused-lexical, unused-nonlexical}
+use Rattle.record_tests.proofs.Tests.{unused-lexical, unused-nonlexical}
 use borrow.Author.Needs.{needs}
-use Rattle.reader.proofs.record_tests.unused_set.Statement.{statement}
-use Rattle.reader.proofs.record_tests.unused_set.Tie as tie
+use Rattle.record_tests.proofs.unused_set.Statement.{statement}
+use Rattle.record_tests.proofs.unused_set.Tie as tie
 
 record-daughters-requires : tie.Need-record-daughters-requires
 record-daughters-requires c κs = search needs

@@ -1,11 +1,12 @@
-// The tests of one record: refusals 6 to 9. The record and the dimensions are lists of bytes that may stand anywhere.
+// The tests of one record: refusals 6 to 9, for the reader and the writer. The record and the dimensions are lists of bytes that may stand anywhere.
 ghost use mathlib.Core.Path.{_≡_};
 ghost use Prim.Native.Nat.{_+_};
 ghost use lib.Dec.{leb};
 ghost use lib.ListN.{length};
 ghost use Rattle.model.specs.Base.{anyBelow};
+ghost use Rattle.model.specs.Verdict.{tested};
 ghost use Rattle.model.specs.GrammarFile.{field, allZero, wrongCategory, wrongWord, eachOnce, wrongVariables, unusedSet};
-ghost use Rattle.reader.specs.Reading.{unusedLexical, unusedNonlexical};
+ghost use Rattle.record_tests.specs.RecordTests.{unusedLexical, unusedNonlexical, recordTests};
 use grammar::dimension_in;
 use grammar::fields;
 use grammar::less;
@@ -19,6 +20,9 @@ use grammar::variables;
 use grammar::zeros;
 use model::Category;
 use model::EMPTY_WORD;
+use model::Refusal;
+use model::RuleNumber;
+use model::Tested;
 
 // Whether there is no such category.
 fn no_category(dimensions: &[u8], a: Category) -> bool
@@ -42,7 +46,7 @@ fn wrong_daughter(dimensions: &[u8], e: &[u8], n: usize) -> bool
 }
 
 // Refusal 6: category, daughter count or daughter.
-pub fn wrong_category(dimensions: &[u8], e: &[u8]) -> bool
+fn wrong_category(dimensions: &[u8], e: &[u8]) -> bool
     ensures { λ r. ⌜ r ≡ wrongCategory (now (dimensions .entry)) (now (e .entry)) ⌝ }
 {
     if no_category(dimensions, record_category(e)) {
@@ -56,7 +60,7 @@ pub fn wrong_category(dimensions: &[u8], e: &[u8]) -> bool
 }
 
 // Refusal 7: lexical with dimension other than 1, or no such word.
-pub fn wrong_word(dimensions: &[u8], e: &[u8], words: u16) -> bool
+fn wrong_word(dimensions: &[u8], e: &[u8], words: u16) -> bool
     ensures { λ r. ⌜ r ≡ wrongWord (now (dimensions .entry)) (now (e .entry)) words ⌝ }
 {
     if 0 < record_daughters(e) {
@@ -73,7 +77,7 @@ pub fn wrong_word(dimensions: &[u8], e: &[u8], words: u16) -> bool
 }
 
 // Whether every variable of every daughter occurs exactly once.
-pub fn each_once(dimensions: &[u8], e: &[u8]) -> bool
+fn each_once(dimensions: &[u8], e: &[u8]) -> bool
     ensures { λ r. ⌜ r ≡ eachOnce (now (dimensions .entry)) (now (e .entry)) ⌝ }
 {
     let named = fields(e, 11, variables(dimensions, e) as usize);
@@ -92,7 +96,7 @@ pub fn each_once(dimensions: &[u8], e: &[u8]) -> bool
 }
 
 // Refusal 8: variables not each once, or lengths not adding up.
-pub fn wrong_variables(dimensions: &[u8], e: &[u8]) -> bool
+fn wrong_variables(dimensions: &[u8], e: &[u8]) -> bool
     ensures { λ r. ⌜ r ≡ wrongVariables (now (dimensions .entry)) (now (e .entry)) ⌝ }
 {
     if record_daughters(e) == 0 {
@@ -135,11 +139,30 @@ fn nonlexical_unused(dimensions: &[u8], e: &[u8]) -> bool
 }
 
 // Refusal 9: an unused byte is not 0.
-pub fn unused_set(dimensions: &[u8], e: &[u8]) -> bool
+fn unused_set(dimensions: &[u8], e: &[u8]) -> bool
     ensures { λ r. ⌜ r ≡ unusedSet (now (dimensions .entry)) (now (e .entry)) ⌝ }
 {
     if record_daughters(e) == 0 {
         return !lexical_unused(e);
     }
     !nonlexical_unused(dimensions, e)
+}
+
+// Refusals 6 to 9 of record e, which is that of rule r.
+pub fn record_refusal(dimensions: &[u8], words: u16, e: &[u8], r: RuleNumber) -> Tested
+    ensures { λ t. ⌜ t ≡ tested (recordTests (now (dimensions .entry)) words (now (e .entry)) (r .0)) ⌝ }
+{
+    if wrong_category(dimensions, e) {
+        return Tested::Met(Refusal::Grammar(6, r.0));
+    }
+    if wrong_word(dimensions, e, words) {
+        return Tested::Met(Refusal::Grammar(7, r.0));
+    }
+    if wrong_variables(dimensions, e) {
+        return Tested::Met(Refusal::Grammar(8, r.0));
+    }
+    if unused_set(dimensions, e) {
+        return Tested::Met(Refusal::Grammar(9, r.0));
+    }
+    Tested::Passed
 }

@@ -1,4 +1,4 @@
--- `reader::wrong_variables` meets its contract.
+-- `record_tests::wrong_variables` meets its contract.
 -- Assumes nothing.
 use mathlib.Core.Path.{sym, ap, _∙_}
 use mathlib.Core.Bool.{not}
@@ -6,11 +6,11 @@ use lib.ListN.{length}
 use Rattle.model.specs.Base.{total}
 use Rattle.model.specs.GrammarFile.{fields, dimensionIn}
 use Rattle.grammar.proofs.Parts.{part-length}
-use Rattle.reader.proofs.RecordTests.{variables-lacking, lengths-wrong, once-left}
+use Rattle.record_tests.proofs.Tests.{variables-lacking, lengths-wrong, once-left}
 use native.Mathlib.Omega.{arith}
 use borrow.Author.Needs.{needs}
-use Rattle.reader.proofs.record_tests.wrong_variables.Statement.{statement}
-use Rattle.reader.proofs.record_tests.wrong_variables.Tie as tie
+use Rattle.record_tests.proofs.wrong_variables.Statement.{statement}
+use Rattle.record_tests.proofs.wrong_variables.Tie as tie
 
 record-daughters-requires : tie.Need-record-daughters-requires
 record-daughters-requires c κs = search needs

@@ -1,9 +1,9 @@
--- `reader::record_refusal` meets its contract.
+-- `record_tests::record_refusal` meets its contract.
 -- Assumes nothing.
 use mathlib.Core.Path.{sym, _∙_}
 use borrow.Author.Needs.{needs}
-use Rattle.reader.proofs.rule_tests.record_refusal.Statement.{statement}
-use Rattle.reader.proofs.rule_tests.record_refusal.Tie as tie
+use Rattle.record_tests.proofs.record_refusal.Statement.{statement}
+use Rattle.record_tests.proofs.record_refusal.Tie as tie
 
 wrong-category-requires : tie.Need-wrong-category-requires
 wrong-category-requires c κs = search needs

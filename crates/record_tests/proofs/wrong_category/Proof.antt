@@ -1,4 +1,4 @@
--- `reader::wrong_category` meets its contract.
+-- `record_tests::wrong_category` meets its contract.
 -- Assumes nothing.
 use mathlib.Core.Path.{sym, ap, _∙_}
 use Prim.Native.Nat.{ℕ, _+_}
@@ -6,11 +6,11 @@ use lib.Dec.{leb}
 use lib.ListN.{length}
 use Rattle.model.specs.Base.{anyBelow}
 use Rattle.model.specs.GrammarFile.{field}
-use Rattle.reader.proofs.RecordTests.{category-wrong, daughters-many, daughters-left}
+use Rattle.record_tests.proofs.Tests.{category-wrong, daughters-many, daughters-left}
 use native.Mathlib.Omega.{arith}
 use borrow.Author.Needs.{needs}
-use Rattle.reader.proofs.record_tests.wrong_category.Statement.{statement}
-use Rattle.reader.proofs.record_tests.wrong_category.Tie as tie
+use Rattle.record_tests.proofs.wrong_category.Statement.{statement}
+use Rattle.record_tests.proofs.wrong_category.Tie as tie
 
 record-category-requires : tie.Need-record-category-requires
 record-category-requires c κs = search needs

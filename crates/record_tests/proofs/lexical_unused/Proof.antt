@@ -1,12 +1,12 @@
--- `reader::lexical_unused` meets its contract.
+-- `record_tests::lexical_unused` meets its contract.
 -- Assumes nothing.
 use mathlib.Core.Path.{sym, _∙_}
 use borrow.Author.Tests.{not-true, not-false}
 use Rattle.model.specs.GrammarFile.{fields}
-use Rattle.reader.proofs.RecordTests.{zero-first, zero-rest}
+use Rattle.record_tests.proofs.Tests.{zero-first, zero-rest}
 use borrow.Author.Needs.{needs}
-use Rattle.reader.proofs.record_tests.lexical_unused.Statement.{statement}
-use Rattle.reader.proofs.record_tests.lexical_unused.Tie as tie
+use Rattle.record_tests.proofs.lexical_unused.Statement.{statement}
+use Rattle.record_tests.proofs.lexical_unused.Tie as tie
 
 zeros-requires : tie.Need-zeros-requires
 zeros-requires c κs = search needs

@@ -11,7 +11,7 @@ use lib.ListN.{length}
 use Rattle.model.specs.Base.{anyBelow, total}
 use Rattle.model.specs.GrammarFile.{allZero, fields, field, wordOf, dimensionIn, lengthsOf, variables, wrongCategory, wrongWord, eachOnce, wrongVariables, unusedSet}
 use Rattle.model.proofs.Tests.{every-append}
-use Rattle.reader.specs.Reading.{unusedLexical, unusedNonlexical}
+use Rattle.record_tests.specs.RecordTests.{unusedLexical, unusedNonlexical}
 
 pub zero-first : (a b : List ℕ) → allZero a ≡ false → allZero (a ++ b) ≡ false
 zero-first a b t = every-append (eqb 0) a b ∙ ap (λ (x : Bool). x && allZero b) t

@@ -1,15 +1,15 @@
--- `reader::wrong_word` meets its contract.
+-- `record_tests::wrong_word` meets its contract.
 -- Assumes nothing.
 use mathlib.Core.Path.{sym, ap, _∙_}
 use mathlib.Core.Bool.{not}
 use Prim.Native.Nat.{ℕ}
 use lib.Dec.{eqb}
 use Rattle.model.specs.GrammarFile.{dimensionIn}
-use Rattle.reader.proofs.RecordTests.{word-lacking, dimension-wrong, word-there, word-left}
+use Rattle.record_tests.proofs.Tests.{word-lacking, dimension-wrong, word-there, word-left}
 use native.Mathlib.Omega.{arith}
 use borrow.Author.Needs.{needs}
-use Rattle.reader.proofs.record_tests.wrong_word.Statement.{statement}
-use Rattle.reader.proofs.record_tests.wrong_word.Tie as tie
+use Rattle.record_tests.proofs.wrong_word.Statement.{statement}
+use Rattle.record_tests.proofs.wrong_word.Tie as tie
 
 record-daughters-requires : tie.Need-record-daughters-requires
 record-daughters-requires c κs = search needs

@@ -1,4 +1,4 @@
--- `reader::wrong_daughter` meets its contract. The loop keeps: the daughters before j are categories.
+-- `record_tests::wrong_daughter` meets its contract. The loop keeps: the daughters before j are categories.
 -- Assumes nothing.
 use mathlib.Core.Path.{_≡_, refl, sym, ap, _∙_}
 use mathlib.Core.Bool.{false}
@@ -7,11 +7,11 @@ use lib.Dec.{leb}
 use lib.ListN.{length}
 use Rattle.model.specs.Base.{anyBelow}
 use Rattle.model.specs.GrammarFile.{field}
-use Rattle.reader.proofs.Below.{any-more, any-hit}
+use Rattle.grammar.proofs.Below.{any-more, any-hit}
 use borrow.Author.Needs.{needs}
 use native.Mathlib.Omega.{arith}
-use Rattle.reader.proofs.record_tests.wrong_daughter.Statement.{statement}
-use Rattle.reader.proofs.record_tests.wrong_daughter.Tie as tie
+use Rattle.record_tests.proofs.wrong_daughter.Statement.{statement}
+use Rattle.record_tests.proofs.wrong_daughter.Tie as tie
 
 abbrev Inv-loop : tie.InvT-loop
 Inv-loop dimensions e n j₀ j = (j ≤ n) × (anyBelow (λ (i : ℕ). leb (length dimensions) (field e (2 + i))) j ≡ false)
