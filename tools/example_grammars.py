@@ -1,6 +1,7 @@
 #!/usr/bin/env python3
 """Writes the grammar files of crates/worked_examples/data: the copy grammar, without weights and with,
-the pair grammar, one with categories that have no tree, and one damaged file for each refusal 1 to 10.
+the pair grammar, one with categories that have no tree, and one damaged file for each refusal 1 to 10,
+of 9 and 10 two.
 
 Usage: tools/example_grammars.py (at the repository's root)
 """
@@ -91,7 +92,7 @@ def wrong_check():
 
 FILES = {
     "copy": copy(),
-    # every sum of different rules tells them apart
+    # powers of two: no two sets of rules have the same sum
     "weighted": copy(weighted(COPY, [1, 2, 4, 8, 16, 32, 64])),
     "pair": blocks([1], S, 1, PAIR),
     "barren": blocks([1, 1, 1, 1], 0, 1, BARREN),

@@ -23,7 +23,7 @@ fn main() {
     let mut weighted_file = [0u8; 1024];
     let w = load(b"weighted", &mut weighted_file);
     let weighted = &weighted_file[0..w];
-    title(b"with weights");
+    title(b"the copy grammar with weights written again");
     writing::run(weighted);
     title(b"trace checker");
     traces::run(copy);

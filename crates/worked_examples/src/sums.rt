@@ -11,7 +11,7 @@ fn along_tree(file: &[u8], sentence: &[u16], tree: &[u16]) {
     print_verdict(weights::weigh_tree(file, sentence, tree));
 }
 
-// The trace of K3 and the tree that belongs to it; a shorter trace, which is its own tree's list.
+// The trace of K3 and the tree that belongs to it; a shorter trace, which is also the list of its tree.
 fn sums(file: &[u8]) {
     along_trace(file, &[0, 1, 0, 1], &[0, 1, 5, 4, 6, 5, 6]);
     along_tree(file, &[0, 1, 0, 1], &[0, 1, 5, 4, 6, 6, 5]);
@@ -19,7 +19,7 @@ fn sums(file: &[u8]) {
     along_tree(file, &[0, 0], &[0, 3, 5, 5]);
 }
 
-// K4's list as a trace, a word that is not next, a list that ends, a yield that is not the sentence, an unknown word, and a file that is none.
+// K4's list as a trace, a word that is not next, a list that ends, a yield that is not the sentence, an unknown word, and an empty file.
 fn refusals(file: &[u8]) {
     along_trace(file, &[0, 1, 0, 1], &[0, 1, 5, 4, 6, 6, 5]);
     along_trace(file, &[0, 1], &[0, 3, 5, 5]);
@@ -29,7 +29,7 @@ fn refusals(file: &[u8]) {
     along_tree(&file[0..0], &[0, 0], &[0, 3, 5, 5]);
 }
 
-// A file without weights has the sum 0.
+// Where all weights are 0 the sum is 0.
 pub fn run(copy: &[u8], weighted: &[u8]) {
     sums(weighted);
     sums(copy);
