@@ -3,7 +3,7 @@
 use mathlib.Core.Path.{_≡_, refl, sym, ap, ap₂, subst, _∙_}
 use mathlib.Core.Bool.{Bool, true, false, not, _&&_}
 use mathlib.Core.List.{List, [], _∷_, _++_, map}
-use mathlib.Core.Option.{Option, none}
+use mathlib.Core.Option.{Option, none, some}
 use Prim.Native.Nat.{ℕ, zero, suc, _+_, _-_, _*_, _%_, _<_, _≤_}
 use native.Mathlib.Omega.{arith}
 use borrow.Author.Tests.{eq-eqb}
@@ -12,7 +12,7 @@ use lib.ListN.{length, getD, take}
 use Rattle.model.specs.declared.Refusal.{Refusal}
 use Rattle.model.specs.Base.{if_then_else_, _orElse_, firstFrom, numbersFrom, sameList}
 use Rattle.model.specs.Verdict.{refuseIf, verdict, countVerdict}
-use Rattle.model.specs.Grammar.{Rule, Grammar}
+use Rattle.model.specs.Grammar.{Rule, Grammar, ruleAt}
 use Rattle.model.specs.GrammarFile.{within, allZero, fields, field, hasDaughters, dimensionIn, variables, weightOf, blocksFor, categoriesOf, startOf, rulesOf, wordsOf, dimensionsOf, recordOf, sameRecord, repeated, unusedBytes, wrongCategory, wrongWord, wrongVariables, wrongLength, wrongCheck, wrongBlock, wrongHeading, wrongBlocks, wrongCount, wrongRest, blocks, ruleRefusal, grammarRefusal, grammarOf}
 use Rattle.model.specs.Writer.{Heading, headingBlock}
 use Rattle.model.specs.Trace.{sentenceRefusal, traceRefusal}
@@ -27,6 +27,8 @@ use Rattle.model.proofs.ByteLists.{fields-length, fields-at, zeros-by, zero-fie
 use Rattle.model.proofs.FileTests.{eight-none, five-none, whole-blocks, record-long, right-heading}
 use Rattle.model.proofs.RuleFromRecord.{Tested, DimensionsIn, twelve}
 use Rattle.model.proofs.FromFile.{ruleRead, each-rule}
+use Rattle.model.specs.ExampleFiles.{copyFile}
+use Rattle.weights.specs.Weights.{weightBy, weightSum}
 use Rattle.weights.specs.OldFiles.{unusedBytesBefore, unusedSetBefore, repeatedBefore, ruleRefusalBefore, grammarRefusalBefore, ruleBefore, grammarBefore, Kept, OldFilesKept}
 
 -- two lists of n + 1 numbers that end with the same one are the same just if their first n numbers are
@@ -181,6 +183,7 @@ module _ (file : List ℕ) (before : grammarRefusalBefore file ≡ none) where
       record {
         accepted = same-refusal ∙ before;
         weights-zero = each-rule file (λ rule. rule .weight ≡ 0) (λ r h. unused r h .1);
+        sums-zero = no-sum;
         reader = kept-by (λ o g. verdict o (rulesOf file));
         writer = λ h records out q. (
           ap₂ (λ (o : Option Refusal) (l : ℕ). verdict (own h records o orElse refuseIf (ltb (length out) l) (Refusal.Desk 23 0)) l) (ap grammarRefusal q ∙ same-refusal)
@@ -234,6 +237,14 @@ module _ (file : List ℕ) (before : grammarRefusalBefore file ≡ none) where
             ((count g s n ∷ effort g s n ∷ []) ∷ listing g s n));
       }
     where
+      no-weight : (r : ℕ) (o : Option Rule) → ruleAt (grammarOf file) r ≡ o → weightBy o ≡ 0
+      no-weight r none q = refl
+      no-weight r (some rule) q = each-rule file (λ rule. rule .weight ≡ 0) (λ r h. unused r h .1) r rule q
+
+      no-sum : (list : List ℕ) → weightSum (grammarOf file) list ≡ 0
+      no-sum [] = refl
+      no-sum (r ∷ list) = omega (arith, no-weight r (ruleAt (grammarOf file) r) refl, no-sum list)
+
       -- the writer's own tests, and then those of its file
       own : Heading → List ℕ → Option Refusal → Option Refusal
       own h records o =
@@ -248,3 +259,7 @@ module _ (file : List ℕ) (before : grammarRefusalBefore file ≡ none) where
 
 pub kept : OldFilesKept
 kept file before = keeps file before
+
+-- there are such files: that of the copy grammar of document 01 is one
+pub copy-was-accepted : grammarRefusalBefore copyFile ≡ none
+copy-was-accepted = refl

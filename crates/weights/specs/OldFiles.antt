@@ -23,6 +23,7 @@ use Rattle.model.specs.Counting.{limitsRefusal, effortRefusal, entryRefusal, co
 use Rattle.model.specs.Survey.{Surveyed}
 use Rattle.model.specs.Program.{sentenceIn, limitIn, programLimit, printed, program}
 use Rattle.model.specs.Demands.{_⇔_}
+use Rattle.weights.specs.Weights.{weightSum}
 use Rattle.model.specs.Calls.{written, roomRefusal, readVerdict, writeVerdict, writeOutput, checkTraceVerdict, checkTreeVerdict, traceToTreeVerdict, traceToTreeOutput, treeToTraceVerdict, treeToTraceOutput, countCall, entryVerdict, entryOutput, SurveyOutcome}
 
 -- refusal 9 as document 01 has it: byte 23 is one of the unused bytes
@@ -101,6 +102,7 @@ module _ (file : List ℕ) where
   pub record Kept : Type 0 where
     pub accepted : grammarRefusal file ≡ none
     pub weights-zero : (r : ℕ) (rule : Rule) → ruleAt (grammarOf file) r ≡ some rule → rule .weight ≡ 0
+    pub sums-zero : (list : List ℕ) → weightSum (grammarOf file) list ≡ 0
     pub reader : readVerdict file ≡ verdict refused (rulesOf file)
     pub writer : (h : Heading) (records out : List ℕ) → fileOf h records ≡ file
         → let own = refuseIf (not (eqb (length (h .dimensions)) 64)) (Refusal.Grammar 4 0)
