@@ -19,8 +19,8 @@ use Rattle.model.specs.Writer.{Heading, allBytes, little2, padded, fileOf}
 abbrev pub codeOf : Variable → ℕ
 codeOf v = 4 * v .daughter + v .component
 
--- bytes 0 to 22: "byte 0 category; byte 1 daughters; bytes 2-4 their categories; bytes 5-6 the word (65,535 is the empty word); bytes 7-10 component lengths; bytes 11-22
--- variables, component after component"
+-- bytes 0 to 22: "byte 0 category; byte 1 daughters; bytes 2-4 their categories; bytes 5-6 the word (65,535 is the empty word); bytes 7-10 component lengths;
+-- bytes 11-22 variables, component after component"
 abbrev pub bytesBeforeWeight : Rule → List ℕ
 bytesBeforeWeight rule =
     (rule .category ∷ length (rule .daughters) ∷ [])

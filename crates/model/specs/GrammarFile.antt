@@ -144,7 +144,8 @@ module _ (dimensions e : List ℕ) where
   abbrev pub unusedSet : Bool
   unusedSet = not (allZero unusedBytes)
 
--- refusal 10: "equal to an earlier record". "Two records that differ only in weight still meet refusal 10." (document 02, paper 1): bytes 0 to 22 are compared
+-- refusal 10: "equal to an earlier record". "Two records that differ only in weight still meet refusal 10." (document 02, paper 1): bytes 0 to 22 are
+-- compared.
 abbrev pub sameRecord : List ℕ → List ℕ → Bool
 sameRecord a b = sameList (fields a 0 23) (fields b 0 23)
 

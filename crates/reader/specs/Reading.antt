@@ -1,4 +1,4 @@
--- The reader's tests in pieces: the tests of the blocks, of the heading, of a record and of the rules, and what is tested from one of these on
+-- The reader's tests in pieces: the tests of the blocks, of the heading and of the rules, and what is tested from one of these on
 -- (document 01, refusals 1 to 10).
 -- Assumes nothing.
 use Prim.Native.Nat.{ℕ, _+_, _-_}
