@@ -1,13 +1,17 @@
-//! Nanoseconds per live prefix of `dg_count` and of the same search in plain Rust, in one process, in turns, best of several runs. Both
-//! are built for release; the library's time includes its tests of the grammar file, the search's does not.
+//! The library and plain Rust in one process, in turns, best of several runs, both built for release: nanoseconds per live prefix of
+//! `dg_count` and of the same search, and nanoseconds a block of `dg_read_grammar` and of the same reader. The time of the library's count
+//! includes its tests of the grammar file, that of the search does not.
 
+mod files;
 mod inputs;
+mod reader;
 mod search;
 
 use std::env;
+use std::hint::black_box;
 use std::time::Instant;
 
-use reference::file::read;
+use reference::file::{read, BLOCK};
 use reference::notation::grammar_file;
 use reference::{Answer, Calls};
 
@@ -16,13 +20,8 @@ use search::Table;
 
 const EFFORT_LIMIT: u64 = 1_000_000_000;
 
-/// Count, effort, and the best time of each side in nanoseconds per live prefix.
-struct Measured {
-    count: u64,
-    effort: u64,
-    library: Option<f64>,
-    rust: f64,
-}
+/// How often a file is read in one run.
+const READINGS: u64 = 200;
 
 fn main() {
     let runs = env::args().nth(1).and_then(|word| word.parse().ok()).unwrap_or(7);
@@ -33,55 +32,79 @@ fn main() {
     println!("best of {runs} runs, ns per live prefix");
     println!("{:<12}{:>6}{:>6}{:>10}{:>12}{:>10}{:>8}{:>8}", "grammar", "words", "N", "count", "effort", "library", "rust", "ratio");
     for input in inputs::inputs() {
-        line(&input, library.as_deref(), runs);
+        counting(&input, library.as_deref(), runs);
     }
     println!("\nby length of the sentence");
     for input in inputs::growing() {
-        line(&input, library.as_deref(), runs);
+        counting(&input, library.as_deref(), runs);
+    }
+    println!("\nthe reader, ns a block");
+    println!("{:<12}{:>8}{:>10}{:>8}{:>8}", "file", "blocks", "library", "rust", "ratio");
+    for (name, file) in files::full() {
+        reading(name, &file, library.as_deref(), runs);
     }
 }
 
-fn line(input: &Input, library: Option<&dyn Calls>, runs: usize) {
-    let measured = measure(input, library, runs);
-    let shown = |number: Option<f64>| number.map_or("-".to_string(), |number| format!("{number:.2}"));
-    println!(
-        "{:<12}{:>6}{:>6}{:>10}{:>12}{:>10}{:>8}{:>8}",
-        input.0,
-        input.2.len(),
-        input.3,
-        measured.count,
-        measured.effort,
-        shown(measured.library),
-        shown(Some(measured.rust)),
-        shown(measured.library.map(|time| time / measured.rust))
-    );
+/// The best time of each side in nanoseconds.
+struct Times {
+    library: Option<f64>,
+    rust: f64,
 }
 
-fn measure((name, text, sentence, node_limit): &Input, library: Option<&dyn Calls>, runs: usize) -> Measured {
+/// Runs both sides in turns. A run is so many calls, and a call so many units of work; the times are those of a unit.
+fn in_turns(runs: usize, calls: u64, units: u64, rust: impl Fn(), library: Option<impl Fn()>) -> Times {
+    let run = |call: &dyn Fn()| {
+        let start = Instant::now();
+        for _ in 0..calls {
+            call();
+        }
+        start.elapsed().as_nanos() as f64 / (calls * units) as f64
+    };
+    let mut times = Times { library: None, rust: f64::INFINITY };
+    for _ in 0..runs {
+        times.rust = times.rust.min(run(&rust));
+        if let Some(library) = &library {
+            let time = run(library);
+            times.library = Some(times.library.map_or(time, |best| best.min(time)));
+        }
+    }
+    times
+}
+
+impl Times {
+    /// Library, plain Rust and their ratio, in columns.
+    fn columns(&self) -> String {
+        let shown = |number: Option<f64>| number.map_or("-".to_string(), |number| format!("{number:.2}"));
+        let ratio = self.library.map(|time| time / self.rust);
+        format!("{:>10}{:>8}{:>8}", shown(self.library), shown(Some(self.rust)), shown(ratio))
+    }
+}
+
+fn counting((name, text, sentence, node_limit): &Input, library: Option<&dyn Calls>, runs: usize) {
     let file = grammar_file(text);
     let grammar = read(&file).expect("the reader takes it");
     let table = Table::new(&grammar);
     let (count, effort) = search::count(&table, grammar.start, sentence, *node_limit, EFFORT_LIMIT).expect("the limit suffices");
-    // short searches are repeated, so that a run takes some milliseconds
-    let times = (200_000 / effort).max(1);
-    let per_prefix = |start: Instant| start.elapsed().as_nanos() as f64 / (effort * times) as f64;
-    let mut rust = f64::INFINITY;
-    let mut proved: Option<f64> = None;
-    for _ in 0..runs {
-        let start = Instant::now();
-        for _ in 0..times {
-            let found = search::count(&table, grammar.start, sentence, *node_limit, EFFORT_LIMIT);
-            assert_eq!(found, Some((count, effort)));
-        }
-        rust = rust.min(per_prefix(start));
-        let Some(library) = library else { continue };
-        let start = Instant::now();
-        for _ in 0..times {
+    let rust = || {
+        let found = search::count(&table, grammar.start, sentence, *node_limit, EFFORT_LIMIT);
+        assert_eq!(found, Some((count, effort)));
+    };
+    let library = library.map(|library| {
+        || {
             let answer = library.count(&file, sentence, *node_limit as u64, EFFORT_LIMIT);
             assert_eq!(answer, Answer::Counted { count: count as u32, effort: effort as u32 }, "{name}");
         }
-        let time = per_prefix(start);
-        proved = Some(proved.map_or(time, |best| best.min(time)));
-    }
-    Measured { count, effort, library: proved, rust }
+    });
+    // short searches are repeated, so that a run takes some milliseconds
+    let times = in_turns(runs, (200_000 / effort).max(1), effort, rust, library);
+    println!("{:<12}{:>6}{:>6}{:>10}{:>12}{}", name, sentence.len(), node_limit, count, effort, times.columns());
+}
+
+fn reading(name: &str, file: &[u8], library: Option<&dyn Calls>, runs: usize) {
+    let rules = reader::read(file).expect("the reader takes it");
+    let blocks = (file.len() / BLOCK) as u64;
+    let rust = || assert_eq!(reader::read(black_box(file)), Ok(rules));
+    let library = library.map(|library| || assert_eq!(library.read_grammar(black_box(file)), Answer::Accepted(rules), "{name}"));
+    let times = in_turns(runs, READINGS, blocks, rust, library);
+    println!("{:<12}{:>8}{}", name, blocks, times.columns());
 }

@@ -1,0 +1,181 @@
+//! The reader of the grammar file in plain Rust: refusals 1 to 10 in their order, read where the bytes lie. Nothing is allocated.
+
+use reference::file::{BLOCK, RECORDS_IN_BLOCK};
+use reference::grammar::EMPTY_WORD;
+use reference::record::{RECORD, WEIGHT};
+use reference::Refusal;
+
+/// Where the check of a block stands.
+const CHECK: usize = 508;
+
+type Block = [u8; BLOCK];
+type Record = [u8; RECORD];
+
+/// The number of rules, or the first refusal.
+pub fn read(file: &[u8]) -> Result<u32, Refusal> {
+    let (blocks, rest) = file.as_chunks::<BLOCK>();
+    if !rest.is_empty() || !(1..=14).contains(&blocks.len()) {
+        return Err(Refusal::grammar(1, 0));
+    }
+    first(blocks, 0, 2, |_, block| check(block).to_le_bytes() != block[CHECK..])?;
+    first(blocks, 0, 3, |k, block| number(block, 0) as usize != k || block[2] != if k == 0 { 1 } else { 2 })?;
+    let heading = &blocks[0];
+    if wrong_heading(heading) {
+        return Err(Refusal::grammar(4, 0));
+    }
+    let rules = number(heading, 7) as usize;
+    if blocks.len() != 1 + rules.div_ceil(RECORDS_IN_BLOCK) {
+        return Err(Refusal::grammar(5, 0));
+    }
+    first(blocks, 1, 5, |k, block| block[3] as usize != held(rules, k))?;
+    let dimensions = &heading[16..16 + heading[3] as usize];
+    for r in 0..rules {
+        rule_refusal(blocks, dimensions, number(heading, 5), r)?;
+    }
+    let last = blocks.len() - 1;
+    if !zero(&blocks[last][4 + RECORD * held(rules, last)..CHECK]) {
+        return Err(Refusal::grammar(9, rules));
+    }
+    Ok(rules as u32)
+}
+
+/// The refusal of that number at the first block, from block `from` on, that the test meets.
+fn first(blocks: &[Block], from: usize, number: u8, meets: impl Fn(usize, &Block) -> bool) -> Result<(), Refusal> {
+    match (from..blocks.len()).find(|&k| meets(k, &blocks[k])) {
+        Some(k) => Err(Refusal::grammar(number, k)),
+        None => Ok(()),
+    }
+}
+
+fn check(block: &Block) -> u32 {
+    block[..CHECK].iter().zip(1..).map(|(&byte, factor)| byte as u32 * factor).sum()
+}
+
+/// How many records rule block k holds.
+fn held(rules: usize, k: usize) -> usize {
+    RECORDS_IN_BLOCK.min(rules - RECORDS_IN_BLOCK * (k - 1))
+}
+
+fn number(bytes: &[u8], at: usize) -> u16 {
+    u16::from_le_bytes([bytes[at], bytes[at + 1]])
+}
+
+fn zero(bytes: &[u8]) -> bool {
+    bytes.iter().all(|&byte| byte == 0)
+}
+
+/// 4.
+fn wrong_heading(heading: &Block) -> bool {
+    let (categories, start) = (heading[3] as usize, heading[4] as usize);
+    !(1..=64).contains(&categories)
+        || !(1..=4096).contains(&number(heading, 5))
+        || !(1..=256).contains(&number(heading, 7))
+        || !heading[16..16 + categories].iter().all(|dimension| (1..=4).contains(dimension))
+        || start >= categories
+        || heading[16 + start] != 1
+        || !zero(&heading[9..16])
+        || !zero(&heading[16 + categories..CHECK])
+}
+
+fn record(blocks: &[Block], r: usize) -> &Record {
+    let at = 4 + RECORD * (r % RECORDS_IN_BLOCK);
+    blocks[1 + r / RECORDS_IN_BLOCK][at..].first_chunk().expect("a block has 21 records")
+}
+
+/// 6 to 10 of rule r.
+fn rule_refusal(blocks: &[Block], dimensions: &[u8], words: u16, r: usize) -> Result<(), Refusal> {
+    let record = record(blocks, r);
+    match record_refusal(dimensions, words, record) {
+        Some(number) => Err(Refusal::grammar(number, r)),
+        None if repeated(blocks, record, r) => Err(Refusal::grammar(10, r)),
+        None => Ok(()),
+    }
+}
+
+/// The number of the first refusal of 6 to 9.
+fn record_refusal(dimensions: &[u8], words: u16, record: &Record) -> Option<u8> {
+    let (category, count) = (record[0] as usize, record[1] as usize);
+    if category >= dimensions.len() || count > 3 {
+        return Some(6);
+    }
+    let daughters = &record[2..2 + count];
+    if daughters.iter().any(|&daughter| daughter as usize >= dimensions.len()) {
+        return Some(6);
+    }
+    let dimension = dimensions[category] as usize;
+    if count == 0 {
+        let word = number(record, 5);
+        return if dimension != 1 || (word >= words && word != EMPTY_WORD) {
+            Some(7)
+        } else if !zero(&record[2..5]) || !zero(&record[7..WEIGHT]) {
+            Some(9)
+        } else {
+            None
+        };
+    }
+    let variables = daughters.iter().map(|&daughter| dimensions[daughter as usize] as usize).sum();
+    let lengths: usize = record[7..7 + dimension].iter().map(|&length| length as usize).sum();
+    if lengths != variables || !each_once(dimensions, daughters, &record[11..11 + variables]) {
+        return Some(8);
+    }
+    let unused = [2 + count..7, 7 + dimension..11, 11 + variables..WEIGHT];
+    unused.into_iter().any(|part| !zero(&record[part])).then_some(9)
+}
+
+/// Whether every variable of every daughter occurs exactly once.
+fn each_once(dimensions: &[u8], daughters: &[u8], named: &[u8]) -> bool {
+    for (position, &daughter) in daughters.iter().enumerate() {
+        for component in 0..dimensions[daughter as usize] {
+            let variable = 4 * position as u8 + component;
+            if named.iter().filter(|&&other| other == variable).count() != 1 {
+                return false;
+            }
+        }
+    }
+    true
+}
+
+/// 10.
+fn repeated(blocks: &[Block], later: &Record, r: usize) -> bool {
+    (0..r).any(|j| record(blocks, j)[..WEIGHT] == later[..WEIGHT])
+}
+
+#[cfg(test)]
+mod tests {
+    use super::*;
+    use reference::notation::grammar_file;
+    use reference::samples::SMALL;
+
+    /// Small grammars with each byte changed, full files with some, in three ways each, the block's check wrong and right.
+    #[test]
+    fn agrees_with_the_reference() {
+        let small = SMALL.iter().map(|text| (grammar_file(text), 1));
+        let full = crate::files::full().into_iter().map(|(_, file)| (file, 41));
+        let mut seen = [0; 11];
+        for (file, step) in small.chain(full) {
+            agrees(&file, &mut seen);
+            for at in (0..file.len()).step_by(step) {
+                for change in [1, 64, 255] {
+                    let mut changed = file.clone();
+                    changed[at] = changed[at].wrapping_add(change);
+                    agrees(&changed, &mut seen);
+                    let block: &mut Block = (&mut changed[at / BLOCK * BLOCK..][..BLOCK]).try_into().unwrap();
+                    let sum = check(block);
+                    block[CHECK..].copy_from_slice(&sum.to_le_bytes());
+                    agrees(&changed, &mut seen);
+                }
+            }
+            agrees(&file[..file.len() - 1], &mut seen);
+            agrees(&[file, vec![0; BLOCK]].concat(), &mut seen);
+        }
+        agrees(&[], &mut seen);
+        assert!(seen.iter().all(|&times| times > 0), "{seen:?}");
+    }
+
+    /// `seen` counts the refusals by their numbers, and at 0 what is accepted.
+    fn agrees(file: &[u8], seen: &mut [u32; 11]) {
+        let expected = reference::file::read(file).map(|grammar| grammar.rules.len() as u32);
+        seen[expected.map_or_else(|refusal| refusal.number as usize, |_| 0)] += 1;
+        assert_eq!(read(file), expected);
+    }
+}
