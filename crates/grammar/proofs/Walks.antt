@@ -38,6 +38,32 @@ module _ (l : List ℕ) (i : ℕ) where
   pub weighted-end : length l ≤ i → weighted (i + 1) (drop i l) ≡ 0
   weighted-end h = rw (drop-of-length-le l {i = i} h)
 
+times : (x : ℕ) {m n : ℕ} → m ≡ n → m * x ≡ n * x
+times x e = ap (λ (k : ℕ). k * x) e
+
+-- four terms of a weighted sum
+pub weighted-four : (l : List ℕ) (i : ℕ) → i + 4 ≤ length l
+    → weighted (i + 1) (drop i l)
+    ≡ (i + 1) * getD l i 0 + (i + 2) * getD l (i + 1) 0 + (i + 3) * getD l (i + 2) 0 + (i + 4) * getD l (i + 3) 0 + weighted (i + 4 + 1) (drop (i + 4) l)
+weighted-four l i h =
+    let rest : ℕ → ℕ = λ j. weighted (j + 1) (drop j l) in
+    let e₂ : i + 1 + 1 ≡ i + 2 = omega arith in
+    let e₃ : i + 2 + 1 ≡ i + 3 = omega arith in
+    let e₄ : i + 3 + 1 ≡ i + 4 = omega arith in
+    omega (
+      arith,
+      weighted-more l i (omega arith),
+      weighted-more l (i + 1) (omega arith),
+      times (getD l (i + 1) 0) e₂,
+      ap rest e₂,
+      weighted-more l (i + 2) (omega arith),
+      times (getD l (i + 2) 0) e₃,
+      ap rest e₃,
+      weighted-more l (i + 3) (omega arith),
+      times (getD l (i + 3) 0) e₄,
+      ap rest e₄,
+    )
+
 -- the sum of what f gives
 module _ (f : ℕ → ℕ) (l : List ℕ) (i : ℕ) where
   pub sum-more : i < length l → total (map f (drop i l)) ≡ f (getD l i 0) + total (map f (drop (i + 1) l))

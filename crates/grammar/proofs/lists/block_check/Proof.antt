@@ -1,77 +1,63 @@
--- `grammar::block_check` meets its contract. The loop keeps: the weighted sum so far and that from place i on are the whole.
+-- `grammar::block_check` meets its contract. The loop keeps: the sum so far and what the bytes after so many turns add are the whole.
 -- Assumes nothing.
 use mathlib.Core.Path.{_≡_, ap}
-use Prim.Native.Nat.{ℕ, _≤_, _<_, _-_, _+_, _*_}
-use native.Mathlib.Nat.{mul-le-mul}
-use lib.ListN.{length, getD, drop, length-take}
+use Prim.Native.Nat.{ℕ, _≤_, _-_, _+_, _*_}
+use lib.ListN.{length, drop, length-take}
 use Rattle.model.specs.GrammarFile.{fields, weighted}
-use Rattle.grammar.proofs.Walks.{weighted-more, weighted-end}
-use borrow.Author.Needs.{needs}
+use Rattle.grammar.proofs.Walks.{weighted-end}
 use native.Mathlib.Omega.{arith}
+use borrow.Author.Needs.{needs}
 use Rattle.grammar.proofs.lists.block_check.Statement.{statement}
 use Rattle.grammar.proofs.lists.block_check.Tie as tie
 
-small : (i b : ℕ) → i < 508 → b < 256 → (i + 1) * b ≤ 129540
-small i b h k = mul-le-mul {n₂ = 508} {m₂ = 255} (omega arith) (omega arith)
-
 abbrev Inv-loop : tie.InvT-loop
-Inv-loop block summed sum₀ i₀ sum i = (i ≤ length summed) × (length summed ≤ 508) × (weighted 1 summed ≡ sum + weighted (i + 1) (drop i summed)) × (sum ≤ 129540 * i)
+Inv-loop block summed sum₀ turn₀ sum turn =
+    (turn ≤ 127) × (length summed ≡ 508) × (weighted 1 summed ≡ sum + weighted (4 * turn + 1) (drop (4 * turn) summed)) × (sum ≤ 518160 * turn)
 
 abbrev μ-loop : tie.MeasureT-loop
-μ-loop block summed sum₀ i₀ sum i = length summed - i
+μ-loop block summed sum₀ turn₀ sum turn = 127 - turn
 
 fields-requires : tie.Need-fields-requires Inv-loop μ-loop
 fields-requires c κs = search needs
 
+part-check-requires : tie.Need-part-check-requires Inv-loop μ-loop
+part-check-requires c κs = search needs
+
+returns : tie.Need-returns Inv-loop μ-loop
+returns c = cc
+
 loop-holds : tie.Need-loop-holds Inv-loop μ-loop
 loop-holds c =
-    let n = simp length-take at (ap length (c .fields .ensures)) in
+    let n = simp length-take at (ap length (c .before .fields .ensures)) in
     (omega arith, omega arith, omega arith, omega arith)
 
-cast-sum : tie.Need-cast-sum Inv-loop μ-loop
-cast-sum c = search needs
+mul-four-terms : tie.Need-mul-four-terms Inv-loop μ-loop
+mul-four-terms c = search needs
+
+four-terms-requires : tie.Need-four-terms-requires Inv-loop μ-loop
+four-terms-requires c κs = search needs
 
 add-sum : tie.Need-add-sum Inv-loop μ-loop
 add-sum c = search needs
 
-shared-slice-read-sum : tie.Need-shared-slice-read-sum Inv-loop μ-loop
-shared-slice-read-sum c = search needs
-
-cast-sum-2 : tie.Need-cast-sum-2 Inv-loop μ-loop
-cast-sum-2 c = omega (arith, c .shared-slice-known2 .given (c .before .before .loop .i))
-
-mul-sum : tie.Need-mul-sum Inv-loop μ-loop
-mul-sum c =
-    let i = c .before .before .loop .i in
-    let k = c .shared-slice-known2 .given i in
-    omega (arith, small i (getD (c .before .before .before .fields .result .now) i 0) (omega arith) (omega arith))
-
-add-sum-2 : tie.Need-add-sum-2 Inv-loop μ-loop
-add-sum-2 c =
-    let i = c .before .before .loop .i in
-    let k = c .shared-slice-known2 .given i in
-    omega (arith, small i (getD (c .before .before .before .fields .result .now) i 0) (omega arith) (omega arith))
-
-add-i : tie.Need-add-i Inv-loop μ-loop
-add-i c = search needs
+add-turn : tie.Need-add-turn Inv-loop μ-loop
+add-turn c = search needs
 
 loop-less : tie.Need-loop-less Inv-loop μ-loop
 loop-less c = search needs
 
 loop-again : tie.Need-loop-again Inv-loop μ-loop
 loop-again c =
-    let i = c .before .before .loop .i in
-    let l = c .before .before .before .fields .result .now in
-    let k = c .shared-slice-known2 .given i in
-    let s = small i (getD l i 0) (omega arith) (omega arith) in
-    let m = weighted-more l i (c .before .loop-test .taken) in
-    omega arith
+    let l = c .before .before in
+    let e : 4 * l .loop .turn + 4 ≡ 4 * (l .loop .turn + 1) = omega arith in
+    let rest = ap (λ (i : ℕ). weighted (i + 1) (drop i (l .before .before .fields .result .now))) e in
+    (omega arith, omega arith, omega arith, omega arith)
 
-returns : tie.Need-returns Inv-loop μ-loop
-returns c =
-    let l = c .before .before .fields .result .now in
-    let e = weighted-end l (c .before .loop .i) (c .loop-test .left) in
-    let w = ap (weighted 1) (c .before .before .fields .ensures) in
+returns-2 : tie.Need-returns-2 Inv-loop μ-loop
+returns-2 c =
+    let summed = c .before .before .before .fields .result .now in
+    let e = weighted-end summed (4 * c .before .loop .turn) (omega arith) in
+    let whole = ap (weighted 1) (c .before .before .before .fields .ensures) in
     omega arith
 
 pub block-check-spec : {M : Type 1} → statement M
@@ -81,14 +67,13 @@ block-check-spec =
     Inv-loop
     μ-loop
     fields-requires
+    part-check-requires
+    returns
     loop-holds
-    cast-sum
+    mul-four-terms
+    four-terms-requires
     add-sum
-    shared-slice-read-sum
-    cast-sum-2
-    mul-sum
-    add-sum-2
-    add-i
+    add-turn
     loop-less
     loop-again
-    returns)
+    returns-2)
