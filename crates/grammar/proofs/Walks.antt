@@ -1,17 +1,19 @@
 -- A list walked from the front, one element further: what a test of all, a sum, a count and a comparison say of what is left.
 -- Assumes nothing.
-use mathlib.Core.Path.{_≡_, refl, ap}
+use mathlib.Core.Path.{_≡_, refl, sym, ap, _∙_}
 use mathlib.Core.Bool.{Bool, true, false, _&&_}
 use mathlib.Core.List.{List, [], _∷_, map}
-use Prim.Native.Nat.{ℕ, suc, _+_, _*_, _<_, _≤_}
+use Prim.Native.Nat.{ℕ, zero, suc, _+_, _*_, _<_, _≤_}
 use native.Mathlib.Omega.{arith}
 use native.Mathlib.Numerals.{add-one}
+use native.Mathlib.Decide.{ℕ-discrete}
 use borrow.Author.Tests.{eq-eqb, ne-eqb}
 use lib.Dec.{eqb}
 use lib.ListN.{length, getD, take, drop, drop-of-length-le}
 use lib.Seq.{drop-cons}
 use Rattle.model.specs.Base.{every, occurrences, total, sameList}
 use Rattle.model.specs.GrammarFile.{weighted}
+use Rattle.model.proofs.Tests.{not-both}
 
 -- every element passes the test
 module _ (test : ℕ → Bool) (l : List ℕ) (i : ℕ) where
@@ -94,19 +96,28 @@ module _ (a b : List ℕ) (i : ℕ) where
   pub same-end : length a ≤ i → length b ≤ i → sameList (drop i a) (drop i b) ≡ true
   same-end h k = rw (drop-of-length-le a {i = i} h, drop-of-length-le b {i = i} k)
 
+and-none : (t : Bool) {b : Bool} → b ≡ false → t && b ≡ false
+and-none true e = e
+and-none false e = refl
+
 pub same-length : (a b : List ℕ) → (length a ≡ length b → ⊥) → sameList a b ≡ false
 same-length [] [] d = absurd (d refl)
 same-length [] (y ∷ b) d = refl
 same-length (x ∷ a) [] d = refl
-same-length (x ∷ a) (y ∷ b) d = go (eqb x y) (same-length a b (λ e. d (ap suc e)))
-  where
-    go : (t : Bool) → sameList a b ≡ false → t && sameList a b ≡ false
-    go true e = e
-    go false e = refl
+same-length (x ∷ a) (y ∷ b) d = and-none (eqb x y) (same-length a b (λ e. d (ap suc e)))
 
--- lists that begin with different numbers
-pub differ-at-first : (n : ℕ) (a b : List ℕ) → (getD a 0 0 ≡ getD b 0 0 → ⊥) → sameList (take (suc n) a) (take (suc n) b) ≡ false
-differ-at-first n [] [] h = absurd (h refl)
-differ-at-first n [] (y ∷ b) h = refl
-differ-at-first n (x ∷ a) [] h = refl
-differ-at-first n (x ∷ a) (y ∷ b) h = rw (ne-eqb x y h)
+-- the first n elements compared: they differ if they do at a place below n, and where they are the same they are so at each
+pub differ-at : (n : ℕ) (a b : List ℕ) (i : ℕ) → i < n → (getD a i 0 ≡ getD b i 0 → ⊥) → sameList (take n a) (take n b) ≡ false
+differ-at zero a b i l d = absurd (omega arith)
+differ-at (suc n) [] [] i l d = absurd (d refl)
+differ-at (suc n) [] (y ∷ b) i l d = refl
+differ-at (suc n) (x ∷ a) [] i l d = refl
+differ-at (suc n) (x ∷ a) (y ∷ b) zero l d = rw (ne-eqb x y d)
+differ-at (suc n) (x ∷ a) (y ∷ b) (suc i) l d = and-none (eqb x y) (differ-at n a b i (omega arith) d)
+
+pub same-at : (n : ℕ) (a b : List ℕ) → sameList (take n a) (take n b) ≡ true → (i : ℕ) → i < n → getD a i 0 ≡ getD b i 0
+same-at n a b e i l = go (ℕ-discrete (getD a i 0) (getD b i 0))
+  where
+    go : Dec (getD a i 0 ≡ getD b i 0) → getD a i 0 ≡ getD b i 0
+    go (yes s) = s
+    go (no d) = not-both (sym e ∙ differ-at n a b i l d)

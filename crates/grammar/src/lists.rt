@@ -57,25 +57,6 @@ pub fn occurrences(x: usize, bytes: &[u8]) -> usize
     found
 }
 
-// n times a byte.
-fn term(n: usize, x: u8) -> u32
-    requires { ⌜ n ≤ 508 ⌝ }
-    ensures { λ r. ⌜ (r ≡ n * x) × (r ≤ 129540) ⌝ }
-{
-    (n as u32) * (x as u32)
-}
-
-// What the four bytes from byte i on add to a check.
-fn four_terms(bytes: &[u8], i: usize) -> u32
-    requires { ⌜ (i + 4 ≤ length (now bytes)) × (i + 4 ≤ 508) ⌝ }
-    ensures { λ r. ⌜ (weighted (i + 1) (drop i (now (bytes .entry))) ≡ r + weighted (i + 4 + 1) (drop (i + 4) (now (bytes .entry)))) × (r ≤ 518160) ⌝ }
-{
-    term(i + 1, bytes[i])
-        + term(i + 2, bytes[i + 1])
-        + term(i + 3, bytes[i + 2])
-        + term(i + 4, bytes[i + 3])
-}
-
 // The check of a part of a block, which no file has: byte by byte.
 fn part_check(bytes: &[u8]) -> u32
     requires { ⌜ length (now bytes) ≤ 508 ⌝ }
@@ -84,7 +65,7 @@ fn part_check(bytes: &[u8]) -> u32
     let mut sum: u32 = 0;
     let mut i: usize = 0;
     while i < bytes.len() {
-        sum += term(i + 1, bytes[i]);
+        sum += (i as u32 + 1) * (bytes[i] as u32);
         i += 1;
     }
     sum
@@ -93,7 +74,34 @@ fn part_check(bytes: &[u8]) -> u32
 // How many turns of four bytes the check of a block takes.
 const TURNS: usize = 127;
 
-// The check of a block: the sum over its bytes 0 to 507 of (i + 1) times byte i, four bytes a turn.
+// Of the bytes at one of the four places of a turn: their sum over the turns taken, and the sum of these sums after each turn.
+struct Lane {
+    sum: u32,
+    sums: u32,
+}
+
+// The lane with the byte of one more turn.
+fn taken(lane: Lane, x: u8) -> Lane
+    requires { ⌜ (lane .sum ≤ 32130) × (lane .sums ≤ 4112895) ⌝ }
+    ensures { λ r. ⌜ (r .sum ≡ lane .sum + x) × (r .sums ≡ lane .sums + (lane .sum + x)) × (x < 256) ⌝ }
+{
+    let sum = lane.sum + x as u32;
+    Lane {
+        sum,
+        sums: lane.sums + sum,
+    }
+}
+
+// What a lane adds to the check after all turns, where its bytes stand k places before the last of their turn.
+fn added(lane: Lane, k: u32) -> u32
+    requires { ⌜ (k ≤ 3) × (lane .sum ≤ lane .sums) × (lane .sums ≤ 4112895) ⌝ }
+    ensures { λ r. ⌜ (r + k * lane .sum ≡ 4 * lane .sums) × (r ≤ 16451580) ⌝ }
+{
+    4 * lane.sums - k * lane.sum
+}
+
+// The check of a block: the sum over its bytes 0 to 507 of (i + 1) times byte i. Four bytes are taken a turn, from the last to the first, so that a byte of
+// turn t is in the sums of t + 1 turns; 4 times that, less what its place in the turn leaves out, is its factor.
 pub fn block_check(block: &[u8]) -> u32
     ensures { λ r. ⌜ r ≡ weighted 1 (fields (now (block .entry)) 0 508) ⌝ }
 {
@@ -101,13 +109,20 @@ pub fn block_check(block: &[u8]) -> u32
     if summed.len() < 508 {
         return part_check(summed);
     }
-    let mut sum: u32 = 0;
-    let mut turn: usize = 0;
-    while turn < TURNS {
-        sum += four_terms(summed, 4 * turn);
-        turn += 1;
+    let mut first = Lane { sum: 0, sums: 0 };
+    let mut second = Lane { sum: 0, sums: 0 };
+    let mut third = Lane { sum: 0, sums: 0 };
+    let mut fourth = Lane { sum: 0, sums: 0 };
+    let mut turn: usize = TURNS;
+    while 0 < turn {
+        turn -= 1;
+        let i = 4 * turn;
+        first = taken(first, summed[i]);
+        second = taken(second, summed[i + 1]);
+        third = taken(third, summed[i + 2]);
+        fourth = taken(fourth, summed[i + 3]);
     }
-    sum
+    added(first, 3) + added(second, 2) + added(third, 1) + added(fourth, 0)
 }
 
 // Whether two lists of bytes are the same, up to the first byte that differs.

@@ -1,21 +1,23 @@
--- `grammar::block_check` meets its contract. The loop keeps: the sum so far and what the bytes after so many turns add are the whole.
+-- `grammar::block_check` meets its contract. The loop keeps: the lanes are those of the bytes from 4 times the turns left on.
 -- Assumes nothing.
 use mathlib.Core.Path.{_≡_, ap}
-use Prim.Native.Nat.{ℕ, _≤_, _-_, _+_, _*_}
-use lib.ListN.{length, drop, length-take}
-use Rattle.model.specs.GrammarFile.{fields, weighted}
-use Rattle.grammar.proofs.Walks.{weighted-end}
+use Prim.Native.Nat.{ℕ, _<_, _≤_, _-_, _+_, _*_}
+use lib.ListN.{length, getD, length-take}
+use Rattle.model.specs.GrammarFile.{weighted}
+use Rattle.grammar.proofs.Lanes.{Small, small-none, small-more, Lanes, lanes-none, lanes-more, lanes-all}
 use native.Mathlib.Omega.{arith}
 use borrow.Author.Needs.{needs}
 use Rattle.grammar.proofs.lists.block_check.Statement.{statement}
 use Rattle.grammar.proofs.lists.block_check.Tie as tie
 
 abbrev Inv-loop : tie.InvT-loop
-Inv-loop block summed sum₀ turn₀ sum turn =
-    (turn ≤ 127) × (length summed ≡ 508) × (weighted 1 summed ≡ sum + weighted (4 * turn + 1) (drop (4 * turn) summed)) × (sum ≤ 518160 * turn)
+Inv-loop block summed first₀ second₀ third₀ fourth₀ turn₀ first second third fourth turn =
+    (turn ≤ 127) × (length summed ≡ 508)
+    × Lanes summed (4 * turn) (first .sum) (first .sums) (second .sum) (second .sums) (third .sum) (third .sums) (fourth .sum) (fourth .sums)
+    × Small turn (first .sum) (first .sums) × Small turn (second .sum) (second .sums) × Small turn (third .sum) (third .sums) × Small turn (fourth .sum) (fourth .sums)
 
 abbrev μ-loop : tie.MeasureT-loop
-μ-loop block summed sum₀ turn₀ sum turn = 127 - turn
+μ-loop block summed first₀ second₀ third₀ fourth₀ turn₀ first second third fourth turn = turn
 
 fields-requires : tie.Need-fields-requires Inv-loop μ-loop
 fields-requires c κs = search needs
@@ -28,37 +30,103 @@ returns c = cc
 
 loop-holds : tie.Need-loop-holds Inv-loop μ-loop
 loop-holds c =
+    let summed = c .before .fields .result .now in
     let n = simp length-take at (ap length (c .before .fields .ensures)) in
-    (omega arith, omega arith, omega arith, omega arith)
+    let long : length summed ≡ 508 = omega arith in
+    (omega arith, long, lanes-none summed 508 (omega arith), small-none, small-none, small-none, small-none)
 
-mul-four-terms : tie.Need-mul-four-terms Inv-loop μ-loop
-mul-four-terms c = search needs
+sub-turn : tie.Need-sub-turn Inv-loop μ-loop
+sub-turn c = search needs
 
-four-terms-requires : tie.Need-four-terms-requires Inv-loop μ-loop
-four-terms-requires c κs = search needs
+mul-i : tie.Need-mul-i Inv-loop μ-loop
+mul-i c = search needs
 
-add-sum : tie.Need-add-sum Inv-loop μ-loop
-add-sum c = search needs
+shared-slice-read-taken : tie.Need-shared-slice-read-taken Inv-loop μ-loop
+shared-slice-read-taken c = search needs
 
-add-turn : tie.Need-add-turn Inv-loop μ-loop
-add-turn c = search needs
+taken-requires : tie.Need-taken-requires Inv-loop μ-loop
+taken-requires c κs = search needs
+
+add-taken : tie.Need-add-taken Inv-loop μ-loop
+add-taken c = search needs
+
+shared-slice-read-taken-2 : tie.Need-shared-slice-read-taken-2 Inv-loop μ-loop
+shared-slice-read-taken-2 c = search needs
+
+taken-requires-2 : tie.Need-taken-requires-2 Inv-loop μ-loop
+taken-requires-2 c κs = search needs
+
+add-taken-2 : tie.Need-add-taken-2 Inv-loop μ-loop
+add-taken-2 c = search needs
+
+shared-slice-read-taken-3 : tie.Need-shared-slice-read-taken-3 Inv-loop μ-loop
+shared-slice-read-taken-3 c = search needs
+
+taken-requires-3 : tie.Need-taken-requires-3 Inv-loop μ-loop
+taken-requires-3 c κs = search needs
+
+add-taken-3 : tie.Need-add-taken-3 Inv-loop μ-loop
+add-taken-3 c = search needs
+
+shared-slice-read-taken-4 : tie.Need-shared-slice-read-taken-4 Inv-loop μ-loop
+shared-slice-read-taken-4 c = search needs
+
+taken-requires-4 : tie.Need-taken-requires-4 Inv-loop μ-loop
+taken-requires-4 c κs = search needs
 
 loop-less : tie.Need-loop-less Inv-loop μ-loop
 loop-less c = search needs
 
 loop-again : tie.Need-loop-again Inv-loop μ-loop
 loop-again c =
-    let l = c .before .before in
-    let e : 4 * l .loop .turn + 4 ≡ 4 * (l .loop .turn + 1) = omega arith in
-    let rest = ap (λ (i : ℕ). weighted (i + 1) (drop i (l .before .before .fields .result .now))) e in
-    (omega arith, omega arith, omega arith, omega arith)
+    let t = c .before .before .before .before .before .before .before .before .before in
+    let summed = t .before .before .fields .result .now in
+    let inv = t .loop .inv in
+    let more : 0 < t .loop .turn = c .before .before .before .before .before .before .before .before .loop-test .taken in
+    let i = 4 * (t .loop .turn - 1) in
+    let at : 4 * t .loop .turn ≡ i + 4 = omega (arith, more) in
+    let e₁ = c .before .before .before .before .before .before .taken .ensures in
+    let e₂ = c .before .before .before .before .taken2 .ensures in
+    let e₃ = c .before .before .taken3 .ensures in
+    let e₄ = c .taken4 .ensures in (
+      omega (arith, inv .0),
+      inv .1,
+      lanes-more summed i (omega (arith, at, inv .0, inv .1)) (rw at at (inv .2)) e₁ e₂ e₃ e₄,
+      small-more (getD summed i 0) more (inv .0) (inv .3) e₁,
+      small-more (getD summed (i + 1) 0) more (inv .0) (inv .4) e₂,
+      small-more (getD summed (i + 2) 0) more (inv .0) (inv .5) e₃,
+      small-more (getD summed (i + 3) 0) more (inv .0) (inv .6) e₄,
+    )
+
+added-requires : tie.Need-added-requires Inv-loop μ-loop
+added-requires c κs = search needs
+
+added-requires-2 : tie.Need-added-requires-2 Inv-loop μ-loop
+added-requires-2 c κs = search needs
+
+add-result : tie.Need-add-result Inv-loop μ-loop
+add-result c = search needs
+
+added-requires-3 : tie.Need-added-requires-3 Inv-loop μ-loop
+added-requires-3 c κs = search needs
+
+add-result-2 : tie.Need-add-result-2 Inv-loop μ-loop
+add-result-2 c = search needs
+
+added-requires-4 : tie.Need-added-requires-4 Inv-loop μ-loop
+added-requires-4 c κs = search needs
+
+add-result-3 : tie.Need-add-result-3 Inv-loop μ-loop
+add-result-3 c = search needs
 
 returns-2 : tie.Need-returns-2 Inv-loop μ-loop
 returns-2 c =
-    let summed = c .before .before .before .fields .result .now in
-    let e = weighted-end summed (4 * c .before .loop .turn) (omega arith) in
-    let whole = ap (weighted 1) (c .before .before .before .fields .ensures) in
-    omega arith
+    let t = c .before .before .before .before .before in
+    let summed = t .before .before .fields .result .now in
+    let none : 4 * t .loop .turn ≡ 0 = omega (arith, c .before .before .before .before .loop-test .left) in
+    let all = lanes-all summed (rw none at (t .loop .inv .2)) in
+    let whole = ap (weighted 1) (t .before .before .fields .ensures) in
+    omega (arith, all, whole, c .before .before .before .added .ensures .0, c .before .before .added2 .ensures .0, c .before .added3 .ensures .0, c .added4 .ensures .0)
 
 pub block-check-spec : {M : Type 1} → statement M
 block-check-spec =
@@ -70,10 +138,26 @@ block-check-spec =
     part-check-requires
     returns
     loop-holds
-    mul-four-terms
-    four-terms-requires
-    add-sum
-    add-turn
+    sub-turn
+    mul-i
+    shared-slice-read-taken
+    taken-requires
+    add-taken
+    shared-slice-read-taken-2
+    taken-requires-2
+    add-taken-2
+    shared-slice-read-taken-3
+    taken-requires-3
+    add-taken-3
+    shared-slice-read-taken-4
+    taken-requires-4
     loop-less
     loop-again
+    added-requires
+    added-requires-2
+    add-result
+    added-requires-3
+    add-result-2
+    added-requires-4
+    add-result-3
     returns-2)
