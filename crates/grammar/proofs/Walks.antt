@@ -96,7 +96,7 @@ module _ (a b : List ℕ) (i : ℕ) where
   pub same-end : length a ≤ i → length b ≤ i → sameList (drop i a) (drop i b) ≡ true
   same-end h k = rw (drop-of-length-le a {i = i} h, drop-of-length-le b {i = i} k)
 
-and-none : (t : Bool) {b : Bool} → b ≡ false → t && b ≡ false
+pub and-none : (t : Bool) {b : Bool} → b ≡ false → t && b ≡ false
 and-none true e = e
 and-none false e = refl
 

@@ -7,18 +7,19 @@ ghost use Rattle.model.specs.GrammarFile.{allZero, fields, weighted, sameRecord
 use crate::bytes::byte;
 use crate::bytes::fields;
 
-// Whether every byte is 0.
+// Whether every byte is 0. All are looked at, whatever the first ones are, so that the compiler takes many at once.
 fn all_zero(bytes: &[u8]) -> bool
     ensures { λ r. ⌜ r ≡ allZero (now (bytes .entry)) ⌝ }
 {
+    let mut zero = true;
     let mut i: usize = 0;
     while i < bytes.len() {
         if bytes[i] != 0 {
-            return false;
+            zero = false;
         }
         i += 1;
     }
-    true
+    zero
 }
 
 // Whether n bytes from byte i on are 0.

@@ -1,4 +1,2 @@
-pub mod Answers
 pub mod BlockTests
 pub mod HeadingTests
-pub mod RuleTests

@@ -11,7 +11,8 @@ use Rattle.reader.specs.declared.blocks.BlockTest.the-variants.{Check, K
 use Rattle.model.specs.Base.{_orElse_, firstFrom}
 use Rattle.model.specs.Verdict.{refuseIf}
 use lib.Dec.{ltb, eqb}
-use Rattle.model.specs.GrammarFile.{within, allZero, fields, categoriesOf, startOf, wordsOf, dimensionsOf, dimensionIn, blocks, wrongCheck, wrongBlock, wrongHeading, wrongBlocks, wrongCount, wrongRest, ruleRefusal, rulesOf}
+use Rattle.rule_tests.specs.Rules.{rulesRefusal}
+use Rattle.model.specs.GrammarFile.{within, allZero, fields, categoriesOf, startOf, wordsOf, dimensionsOf, dimensionIn, blocks, wrongCheck, wrongBlock, wrongHeading, wrongBlocks, wrongCount, wrongRest, recordOf, rulesOf}
 
 -- the number of the refusal that a test of a block gives: "2 check wrong", "3 block number or kind", "5 number of blocks or a record count"
 abbrev pub testNumber : BlockTest → ℕ
@@ -42,13 +43,10 @@ startRight file = ltb (startOf file) (categoriesOf file) && eqb (dimensionIn (di
 abbrev pub unusedRight : List ℕ → Bool
 unusedRight file = allZero (fields file 9 7) && allZero (fields file (16 + categoriesOf file) (508 - (16 + categoriesOf file)))
 
--- refusals 6 to 10 of the rules 0 to n - 1, rule after rule: the first there is
-abbrev pub rulesRefusal : List ℕ → ℕ → Option Refusal
-rulesRefusal file n = firstFrom (ruleRefusal file) 0 n
-
 -- the tests from the rules, from the number of blocks and from the checks on; `grammarRefusal` is refusal 1 and then the last of these
 abbrev pub fromRules : List ℕ → Option Refusal
-fromRules file = rulesRefusal file (rulesOf file) orElse refuseIf (wrongRest file) (Refusal.Grammar 9 (rulesOf file))
+fromRules file =
+    rulesRefusal (dimensionsOf file) (wordsOf file) (recordOf file) (rulesOf file) orElse refuseIf (wrongRest file) (Refusal.Grammar 9 (rulesOf file))
 
 abbrev pub fromCounts : List ℕ → Option Refusal
 fromCounts file = refuseIf (wrongBlocks file) (Refusal.Grammar 5 0) orElse blocksRefusal file Count 1 (blocks file) orElse fromRules file

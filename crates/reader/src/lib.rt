@@ -2,7 +2,6 @@
 mod blocks;
 mod heading;
 mod reader;
-mod rule_tests;
 
 pub use blocks::blocks_for;
 pub use blocks::records_in;

@@ -1,5 +1,6 @@
 // The reader: all tests of a grammar file in their order, each after those before it have passed.
 ghost use mathlib.Core.Path.{_≡_};
+ghost use Prim.Native.Nat.{_≤_};
 ghost use Rattle.model.specs.Verdict.{verdict, tested};
 ghost use Rattle.model.specs.GrammarFile.{blocks, rulesOf, grammarRefusal};
 ghost use Rattle.reader.specs.Reading.{fromRules, fromCounts, fromBlocks};
@@ -9,18 +10,22 @@ use crate::blocks::wrong_blocks;
 use crate::blocks::wrong_length;
 use crate::blocks::wrong_rest;
 use crate::heading::wrong_heading;
-use crate::rule_tests::rules_refusal;
+use grammar::dimensions;
 use grammar::rules;
+use grammar::words;
 use model::Refusal;
 use model::Tested;
 use model::Verdict;
+use rule_tests::Layout;
+use rule_tests::rules_refusal;
 
 // The tests of the rules, and of the rest of the last block.
 fn from_rules(file: &[u8]) -> Tested
+    requires { ⌜ rulesOf (now file) ≤ 256 ⌝ }
     ensures { λ t. ⌜ t ≡ tested (fromRules (now (file .entry))) ⌝ }
 {
     let n = rules(file);
-    let each = rules_refusal(file, n);
+    let each = rules_refusal(dimensions(file), words(file), file, Layout::Blocks, n);
     let Tested::Passed = each else {
         return each;
     };
@@ -32,7 +37,7 @@ fn from_rules(file: &[u8]) -> Tested
 
 // The tests from the number of blocks on, of a file of n blocks.
 fn from_counts(file: &[u8], n: u16) -> Tested
-    requires { ⌜ n ≡ blocks (now file) ⌝ }
+    requires { ⌜ (n ≡ blocks (now file)) × (rulesOf (now file) ≤ 256) ⌝ }
     ensures { λ t. ⌜ t ≡ tested (fromCounts (now (file .entry))) ⌝ }
 {
     if wrong_blocks(file) {

@@ -1,4 +1,4 @@
--- The words in which the parts of the writer are promised: the given numbers as a heading, the given records one by one, refusal 4 in pieces, and
+-- The words in which the parts of the writer are promised: the given numbers as a heading, refusals 6 to 10 of the given records, refusal 4 in pieces, and
 -- what stands in each block before its check.
 -- Assumes nothing.
 use mathlib.Core.Bool.{Bool, _&&_}
@@ -8,8 +8,10 @@ use mathlib.Core.Path.{_≡_}
 use Prim.Native.Nat.{ℕ, _+_, _-_, _*_, _<_, _/_, _%_}
 use lib.ListN.{length, getD}
 use Rattle.model.specs.declared.Refusal.{Refusal}
-use Rattle.model.specs.Base.{firstFrom}
-use Rattle.model.specs.GrammarFile.{within, fields, recordsIn, byteOf, checkOf, recordRefusal}
+use Rattle.model.specs.GrammarFile.{within, fields, recordsIn, byteOf, checkOf}
+use Rattle.rule_tests.specs.declared.layout.Layout.{Layout}
+use Rattle.rule_tests.specs.Layout.{recordIn}
+use Rattle.rule_tests.specs.Rules.{rulesRefusal}
 use Rattle.model.specs.Writer.{Heading, little2, little4}
 use Rattle.model.proofs.WriterFile.{contentOf}
 
@@ -17,13 +19,9 @@ use Rattle.model.proofs.WriterFile.{contentOf}
 abbrev pub heading : ℕ → ℕ → ℕ → ℕ → List ℕ → Heading
 heading c s w r d = record { categories = c; start = s; words = w; rules = r; dimensions = d }
 
--- the given record i
-abbrev pub recordAt : List ℕ → ℕ → List ℕ
-recordAt records i = fields records (24 * i) 24
-
 -- refusals 6 to 10 of the given records 0 to n - 1, record after record: the first there is
 abbrev pub recordsRefusal : List ℕ → ℕ → List ℕ → ℕ → Option Refusal
-recordsRefusal dimensions words records n = firstFrom (recordRefusal dimensions words (recordAt records)) 0 n
+recordsRefusal dimensions words records n = rulesRefusal dimensions words (recordIn Layout.Row records) n
 
 -- C, W and R are in range
 abbrev pub numbersIn : ℕ → ℕ → ℕ → Bool

@@ -1,7 +1,6 @@
 // The writer of the grammar file: the file of a heading's numbers and the records' bytes (document 01, "Survey and writer").
 mod blocks;
 mod heading;
-mod records;
 mod writer;
 
 pub use writer::write_grammar;

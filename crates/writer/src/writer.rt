@@ -6,12 +6,13 @@ ghost use Rattle.model.specs.Writer.{writerRefusal};
 ghost use Rattle.writer.specs.Writing.{heading};
 use crate::blocks::put_file;
 use crate::heading::wrong_numbers;
-use crate::records::records_refusal;
 use grammar::fields;
 use model::Refusal;
 use model::Tested;
 use model::Verdict;
 use reader::blocks_for;
+use rule_tests::Layout;
+use rule_tests::rules_refusal;
 
 // Refusals 4 to 10 of what is given.
 fn given_refusal(
@@ -36,10 +37,11 @@ fn given_refusal(
     if records.len() != 24 * (rules as usize) {
         return Tested::Met(Refusal::Grammar(5, 0));
     }
-    records_refusal(
+    rules_refusal(
         fields(dimensions, 0, categories as usize),
         words,
         records,
+        Layout::Row,
         rules,
     )
 }

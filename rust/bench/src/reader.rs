@@ -1,5 +1,7 @@
 //! The reader of the grammar file in plain Rust: refusals 1 to 10 in their order, read where the bytes lie. Nothing is allocated.
 
+use std::mem;
+
 use reference::file::{BLOCK, RECORDS_IN_BLOCK};
 use reference::grammar::EMPTY_WORD;
 use reference::record::{RECORD, WEIGHT};
@@ -29,8 +31,9 @@ pub fn read(file: &[u8]) -> Result<u32, Refusal> {
     }
     first(blocks, 1, 5, |k, block| block[3] as usize != held(rules, k))?;
     let dimensions = &heading[16..16 + heading[3] as usize];
+    let chain = chain(blocks, rules);
     for r in 0..rules {
-        rule_refusal(blocks, dimensions, number(heading, 5), r)?;
+        rule_refusal(blocks, dimensions, number(heading, 5), &chain, r)?;
     }
     let last = blocks.len() - 1;
     if !zero(&blocks[last][4 + RECORD * held(rules, last)..CHECK]) {
@@ -47,8 +50,16 @@ fn first(blocks: &[Block], from: usize, number: u8, meets: impl Fn(usize, &Block
     }
 }
 
+/// Four bytes a turn, from the last turn to the first: the sums of the bytes in the four places, and the sums of these sums.
 fn check(block: &Block) -> u32 {
-    block[..CHECK].iter().zip(1..).map(|(&byte, factor)| byte as u32 * factor).sum()
+    let (mut sums, mut of_sums) = ([0; 4], [0; 4]);
+    for turn in block[..CHECK].as_chunks::<4>().0.iter().rev() {
+        for place in 0..4 {
+            sums[place] += turn[place] as u32;
+            of_sums[place] += sums[place];
+        }
+    }
+    (0..4).map(|place| 4 * of_sums[place] - (3 - place as u32) * sums[place]).sum()
 }
 
 /// How many records rule block k holds.
@@ -83,11 +94,11 @@ fn record(blocks: &[Block], r: usize) -> &Record {
 }
 
 /// 6 to 10 of rule r.
-fn rule_refusal(blocks: &[Block], dimensions: &[u8], words: u16, r: usize) -> Result<(), Refusal> {
+fn rule_refusal(blocks: &[Block], dimensions: &[u8], words: u16, chain: &Chain, r: usize) -> Result<(), Refusal> {
     let record = record(blocks, r);
     match record_refusal(dimensions, words, record) {
         Some(number) => Err(Refusal::grammar(number, r)),
-        None if repeated(blocks, record, r) => Err(Refusal::grammar(10, r)),
+        None if repeated(blocks, chain, record, r) => Err(Refusal::grammar(10, r)),
         None => Ok(()),
     }
 }
@@ -135,9 +146,34 @@ fn each_once(dimensions: &[u8], daughters: &[u8], named: &[u8]) -> bool {
     true
 }
 
-/// 10.
-fn repeated(blocks: &[Block], later: &Record, r: usize) -> bool {
-    (0..r).any(|j| record(blocks, j)[..WEIGHT] == later[..WEIGHT])
+/// For each rule one more than the number of the latest rule before it with the same hash, or 0.
+type Chain = [u16; 256];
+
+fn chain(blocks: &[Block], rules: usize) -> Chain {
+    let mut latest = [0; 256];
+    let mut chain = [0; 256];
+    for r in 0..rules {
+        chain[r] = mem::replace(&mut latest[hash(record(blocks, r)) as usize], r as u16 + 1);
+    }
+    chain
+}
+
+/// Of category, daughters and word.
+fn hash(record: &Record) -> u8 {
+    let term = |factor: u8, byte: usize| factor.wrapping_mul(record[byte]);
+    [term(29, 0), term(17, 2), term(17, 3), term(17, 4), term(1, 5), term(37, 6)].into_iter().fold(0, u8::wrapping_add)
+}
+
+/// 10: compared with the rules of its chain.
+fn repeated(blocks: &[Block], chain: &Chain, later: &Record, r: usize) -> bool {
+    let mut next = chain[r] as usize;
+    while next > 0 {
+        if record(blocks, next - 1)[..WEIGHT] == later[..WEIGHT] {
+            return true;
+        }
+        next = chain[next - 1] as usize;
+    }
+    false
 }
 
 #[cfg(test)]

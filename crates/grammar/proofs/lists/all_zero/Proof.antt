@@ -1,34 +1,35 @@
--- `grammar::all_zero` meets its contract. The loop keeps: all bytes are 0 if all from place i on are.
+-- `grammar::all_zero` meets its contract. The loop keeps: all bytes are 0 if those before place i are and those from there on.
 -- Assumes nothing.
-use mathlib.Core.Path.{_≡_, refl, sym, _∙_}
-use Prim.Native.Nat.{_≤_, _-_}
+use mathlib.Core.Path.{_≡_, refl, sym, ap, ap₂, _∙_}
+use mathlib.Core.Bool.{Bool, true, false, _&&_}
+use mathlib.Core.Logic.{⊎-elim}
+use Prim.Native.Nat.{_+_, _≤_, _-_}
 use lib.Dec.{eqb}
 use lib.ListN.{length, getD, drop}
 use borrow.Author.Tests.{eq-eqb, ne-eqb}
 use Rattle.model.specs.GrammarFile.{allZero}
-use Rattle.grammar.proofs.Walks.{every-pass, every-fail, every-end}
+use Rattle.grammar.proofs.Walks.{every-pass, every-fail, every-end, and-none}
 use borrow.Author.Needs.{needs}
 use native.Mathlib.Omega.{arith}
 use Rattle.grammar.proofs.lists.all_zero.Statement.{statement}
 use Rattle.grammar.proofs.lists.all_zero.Tie as tie
 
+-- at the end none is left
+none-left : (zero : Bool) {all rest : Bool} → all ≡ zero && rest → rest ≡ true → zero ≡ all
+none-left true e f = sym (e ∙ f)
+none-left false e f = sym e
+
 abbrev Inv-loop : tie.InvT-loop
-Inv-loop bytes i₀ i = (i ≤ length bytes) × (allZero bytes ≡ allZero (drop i bytes))
+Inv-loop bytes zero₀ i₀ zero i = (i ≤ length bytes) × (allZero bytes ≡ zero && allZero (drop i bytes))
 
 abbrev μ-loop : tie.MeasureT-loop
-μ-loop bytes i₀ i = length bytes - i
+μ-loop bytes zero₀ i₀ zero i = length bytes - i
 
 loop-holds : tie.Need-loop-holds Inv-loop μ-loop
 loop-holds c = (omega arith, refl)
 
 shared-slice-read-if1 : tie.Need-shared-slice-read-if1 Inv-loop μ-loop
 shared-slice-read-if1 c = search needs
-
-returns : tie.Need-returns Inv-loop μ-loop
-returns c =
-    let l = c .before .before .before .before .args .bytes .now in
-    let i = c .before .before .before .loop .i in
-    sym (c .before .before .before .loop .inv .1 ∙ every-fail (eqb 0) l i (c .before .before .loop-test .taken) (ne-eqb 0 (getD l i 0) (λ e. c .if1 .taken (sym e))))
 
 add-i : tie.Need-add-i Inv-loop μ-loop
 add-i c = search needs
@@ -38,12 +39,22 @@ loop-less c = search needs
 
 loop-again : tie.Need-loop-again Inv-loop μ-loop
 loop-again c =
-    let l = c .before .before .before .before .args .bytes .now in
-    let i = c .before .before .before .loop .i in
-    (omega arith, c .before .before .before .loop .inv .1 ∙ every-pass (eqb 0) l i (c .before .before .loop-test .taken) (eq-eqb 0 (getD l i 0) (sym (c .if1 .left))))
+    let t = c .before .before .before in
+    let l = t .before .args .bytes .now in
+    let here = c .before .before .loop-test .taken in (
+      omega arith,
+      t .loop .inv .1
+          ∙ ⊎-elim
+          (λ w. and-none (t .loop .zero) (every-fail (eqb 0) l (t .loop .i) here (ne-eqb 0 (getD l (t .loop .i) 0) (λ e. w .0 .taken (sym e))))
+          ∙ ap (λ (z : Bool). z && allZero (drop (t .loop .i + 1) l)) (sym (w .1)))
+          (λ w. ap₂ _&&_ (sym (w .1)) (every-pass (eqb 0) l (t .loop .i) here (eq-eqb 0 (getD l (t .loop .i) 0) (sym (w .0 .left)))))
+          (c .if1 .came),
+    )
 
-returns-2 : tie.Need-returns-2 Inv-loop μ-loop
-returns-2 c = sym (c .before .loop .inv .1 ∙ every-end (eqb 0) (c .before .before .args .bytes .now) (c .before .loop .i) (c .loop-test .left))
+returns : tie.Need-returns Inv-loop μ-loop
+returns c =
+    let t = c .before in
+    none-left (t .loop .zero) (t .loop .inv .1) (every-end (eqb 0) (t .before .args .bytes .now) (t .loop .i) (c .loop-test .left))
 
 pub all-zero-spec : {M : Type 1} → statement M
 all-zero-spec =
@@ -53,8 +64,7 @@ all-zero-spec =
     μ-loop
     loop-holds
     shared-slice-read-if1
-    returns
     add-i
     loop-less
     loop-again
-    returns-2)
+    returns)

@@ -7,9 +7,10 @@ use Rattle.model.specs.Verdict.{refuseIf}
 use Rattle.model.specs.GrammarFile.{blocks, wrongHeading}
 use Rattle.model.proofs.Verdicts.{met-is, tests-pass, tests-stop, tests-after}
 use Rattle.model.proofs.Tests.{stop}
+use Rattle.model.proofs.FileTests.{right-heading}
 use Rattle.reader.specs.declared.blocks.BlockTest.{BlockTest}
 use Rattle.reader.specs.Reading.{blocksRefusal, fromCounts}
-use Rattle.reader.proofs.Answers.{refuse-off}
+use Rattle.rule_tests.proofs.Answers.{refuse-off}
 use Rattle.reader.proofs.BlockTests.{all-blocks}
 use borrow.Author.Needs.{needs}
 use Rattle.reader.proofs.reader.from_blocks.Statement.{statement}
@@ -69,7 +70,9 @@ returns-3 c =
     tests-after checks (kinds orElse heading orElse fromCounts file) _ checked (tests-after kinds (heading orElse fromCounts file) _ known (met-is (heading orElse fromCounts file) (Refusal.Grammar 4 0) (stop (wrongHeading file) (Refusal.Grammar 4 0) (fromCounts file) (sym (c .before .wrong-heading .ensures) ∙ c .if1 .taken))))
 
 from-counts-requires : tie.Need-from-counts-requires
-from-counts-requires c κs = search needs
+from-counts-requires c κs =
+    let file = c .before .before .before .before .before .before .before .before .before .args .file .now in
+    (c .before .before .before .before .before .before .before .before .before .pre, right-heading file (sym (c .before .wrong-heading .ensures) ∙ c .if1 .left) .rules .1)
 
 returns-4 : tie.Need-returns-4
 returns-4 c =

@@ -9,7 +9,7 @@ use Rattle.model.proofs.Verdicts.{met-is, tests-pass, tests-stop, tests-after}
 use Rattle.model.proofs.Tests.{stop}
 use Rattle.reader.specs.declared.blocks.BlockTest.{BlockTest}
 use Rattle.reader.specs.Reading.{blocksRefusal, fromRules}
-use Rattle.reader.proofs.Answers.{refuse-off}
+use Rattle.rule_tests.proofs.Answers.{refuse-off}
 use Rattle.reader.proofs.BlockTests.{all-blocks}
 use borrow.Author.Needs.{needs}
 use Rattle.reader.proofs.reader.from_counts.Statement.{statement}
@@ -40,7 +40,7 @@ returns-2 c =
     let number = refuseIf (wrongBlocks file) (Refusal.Grammar 5 0) in
     let counts = blocksRefusal file BlockTest.Count 1 (blocks file) in
     let right = refuse-off (wrongBlocks file) (Refusal.Grammar 5 0) (sym (c .before .before .before .before .wrong-blocks .ensures) ∙ c .before .before .before .if1 .left) in
-    let answer = all-blocks file BlockTest.Count 1 (c .before .before .before .before .before .before .pre) (c .before .before .blocks-refusal .ensures) in
+    let answer = all-blocks file BlockTest.Count 1 (c .before .before .before .before .before .before .pre .0) (c .before .before .blocks-refusal .ensures) in
     tests-after number (counts orElse fromRules file) _ right (tests-stop counts (c .before .before .blocks-refusal .result) answer (fromRules file) (c .enum-told2 .given .1))
 
 from-rules-requires : tie.Need-from-rules-requires
@@ -52,7 +52,7 @@ returns-3 c =
     let number = refuseIf (wrongBlocks file) (Refusal.Grammar 5 0) in
     let counts = blocksRefusal file BlockTest.Count 1 (blocks file) in
     let right = refuse-off (wrongBlocks file) (Refusal.Grammar 5 0) (sym (c .before .before .before .before .before .wrong-blocks .ensures) ∙ c .before .before .before .before .if1 .left) in
-    let answer = all-blocks file BlockTest.Count 1 (c .before .before .before .before .before .before .before .pre) (c .before .before .before .blocks-refusal .ensures) in
+    let answer = all-blocks file BlockTest.Count 1 (c .before .before .before .before .before .before .before .pre .0) (c .before .before .before .blocks-refusal .ensures) in
     tests-after number (counts orElse fromRules file) _ right (tests-after counts (fromRules file) _ (tests-pass counts (c .before .before .before .blocks-refusal .result) answer (c .before .enum-told .given .1)) (c .from-rules .ensures))
 
 pub from-counts-spec : {M : Type 1} → statement M

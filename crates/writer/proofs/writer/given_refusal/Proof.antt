@@ -65,8 +65,8 @@ returns-4 c =
 fields-requires : tie.Need-fields-requires
 fields-requires c κs = search needs
 
-records-refusal-requires : tie.Need-records-refusal-requires
-records-refusal-requires c κs = search needs
+rules-refusal-requires : tie.Need-rules-refusal-requires
+rules-refusal-requires c κs = search needs
 
 returns-5 : tie.Need-returns-5
 returns-5 c =
@@ -78,7 +78,7 @@ returns-5 c =
     let named = ap not (eq-eqb (length (a .dimensions .now)) 64 (c .before .before .before .before .before .before .if1 .left)) in
     let few = le-ltb 256 (a .rules) (c .before .before .before .before .before .if2 .left) in
     let right = sym (c .before .before .before .before .wrong-numbers .ensures) ∙ c .before .before .before .if3 .left in
-    c .records-refusal .ensures
+    c .rules-refusal .ensures
     ∙ ap (λ (l : List ℕ). tested (recordsRefusal l (a .words) (a .records .now) (a .rules))) (c .before .fields .ensures)
     ∙ records-decide h (a .records .now) fits bytes named few right (ap not (eq-eqb (length (a .records .now)) (24 * a .rules) (c .before .before .if4 .left)))
 
@@ -93,5 +93,5 @@ given-refusal-spec =
     mul-if4
     returns-4
     fields-requires
-    records-refusal-requires
+    rules-refusal-requires
     returns-5)

@@ -1,26 +1,16 @@
 -- Tests and their answers: one test, and a loop of tests one turn further.
 -- Assumes nothing.
-use mathlib.Core.Path.{_≡_, refl, sym}
-use mathlib.Core.Bool.{Bool, true, false, not}
+use mathlib.Core.Path.{_≡_}
+use mathlib.Core.Bool.{Bool, true, false}
 use mathlib.Core.Option.{Option, none, some}
 use Prim.Native.Nat.{ℕ, suc, _+_, _-_, _<_, _≤_}
 use native.Mathlib.Omega.{arith}
 use native.Mathlib.Numerals.{add-one}
-use borrow.Author.Tests.{leb-true, leb-false, lt-ltb, le-ltb}
-use lib.Dec.{leb, ltb}
 use Rattle.model.specs.declared.Refusal.{Refusal}
 use Rattle.model.specs.declared.Tested.{Tested}
 use Rattle.model.specs.declared.Tested.the-variants.{Passed, Met}
 use Rattle.model.specs.Base.{firstFrom}
 use Rattle.model.specs.Verdict.{refuseIf, tested}
-
--- a number that is not at most b is above b
-pub not-leb : (a b : ℕ) → not (leb a b) ≡ ltb b a
-not-leb a b = go (leb a b) refl
-  where
-    go : (t : Bool) → leb a b ≡ t → not t ≡ ltb b a
-    go true e = sym (le-ltb b a (leb-true a b e))
-    go false e = sym (lt-ltb b a (leb-false a b e))
 
 -- one test
 module _ (b : Bool) (r : Refusal) where

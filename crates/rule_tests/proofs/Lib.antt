@@ -1,0 +1,4 @@
+pub mod Hashes
+pub mod Chains
+pub mod Answers
+pub mod RuleTests
