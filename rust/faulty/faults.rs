@@ -9,6 +9,9 @@ pub const FAULTS: &[Fault] = &[
         "            return Err(Refusal::grammar(2, k));\n        }",
         "            return Err(Refusal::grammar(2, k));\n        }\n        if number(block, 0) as usize != k {\n            return Err(Refusal::grammar(3, k));\n        }",
     ),
+    ("the last four bytes not in the check", "file", "(0..508).map(|i|", "(0..504).map(|i|"),
+    ("the third byte of every four taken twice", "file", "block[i] as u32).sum()", "block[i - (i % 4 == 3) as usize] as u32).sum()"),
+    ("one factor for every four bytes", "file", "(i as u32 + 1) * block[i]", "(i as u32 / 4 * 4 + 1) * block[i]"),
     ("15 blocks are no wrong length", "file", "file.len() > 14 * BLOCK", "file.len() > 15 * BLOCK"),
     ("place of a wrong record count off by one", "file", "Refusal::grammar(5, k)", "Refusal::grammar(5, k - 1)"),
     ("4,096 words are too many", "file", "(1..=4096)", "(1..4096)"),
@@ -40,6 +43,18 @@ pub const FAULTS: &[Fault] = &[
         "record",
         "records[..r].iter().any(|earlier| equal_but_for_weight(earlier, record))",
         "r > 0 && equal_but_for_weight(&records[r - 1], record)",
+    ),
+    (
+        "10 does not compare with record 0",
+        "record",
+        "records[..r].iter().any(|earlier| equal_but_for_weight(earlier, record))",
+        "records[r.min(1)..r].iter().any(|earlier| equal_but_for_weight(earlier, record))",
+    ),
+    (
+        "10 compares with the latest record of the category and word alone",
+        "record",
+        "records[..r].iter().any(|earlier| equal_but_for_weight(earlier, record))",
+        "records[..r].iter().rfind(|earlier| earlier[0] == record[0] && earlier[5..7] == record[5..7]).is_some_and(|earlier| equal_but_for_weight(earlier, record))",
     ),
     (
         "10 of a rule tested after 6 to 9 of every rule",

@@ -100,6 +100,11 @@ pub and-none : (t : Bool) {b : Bool} → b ≡ false → t && b ≡ false
 and-none true e = e
 and-none false e = refl
 
+-- a test of all so far, t, and of the rest: at the end no rest is left
+pub none-left : (t : Bool) {all rest : Bool} → all ≡ t && rest → rest ≡ true → t ≡ all
+none-left true e f = sym (e ∙ f)
+none-left false e f = sym e
+
 pub same-length : (a b : List ℕ) → (length a ≡ length b → ⊥) → sameList a b ≡ false
 same-length [] [] d = absurd (d refl)
 same-length [] (y ∷ b) d = refl

@@ -7,7 +7,7 @@ ghost use Rattle.model.specs.GrammarFile.{allZero, fields, weighted, sameRecord
 use crate::bytes::byte;
 use crate::bytes::fields;
 
-// Whether every byte is 0. All are looked at, whatever the first ones are, so that the compiler takes many at once.
+// Whether every byte is 0. All are looked at, whatever the first ones are: in a loop with no way out the compiler takes many at once.
 fn all_zero(bytes: &[u8]) -> bool
     ensures { λ r. ⌜ r ≡ allZero (now (bytes .entry)) ⌝ }
 {
@@ -126,21 +126,22 @@ pub fn block_check(block: &[u8]) -> u32
     added(first, 3) + added(second, 2) + added(third, 1) + added(fourth, 0)
 }
 
-// Whether two lists of bytes are the same, up to the first byte that differs.
+// Whether two lists of bytes are the same. Like `all_zero`, it has no way out of its loop.
 pub fn same_bytes(a: &[u8], b: &[u8]) -> bool
     ensures { λ r. ⌜ r ≡ sameList (now (a .entry)) (now (b .entry)) ⌝ }
 {
     if a.len() != b.len() {
         return false;
     }
+    let mut same = true;
     let mut i: usize = 0;
     while i < a.len() {
         if a[i] != b[i] {
-            return false;
+            same = false;
         }
         i += 1;
     }
-    true
+    same
 }
 
 // Whether two records are the same, weight aside. Records of different categories, byte 0, are compared no further.

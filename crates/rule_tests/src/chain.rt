@@ -54,7 +54,13 @@ fn earlier(chain: &[u16; 256], r: RuleNumber) -> u16
 }
 
 // Refusal 10: the record of rule r, which is e, is equal to an earlier one, weight aside. It is compared with those of its chain.
-pub fn repeated_rule(bytes: &[u8], layout: Layout, chain: &[u16; 256], e: &[u8], r: RuleNumber) -> bool
+pub fn repeated_rule(
+    bytes: &[u8],
+    layout: Layout,
+    chain: &[u16; 256],
+    e: &[u8],
+    r: RuleNumber,
+) -> bool
     requires { ⌜ (now e ≡ recordIn layout (now bytes) (r .0)) × Chained (hashAt (recordIn layout (now bytes))) (r .0 + 1) (now chain) ⌝ }
     ensures { λ b. ⌜ b ≡ repeated (recordIn layout (now (bytes .entry))) (r .0) ⌝ }
 {

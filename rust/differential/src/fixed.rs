@@ -17,7 +17,9 @@ pub fn fixed(pair: &mut Pair) -> Done {
     numbers_of_rules(pair)?;
     weights(pair)?;
     doubles(pair)?;
+    doubles_among_256(pair)?;
     writer(pair)?;
+    checks(pair)?;
     lengths_of_files(pair)?;
     bytes_of_files(pair)
 }
@@ -206,6 +208,49 @@ fn doubles(pair: &mut Pair) -> Done {
     );
     pair.read_grammar(&last_two.file)?;
     pair.write_grammar(&last_two.heading, &last_two.records, 1024)
+}
+
+/// 256 rules that differ in the order of their variables alone, and each of them again in the place of some later ones.
+fn doubles_among_256(pair: &mut Pair) -> Done {
+    let order = |number: usize| {
+        let (mut letters, mut left) = ("abcdef".to_string(), number);
+        (1..=6).rev().map(|choices| (letters.remove(left % choices), left /= choices).0).collect::<String>()
+    };
+    let made = Made::of_text(&(0..256).map(|number| format!("S({}) <- Q(a,b,c,d) P(e,f)\n", order(number))).collect::<String>());
+    pair.read_grammar(&made.file)?;
+    pair.write_grammar(&made.heading, &made.records, made.file.len())?;
+    for later in 1..256 {
+        for earlier in [0, 1, later / 2, later - 1] {
+            let mut records = made.records.clone();
+            records.copy_within(24 * earlier..24 * earlier + 24, 24 * later);
+            let mut file = made.file.clone();
+            file[at(later)..at(later) + 24].copy_from_slice(&records[24 * later..24 * later + 24]);
+            seal(&mut file);
+            pair.read_grammar(&file)?;
+            pair.write_grammar(&made.heading, &records, made.file.len())?;
+        }
+    }
+    Ok(())
+}
+
+/// Checks that are right and that are one too high or too low: of blocks with one byte, of blocks with one value in every byte, and of parts of these.
+fn checks(pair: &mut Pair) -> Done {
+    let one_byte = (0..508).map(|i| (i..i + 1, 255));
+    let from_byte = (0..508).map(|i| (i..508, 255));
+    let to_byte = (0..508).map(|i| (0..i, 254));
+    let one_value = (0..=255).map(|value| (0..508, value));
+    for (turn, (bytes, value)) in one_byte.chain(from_byte).chain(to_byte).chain(one_value).enumerate() {
+        let mut file = vec![0; BLOCK * (1 + turn % 14)];
+        let last = file.len() - BLOCK;
+        file[last..][bytes].fill(value);
+        seal(&mut file);
+        let right = u32::from_le_bytes(file[last + 508..].try_into().expect("a check has four bytes"));
+        for sum in [right, right.wrapping_add(1), right.wrapping_sub(1), right ^ 1 << (turn % 32)] {
+            file[last + 508..].copy_from_slice(&sum.to_le_bytes());
+            pair.read_grammar(&file)?;
+        }
+    }
+    Ok(())
 }
 
 /// Record bytes of every length, outputs of every length, and headings in and out of range.

@@ -8,16 +8,11 @@ use lib.Dec.{eqb}
 use lib.ListN.{length, getD, drop}
 use borrow.Author.Tests.{eq-eqb, ne-eqb}
 use Rattle.model.specs.GrammarFile.{allZero}
-use Rattle.grammar.proofs.Walks.{every-pass, every-fail, every-end, and-none}
+use Rattle.grammar.proofs.Walks.{every-pass, every-fail, every-end, and-none, none-left}
 use borrow.Author.Needs.{needs}
 use native.Mathlib.Omega.{arith}
 use Rattle.grammar.proofs.lists.all_zero.Statement.{statement}
 use Rattle.grammar.proofs.lists.all_zero.Tie as tie
-
--- at the end none is left
-none-left : (zero : Bool) {all rest : Bool} → all ≡ zero && rest → rest ≡ true → zero ≡ all
-none-left true e f = sym (e ∙ f)
-none-left false e f = sym e
 
 abbrev Inv-loop : tie.InvT-loop
 Inv-loop bytes zero₀ i₀ zero i = (i ≤ length bytes) × (allZero bytes ≡ zero && allZero (drop i bytes))
