@@ -72,5 +72,7 @@ lanes-more l i {a} {A} {b} {B} {c} {C} {d} h lanes ea eb ec ed =
       );
     }
 
-pub lanes-all : (l : List ℕ) {a A b B c C d D : ℕ} → Lanes l 0 a A b B c C d D → weighted 1 l + (3 * a + 2 * b + c) ≡ 4 * (A + B + C + D)
-lanes-all l lanes = omega (arith, lanes .so-far)
+-- after all turns: what the four lanes add is the whole sum
+pub lanes-all : (l : List ℕ) (w x y z : ℕ) {a A b B c C d D : ℕ} → Lanes l 0 a A b B c C d D → w + 3 * a ≡ 4 * A → x + 2 * b ≡ 4 * B → y + 1 * c ≡ 4 * C → z + 0 * d ≡ 4 * D
+    → w + x + y + z ≡ weighted 1 l
+lanes-all l w x y z lanes ew ex ey ez = omega (arith, lanes .so-far)

@@ -1,6 +1,6 @@
 -- `grammar::block_check` meets its contract. The loop keeps: the lanes are those of the bytes from 4 times the turns left on.
 -- Assumes nothing.
-use mathlib.Core.Path.{_≡_, ap}
+use mathlib.Core.Path.{_≡_, ap, _∙_}
 use Prim.Native.Nat.{ℕ, _<_, _≤_, _-_, _+_, _*_}
 use lib.ListN.{length, getD, length-take}
 use Rattle.model.specs.GrammarFile.{weighted}
@@ -26,7 +26,7 @@ part-check-requires : tie.Need-part-check-requires Inv-loop μ-loop
 part-check-requires c κs = search needs
 
 returns : tie.Need-returns Inv-loop μ-loop
-returns c = cc
+returns c = c .part-check .ensures ∙ ap (weighted 1) (c .before .before .fields .ensures)
 
 loop-holds : tie.Need-loop-holds Inv-loop μ-loop
 loop-holds c =
@@ -122,11 +122,10 @@ add-result-3 c = search needs
 returns-2 : tie.Need-returns-2 Inv-loop μ-loop
 returns-2 c =
     let t = c .before .before .before .before .before in
-    let summed = t .before .before .fields .result .now in
     let none : 4 * t .loop .turn ≡ 0 = omega (arith, c .before .before .before .before .loop-test .left) in
-    let all = lanes-all summed (rw none at (t .loop .inv .2)) in
-    let whole = ap (weighted 1) (t .before .before .fields .ensures) in
-    omega (arith, all, whole, c .before .before .before .added .ensures .0, c .before .before .added2 .ensures .0, c .before .added3 .ensures .0, c .added4 .ensures .0)
+    lanes-all (t .before .before .fields .result .now) (c .before .before .before .added .result) (c .before .before .added2 .result) (c .before .added3 .result) (c .added4 .result)
+    (rw none at (t .loop .inv .2)) (c .before .before .before .added .ensures .0) (c .before .before .added2 .ensures .0) (c .before .added3 .ensures .0) (c .added4 .ensures .0)
+    ∙ ap (weighted 1) (t .before .before .fields .ensures)
 
 pub block-check-spec : {M : Type 1} → statement M
 block-check-spec =

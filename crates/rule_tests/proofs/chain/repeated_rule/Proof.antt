@@ -40,7 +40,7 @@ returns c =
     let s = t .before .before .before .before in
     let w = walk (recordIn (s .args .layout) (s .args .bytes .now)) (s .args .r .0) (s .pre .1) (s .pre .0) (t .before .earlier .ensures) in
     let found = ap (λ (x : List ℕ). sameRecord x (s .args .e .now)) (sym (c .before .before .record-in .ensures)) ∙ sym (c .before .same-record .ensures) ∙ c .if1 .taken in
-    sym (walk-hit w (t .loop .inv) (c .before .before .before .loop-test .taken) found)
+    sym (walk-hit w (t .loop .inv) (omega arith) found)
 
 earlier-requires-2 : tie.Need-earlier-requires-2 Inv-loop μ-loop
 earlier-requires-2 c κs =
@@ -55,7 +55,7 @@ loop-less c =
     let s = t .before .before .before .before in
     let w = walk (recordIn (s .args .layout) (s .args .bytes .now)) (s .args .r .0) (s .pre .1) (s .pre .0) (t .before .earlier .ensures) in
     let other = ap (λ (x : List ℕ). sameRecord x (s .args .e .now)) (sym (c .before .before .before .record-in .ensures)) ∙ sym (c .before .before .same-record .ensures) ∙ c .before .if1 .left in
-    walk-on w (t .loop .inv) (c .before .before .before .before .loop-test .taken) other (c .earlier2 .ensures) .0
+    walk-on w (t .loop .inv) (omega arith) other (c .earlier2 .ensures) .0
 
 loop-again : tie.Need-loop-again Inv-loop μ-loop
 loop-again c =
@@ -63,14 +63,14 @@ loop-again c =
     let s = t .before .before .before .before in
     let w = walk (recordIn (s .args .layout) (s .args .bytes .now)) (s .args .r .0) (s .pre .1) (s .pre .0) (t .before .earlier .ensures) in
     let other = ap (λ (x : List ℕ). sameRecord x (s .args .e .now)) (sym (c .before .before .before .record-in .ensures)) ∙ sym (c .before .before .same-record .ensures) ∙ c .before .if1 .left in
-    walk-on w (t .loop .inv) (c .before .before .before .before .loop-test .taken) other (c .earlier2 .ensures) .1
+    walk-on w (t .loop .inv) (omega arith) other (c .earlier2 .ensures) .1
 
 returns-2 : tie.Need-returns-2 Inv-loop μ-loop
 returns-2 c =
     let t = c .before in
     let s = t .before .before .before .before in
     let w = walk (recordIn (s .args .layout) (s .args .bytes .now)) (s .args .r .0) (s .pre .1) (s .pre .0) (t .before .earlier .ensures) in
-    sym (walk-end w (t .loop .inv) (c .loop-test .left))
+    sym (walk-end w (t .loop .inv) (omega arith))
 
 pub repeated-rule-spec : {M : Type 1} → statement M
 repeated-rule-spec =
