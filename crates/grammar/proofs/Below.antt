@@ -7,14 +7,11 @@ use native.Mathlib.Omega.{arith}
 use native.Mathlib.Decide.{ℕ-discrete}
 use native.Mathlib.Numerals.{add-one}
 use Rattle.model.specs.Base.{anyBelow, allBelow}
+use Rattle.grammar.proofs.Walks.{and-none}
 
 or-right : (a : Bool) → a || true ≡ true
 or-right true = refl
 or-right false = refl
-
-and-right : (a : Bool) → a && false ≡ false
-and-right true = refl
-and-right false = refl
 
 module _ (test : ℕ → Bool) where
   pub any-more : (k : ℕ) → anyBelow test k ≡ false → test k ≡ false → anyBelow test (k + 1) ≡ false
@@ -22,6 +19,14 @@ module _ (test : ℕ → Bool) where
 
   pub all-more : (k : ℕ) → allBelow test k ≡ true → test k ≡ true → allBelow test (k + 1) ≡ true
   all-more k e t = rw (add-one k) (rw (e, t))
+
+  -- a number that does not pass makes no difference
+  pub any-less : (k : ℕ) → test k ≡ false → anyBelow test (suc k) ≡ anyBelow test k
+  any-less k t = rw t (go (anyBelow test k))
+    where
+      go : (b : Bool) → b || false ≡ b
+      go true = refl
+      go false = refl
 
   pub any-hit : (k n : ℕ) → k < n → test k ≡ true → anyBelow test n ≡ true
   any-hit k zero h t = let z : ⊥ = omega arith in absurd z
@@ -36,5 +41,5 @@ module _ (test : ℕ → Bool) where
   all-miss k (suc n) h t = go (ℕ-discrete k n) (λ l. all-miss k n l t)
     where
       go : Dec (k ≡ n) → (k < n → allBelow test n ≡ false) → allBelow test n && test n ≡ false
-      go (yes e) ih = ap (λ (m : ℕ). allBelow test n && test m) (sym e) ∙ rw t (and-right (allBelow test n))
+      go (yes e) ih = ap (λ (m : ℕ). allBelow test n && test m) (sym e) ∙ and-none (allBelow test n) t
       go (no d) ih = rw (ih (omega arith))

@@ -1,7 +1,7 @@
 // Tests and sums over a whole list of bytes.
 ghost use mathlib.Core.Path.{_≡_};
 ghost use Prim.Native.Nat.{_+_, _*_, _<_, _≤_};
-ghost use lib.ListN.{length, drop};
+ghost use lib.ListN.{length};
 ghost use Rattle.model.specs.Base.{occurrences, sameList, total};
 ghost use Rattle.model.specs.GrammarFile.{allZero, fields, weighted, sameRecord};
 use crate::bytes::byte;
@@ -81,7 +81,7 @@ struct Lane {
     sums: u32,
 }
 
-// The lane with the byte of one more turn.
+// The lane with the byte of one more turn, of 127. That a byte is below 256 is said for the bounds of the caller.
 fn taken(lane: Lane, x: u8) -> Lane
     requires { ⌜ (lane .sum ≤ 32130) × (lane .sums ≤ 4112895) ⌝ }
     ensures { λ r. ⌜ (r .sum ≡ lane .sum + x) × (r .sums ≡ lane .sums + (lane .sum + x)) × (x < 256) ⌝ }
@@ -101,8 +101,8 @@ fn added(lane: Lane, k: u32) -> u32
     4 * lane.sums - k * lane.sum
 }
 
-// The check of a block: the sum over its bytes 0 to 507 of (i + 1) times byte i. Four bytes are taken a turn, from the last to the first, so that a byte of
-// turn t is in the sums of t + 1 turns; 4 times that, less what its place in the turn leaves out, is its factor.
+// The check of a block: the sum over its bytes 0 to 507 of (i + 1) times byte i. Four bytes are taken a turn, from the last turn to the first: a byte of turn t
+// is in the sums after t + 1 turns. Its factor is 4 times t + 1, less 3, 2, 1 or 0 for the first to the fourth place of the turn.
 pub fn block_check(block: &[u8]) -> u32
     ensures { λ r. ⌜ r ≡ weighted 1 (fields (now (block .entry)) 0 508) ⌝ }
 {

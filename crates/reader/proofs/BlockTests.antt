@@ -17,7 +17,7 @@ use Rattle.reader.specs.declared.blocks.BlockTest.{BlockTest}
 use Rattle.reader.specs.Reading.{blocksRefusal}
 
 -- a number that is not at most b is above b
-pub not-leb : (a b : ℕ) → not (leb a b) ≡ ltb b a
+not-leb : (a b : ℕ) → not (leb a b) ≡ ltb b a
 not-leb a b = go (leb a b) refl
   where
     go : (t : Bool) → leb a b ≡ t → not t ≡ ltb b a

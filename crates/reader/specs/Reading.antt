@@ -1,4 +1,4 @@
--- The reader's tests in pieces: the tests of the blocks, of the heading and of the rules, and what is tested from one of these on
+-- The reader's tests in pieces: the tests of the blocks and of the heading, and what is tested from one of these, or from the rules, on
 -- (document 01, refusals 1 to 10).
 -- Assumes nothing.
 use Prim.Native.Nat.{ℕ, _+_, _-_}

@@ -1,4 +1,4 @@
-// The tests of one record: refusals 6 to 9, for the reader and the writer. The record and the dimensions are lists of bytes that may stand anywhere.
+// The tests of one record: refusals 6 to 9, for `rule_tests`. The record and the dimensions are lists of bytes that may stand anywhere.
 ghost use mathlib.Core.Path.{_≡_};
 ghost use Prim.Native.Nat.{_+_};
 ghost use lib.Dec.{leb};

@@ -1,7 +1,7 @@
--- Records in chains by their hashes: how the tables grow by one record, and that a record is equal to an earlier one exactly when it is to one of its chain.
+-- Records in chains by their hashes: how the tables grow by one record, and that a record is equal to an earlier one exactly when it is equal to one in its chain.
 -- Assumes nothing.
 use mathlib.Core.Path.{_≡_, refl, sym, ap, _∙_}
-use mathlib.Core.Bool.{Bool, true, false, _||_}
+use mathlib.Core.Bool.{Bool, true, false}
 use mathlib.Core.List.{List}
 use Prim.Native.Nat.{ℕ, zero, suc, _+_, _-_, _<_, _≤_}
 use native.Mathlib.Omega.{arith}
@@ -11,8 +11,8 @@ use lib.ListN.{length, getD, set, length-set, replicate, getD-replicate}
 use lib.Seq.{getD-set-same, getD-set-other}
 use Rattle.model.specs.Base.{anyBelow}
 use Rattle.model.specs.GrammarFile.{sameRecord, repeated}
-use Rattle.grammar.proofs.Below.{any-hit}
-use Rattle.rule_tests.specs.Chains.{hashOf, latest, Latest, Chained, hashAt}
+use Rattle.grammar.proofs.Below.{any-hit, any-less}
+use Rattle.rule_tests.specs.Chains.{hashOf, latest, Chained, hashAt, InChain}
 use Rattle.rule_tests.proofs.Hashes.{same-hash}
 
 -- the latest of n + 1, by whether number n has the hash
@@ -22,14 +22,6 @@ module _ (hash : ℕ → ℕ) (h n : ℕ) where
 
   latest-else : (hash n ≡ h → ⊥) → latest hash h (suc n) ≡ latest hash h n
   latest-else d = rw (ne-eqb (hash n) h d)
-
--- a number that does not pass the test makes no difference
-any-less : (test : ℕ → Bool) (n : ℕ) → test n ≡ false → anyBelow test (suc n) ≡ anyBelow test n
-any-less test n e = rw e (go (anyBelow test n))
-  where
-    go : (b : Bool) → b || false ≡ b
-    go true = refl
-    go false = refl
 
 module _ (hash : ℕ → ℕ) (h : ℕ) where
   latest-below : (n : ℕ) → latest hash h n ≤ n
@@ -57,7 +49,11 @@ module _ (hash : ℕ → ℕ) (h : ℕ) where
       go (yes e) same = ap (anyBelow test) (sym (latest-here hash h n e))
       go (no d) same = any-less test n (other n d) ∙ same ∙ ap (anyBelow test) (sym (latest-else hash h n d))
 
--- number n is entered in the table of the latest, and what stood there in the chain
+-- a table of the latest of n numbers, by their hashes
+pub record Latest (hash : ℕ → ℕ) (n : ℕ) (table : List ℕ) : Type 0 where
+  pub at : (h : ℕ) → h < 256 → getD table h 0 ≡ latest hash h n
+
+-- number n is entered in that table, and what stood there in the chain
 module _ (hash : ℕ → ℕ) (n : ℕ) (table : List ℕ) (of : Latest hash n table) (long : length table ≡ 256) (byte : hash n < 256) where
   latest-more : Latest hash (n + 1) (set table (hash n) (n + 1))
   latest-more = record { at = λ h l. go h l (ℕ-discrete (hash n) h) }
@@ -128,21 +124,20 @@ module _ (recordAt : ℕ → List ℕ) (e : List ℕ) where
 
 -- record r, which is e, is compared along its chain, from `first` on
 pub record Walk (recordAt : ℕ → List ℕ) (r : ℕ) (chain e : List ℕ) (first : ℕ) : Type 0 where
-  pub chained : Chained (hashAt recordAt) (r + 1) chain
-  pub is : e ≡ recordAt r
+  pub within : InChain recordAt r chain e
   pub from : first ≡ getD chain r 0
 
-pub walk : (recordAt : ℕ → List ℕ) (r : ℕ) {chain e : List ℕ} {first : ℕ} → Chained (hashAt recordAt) (r + 1) chain → e ≡ recordAt r → first ≡ getD chain r 0 → Walk recordAt r chain e first
-walk recordAt r c i f = record { chained = c; is = i; from = f }
+pub walk : {recordAt : ℕ → List ℕ} {r : ℕ} {chain e : List ℕ} {first : ℕ} → InChain recordAt r chain e → first ≡ getD chain r 0 → Walk recordAt r chain e first
+walk i f = record { within = i; from = f }
 
 module _ {recordAt : ℕ → List ℕ} {r : ℕ} {chain e : List ℕ} {first : ℕ} (w : Walk recordAt r chain e first) where
   at-first : Left recordAt e r first
   at-first =
-      rw (w .from ∙ w .chained .before r (omega arith) ∙ ap (λ (x : List ℕ). latest (hashAt recordAt) (hashOf x) r) (sym (w .is)))
+      rw (w .from ∙ w .within .chained .before r (omega arith) ∙ ap (λ (x : List ℕ). latest (hashAt recordAt) (hashOf x) r) (sym (w .within .is)))
       (left-latest recordAt e r r (omega arith) refl)
 
   all : repeated recordAt r ≡ anyBelow (equal recordAt e) first
-  all = ap (λ (x : List ℕ). anyBelow (λ j. sameRecord (recordAt j) x) r) (sym (w .is)) ∙ at-first .left
+  all = ap (λ (x : List ℕ). anyBelow (λ j. sameRecord (recordAt j) x) r) (sym (w .within .is)) ∙ at-first .left
 
   pub walk-start : Left recordAt e first first
   walk-start = record { below = omega arith; same = at-first .same; left = refl }
@@ -152,7 +147,7 @@ module _ {recordAt : ℕ → List ℕ} {r : ℕ} {chain e : List ℕ} {first : �
     walk-end z = let s : v ≡ 0 = omega arith in all ∙ l .left ∙ ap (anyBelow (equal recordAt e)) s
 
     pub walk-few : v ≤ 256
-    walk-few = omega (arith, l .below, at-first .below, w .chained .few)
+    walk-few = omega (arith, l .below, at-first .below, w .within .chained .few)
 
     pub walk-hit : 0 < v → sameRecord (recordAt (v - 1)) e ≡ true → repeated recordAt r ≡ true
     walk-hit p f = all ∙ l .left ∙ any-hit (equal recordAt e) (v - 1) v (omega arith) f
@@ -161,7 +156,7 @@ module _ {recordAt : ℕ → List ℕ} {r : ℕ} {chain e : List ℕ} {first : �
     walk-on {n} p f g =
         let s : v ≡ suc (v - 1) = omega arith in
         let next : n ≡ latest (hashAt recordAt) (hashOf e) (v - 1)
-        = g ∙ w .chained .before (v - 1) (omega (arith, l .below, at-first .below)) ∙ ap (λ (h : ℕ). latest (hashAt recordAt) h (v - 1)) (l .same (v - 1) s) in (
+        = g ∙ w .within .chained .before (v - 1) (omega (arith, l .below, at-first .below)) ∙ ap (λ (h : ℕ). latest (hashAt recordAt) h (v - 1)) (l .same (v - 1) s) in (
           omega (arith, next, latest-below (hashAt recordAt) (hashOf e) (v - 1)),
           rw next (left-latest recordAt e first (v - 1) (omega (arith, l .below)) (l .left ∙ ap (anyBelow (equal recordAt e)) s ∙ any-less (equal recordAt e) (v - 1) f)),
         )

@@ -8,27 +8,29 @@ use lib.ListN.{getD}
 use Rattle.model.specs.Base.{if_then_else_}
 use Rattle.model.specs.GrammarFile.{field}
 
--- the hash of a record: a sum over its bytes 0 (category), 2 to 4 (daughters), and 5 and 6 (word), in one byte
+-- a sum over bytes 0 (category), 2 to 4 (daughters), 5 and 6 (word) of a record
 abbrev pub hashSum : List ℕ → ℕ
 hashSum e = 29 * field e 0 + 17 * (field e 2 + field e 3 + field e 4) + field e 5 + 37 * field e 6
 
+-- the hash of a record: that sum in one byte
 abbrev pub hashOf : List ℕ → ℕ
 hashOf e = hashSum e % 256
 
 -- one more than the latest of the numbers below n that has hash h, or 0 where none has
 abbrev pub latest : (ℕ → ℕ) → ℕ → ℕ → ℕ
-latest hashAt h zero = 0
-latest hashAt h (suc n) = if eqb (hashAt n) h then suc n else latest hashAt h n
-
--- a table of the latest of n numbers, by their hashes
-pub record Latest (hashAt : ℕ → ℕ) (n : ℕ) (table : List ℕ) : Type 0 where
-  pub at : (h : ℕ) → h < 256 → getD table h 0 ≡ latest hashAt h n
+latest hash h zero = 0
+latest hash h (suc n) = if eqb (hash n) h then suc n else latest hash h n
 
 -- a chain of n numbers, at most 256: from each to the latest before it with the same hash
-pub record Chained (hashAt : ℕ → ℕ) (n : ℕ) (chain : List ℕ) : Type 0 where
+pub record Chained (hash : ℕ → ℕ) (n : ℕ) (chain : List ℕ) : Type 0 where
   pub few : n ≤ 256
-  pub before : (r : ℕ) → r < n → getD chain r 0 ≡ latest hashAt (hashAt r) r
+  pub before : (r : ℕ) → r < n → getD chain r 0 ≡ latest hash (hash r) r
 
 -- the hashes of records
 abbrev pub hashAt : (ℕ → List ℕ) → ℕ → ℕ
 hashAt recordAt r = hashOf (recordAt r)
+
+-- e is the record of rule r, and the chain is that of the rules up to it
+pub record InChain (recordAt : ℕ → List ℕ) (r : ℕ) (chain e : List ℕ) : Type 0 where
+  pub is : e ≡ recordAt r
+  pub chained : Chained (hashAt recordAt) (r + 1) chain

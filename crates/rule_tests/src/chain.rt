@@ -3,7 +3,7 @@ ghost use mathlib.Core.Path.{_≡_};
 ghost use Prim.Native.Nat.{_+_, _<_};
 ghost use lib.ListN.{getD, set};
 ghost use Rattle.model.specs.GrammarFile.{field, repeated};
-ghost use Rattle.rule_tests.specs.Chains.{hashSum, hashOf, hashAt, Chained};
+ghost use Rattle.rule_tests.specs.Chains.{hashSum, hashOf, InChain};
 ghost use Rattle.rule_tests.specs.Layout.{recordIn};
 use crate::layout::Layout;
 use crate::layout::record_in;
@@ -61,7 +61,7 @@ pub fn repeated_rule(
     e: &[u8],
     r: RuleNumber,
 ) -> bool
-    requires { ⌜ (now e ≡ recordIn layout (now bytes) (r .0)) × Chained (hashAt (recordIn layout (now bytes))) (r .0 + 1) (now chain) ⌝ }
+    requires { ⌜ InChain (recordIn layout (now bytes)) (r .0) (now chain) (now e) ⌝ }
     ensures { λ b. ⌜ b ≡ repeated (recordIn layout (now (bytes .entry))) (r .0) ⌝ }
 {
     let mut next = earlier(chain, r);

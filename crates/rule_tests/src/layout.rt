@@ -5,10 +5,10 @@ use grammar::fields;
 use grammar::record_of;
 use model::RuleNumber;
 
-// The records stand in the blocks of a grammar file, or in a row, one after the other.
+// The records stand in the blocks of a grammar file, or packed, one after the other.
 pub enum Layout {
     Blocks,
-    Row,
+    Packed,
 }
 
 // The record of rule r.
@@ -17,6 +17,6 @@ pub fn record_in(bytes: &[u8], layout: Layout, r: RuleNumber) -> &[u8]
 {
     match layout {
         Layout::Blocks => record_of(bytes, r),
-        Layout::Row => fields(bytes, 24 * (r.0 as usize), 24),
+        Layout::Packed => fields(bytes, 24 * (r.0 as usize), 24),
     }
 }

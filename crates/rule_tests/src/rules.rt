@@ -1,9 +1,9 @@
 // Refusals 6 to 10 of the rules.
 ghost use mathlib.Core.Path.{_≡_};
-ghost use Prim.Native.Nat.{_+_, _≤_};
+ghost use Prim.Native.Nat.{_≤_};
 ghost use Rattle.model.specs.Verdict.{tested};
 ghost use Rattle.model.specs.GrammarFile.{recordRefusal};
-ghost use Rattle.rule_tests.specs.Chains.{hashAt, Chained};
+ghost use Rattle.rule_tests.specs.Chains.{InChain};
 ghost use Rattle.rule_tests.specs.Layout.{recordIn};
 ghost use Rattle.rule_tests.specs.Rules.{rulesRefusal};
 use crate::chain::enter;
@@ -26,7 +26,7 @@ fn rule_refusal(
     e: &[u8],
     r: RuleNumber,
 ) -> Tested
-    requires { ⌜ (now e ≡ recordIn layout (now bytes) (r .0)) × Chained (hashAt (recordIn layout (now bytes))) (r .0 + 1) (now chain) ⌝ }
+    requires { ⌜ InChain (recordIn layout (now bytes)) (r .0) (now chain) (now e) ⌝ }
     ensures { λ t. ⌜ t ≡ tested (recordRefusal (now (dimensions .entry)) words (recordIn layout (now (bytes .entry))) (r .0)) ⌝ }
 {
     let alone = record_refusal(dimensions, words, e, r);

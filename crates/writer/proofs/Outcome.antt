@@ -19,7 +19,10 @@ use Rattle.model.specs.Calls.{written, writeRefusal, writeVerdict, writeOutput}
 use Rattle.model.proofs.Tests.{every-by, and-both}
 use Rattle.model.proofs.WriterFile.{file-length}
 use Rattle.model.proofs.WriterHeading.{wrongNumbers, writer-refusal}
-use Rattle.writer.specs.Writing.{heading, recordsRefusal}
+use Rattle.rule_tests.specs.declared.layout.Layout.{Layout}
+use Rattle.rule_tests.specs.Layout.{recordIn}
+use Rattle.rule_tests.specs.Rules.{rulesRefusal}
+use Rattle.writer.specs.Writing.{heading}
 
 -- what is given is as wide as its fields
 pub bytes-given : (l : List ℕ) → ((i : ℕ) → i < length l → getD l i 0 < 256) → T (allBytes l)
@@ -41,7 +44,7 @@ module _ (h : Heading) (records : List ℕ) (fits : T (fitsFields h)) (bytes : T
   otherLength = not (eqb (length records) (24 * h .rules))
 
   abbrev byRecords : Option Refusal
-  byRecords = recordsRefusal (fields (h .dimensions) 0 (h .categories)) (h .words) records (h .rules)
+  byRecords = rulesRefusal (fields (h .dimensions) 0 (h .categories)) (h .words) (recordIn Layout.Packed records) (h .rules)
 
   by-tests : {t : Tested} → tested (refuseIf fewOrMany (Refusal.Grammar 4 0) orElse refuseIf (ltb 256 (h .rules)) (Refusal.Grammar 4 0)
       orElse refuseIf (wrongNumbers h) (Refusal.Grammar 4 0) orElse refuseIf otherLength (Refusal.Grammar 5 0) orElse byRecords) ≡ t → t ≡ tested (writerRefusal h records)

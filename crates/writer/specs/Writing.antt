@@ -1,27 +1,18 @@
--- The words in which the parts of the writer are promised: the given numbers as a heading, refusals 6 to 10 of the given records, refusal 4 in pieces, and
+-- The words in which the parts of the writer are promised: the given numbers as a heading, refusal 4 in pieces, and
 -- what stands in each block before its check.
 -- Assumes nothing.
 use mathlib.Core.Bool.{Bool, _&&_}
 use mathlib.Core.List.{List, [], _∷_, _++_}
-use mathlib.Core.Option.{Option}
 use mathlib.Core.Path.{_≡_}
 use Prim.Native.Nat.{ℕ, _+_, _-_, _*_, _<_, _/_, _%_}
 use lib.ListN.{length, getD}
-use Rattle.model.specs.declared.Refusal.{Refusal}
 use Rattle.model.specs.GrammarFile.{within, fields, recordsIn, byteOf, checkOf}
-use Rattle.rule_tests.specs.declared.layout.Layout.{Layout}
-use Rattle.rule_tests.specs.Layout.{recordIn}
-use Rattle.rule_tests.specs.Rules.{rulesRefusal}
 use Rattle.model.specs.Writer.{Heading, little2, little4}
 use Rattle.model.proofs.WriterFile.{contentOf}
 
 -- the heading of the given numbers
 abbrev pub heading : ℕ → ℕ → ℕ → ℕ → List ℕ → Heading
 heading c s w r d = record { categories = c; start = s; words = w; rules = r; dimensions = d }
-
--- refusals 6 to 10 of the given records 0 to n - 1, record after record: the first there is
-abbrev pub recordsRefusal : List ℕ → ℕ → List ℕ → ℕ → Option Refusal
-recordsRefusal dimensions words records n = rulesRefusal dimensions words (recordIn Layout.Row records) n
 
 -- C, W and R are in range
 abbrev pub numbersIn : ℕ → ℕ → ℕ → Bool

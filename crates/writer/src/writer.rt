@@ -41,7 +41,7 @@ fn given_refusal(
         fields(dimensions, 0, categories as usize),
         words,
         records,
-        Layout::Row,
+        Layout::Packed,
         rules,
     )
 }

@@ -72,7 +72,7 @@ fn nonlexical(dimensions: &[u8; CATEGORIES], category: usize, daughters: [u8; 3]
     record
 }
 
-/// The permutation of that number, from 0: no two numbers give the same.
+/// The permutation of that number, from 0: no two numbers below that of all permutations give the same.
 fn permute(variables: &mut [u8], mut number: usize) {
     for i in 0..variables.len() {
         let choices = variables.len() - i;

@@ -72,7 +72,7 @@ fn number(bytes: &[u8], at: usize) -> u16 {
 }
 
 fn zero(bytes: &[u8]) -> bool {
-    bytes.iter().all(|&byte| byte == 0)
+    bytes.iter().fold(0, |all, &byte| all | byte) == 0
 }
 
 /// 4.

@@ -210,12 +210,19 @@ fn doubles(pair: &mut Pair) -> Done {
     pair.write_grammar(&last_two.heading, &last_two.records, 1024)
 }
 
-/// 256 rules that differ in the order of their variables alone, and each of them again in the place of some later ones.
+/// The letters a to f in the order of that number, from 0.
+fn order(number: usize) -> String {
+    let (mut letters, mut order, mut left) = ("abcdef".to_string(), String::new(), number);
+    for choices in (1..=6).rev() {
+        order.push(letters.remove(left % choices));
+        left /= choices;
+    }
+    order
+}
+
+/// 256 rules that differ in the order of their variables alone, and each but the first replaced by rule 0, by rule 1, by one halfway and by
+/// the one before it.
 fn doubles_among_256(pair: &mut Pair) -> Done {
-    let order = |number: usize| {
-        let (mut letters, mut left) = ("abcdef".to_string(), number);
-        (1..=6).rev().map(|choices| (letters.remove(left % choices), left /= choices).0).collect::<String>()
-    };
     let made = Made::of_text(&(0..256).map(|number| format!("S({}) <- Q(a,b,c,d) P(e,f)\n", order(number))).collect::<String>());
     pair.read_grammar(&made.file)?;
     pair.write_grammar(&made.heading, &made.records, made.file.len())?;
@@ -233,19 +240,20 @@ fn doubles_among_256(pair: &mut Pair) -> Done {
     Ok(())
 }
 
-/// Checks that are right and that are one too high or too low: of blocks with one byte, of blocks with one value in every byte, and of parts of these.
+/// Checks that are right, one too high, one too low and with one bit changed: of a last block with one byte that is not 0, with one value
+/// from a byte on or up to it, and with one value throughout.
 fn checks(pair: &mut Pair) -> Done {
     let one_byte = (0..508).map(|i| (i..i + 1, 255));
     let from_byte = (0..508).map(|i| (i..508, 255));
     let to_byte = (0..508).map(|i| (0..i, 254));
     let one_value = (0..=255).map(|value| (0..508, value));
-    for (turn, (bytes, value)) in one_byte.chain(from_byte).chain(to_byte).chain(one_value).enumerate() {
-        let mut file = vec![0; BLOCK * (1 + turn % 14)];
+    for (number, (bytes, value)) in one_byte.chain(from_byte).chain(to_byte).chain(one_value).enumerate() {
+        let mut file = vec![0; BLOCK * (1 + number % 14)];
         let last = file.len() - BLOCK;
         file[last..][bytes].fill(value);
         seal(&mut file);
         let right = u32::from_le_bytes(file[last + 508..].try_into().expect("a check has four bytes"));
-        for sum in [right, right.wrapping_add(1), right.wrapping_sub(1), right ^ 1 << (turn % 32)] {
+        for sum in [right, right.wrapping_add(1), right.wrapping_sub(1), right ^ 1 << (number % 32)] {
             file[last + 508..].copy_from_slice(&sum.to_le_bytes());
             pair.read_grammar(&file)?;
         }

@@ -1,7 +1,7 @@
 -- `grammar::all_zero` meets its contract. The loop keeps: all bytes are 0 if those before place i are and those from there on.
 -- Assumes nothing.
 use mathlib.Core.Path.{_≡_, refl, sym, ap, ap₂, _∙_}
-use mathlib.Core.Bool.{Bool, true, false, _&&_}
+use mathlib.Core.Bool.{Bool, _&&_}
 use mathlib.Core.Logic.{⊎-elim}
 use Prim.Native.Nat.{_+_, _≤_, _-_}
 use lib.Dec.{eqb}

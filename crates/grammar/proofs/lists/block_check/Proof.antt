@@ -1,7 +1,7 @@
 -- `grammar::block_check` meets its contract. The loop keeps: the lanes are those of the bytes from 4 times the turns left on.
 -- Assumes nothing.
 use mathlib.Core.Path.{_≡_, ap, _∙_}
-use Prim.Native.Nat.{ℕ, _<_, _≤_, _-_, _+_, _*_}
+use Prim.Native.Nat.{_<_, _≤_, _-_, _+_, _*_}
 use lib.ListN.{length, getD, length-take}
 use Rattle.model.specs.GrammarFile.{weighted}
 use Rattle.grammar.proofs.Lanes.{Small, small-none, small-more, Lanes, lanes-none, lanes-more, lanes-all}
@@ -33,7 +33,7 @@ loop-holds c =
     let summed = c .before .fields .result .now in
     let n = simp length-take at (ap length (c .before .fields .ensures)) in
     let long : length summed ≡ 508 = omega arith in
-    (omega arith, long, lanes-none summed 508 (omega arith), small-none, small-none, small-none, small-none)
+    (omega arith, long, lanes-none summed _ (omega arith), small-none, small-none, small-none, small-none)
 
 sub-turn : tie.Need-sub-turn Inv-loop μ-loop
 sub-turn c = search needs

@@ -18,7 +18,7 @@ use Rattle.reader.proofs.reader.from_rules.Tie as tie
 abbrev ofRules : List ℕ → Option Refusal
 ofRules file = rulesRefusal (dimensionsOf file) (wordsOf file) (recordOf file) (rulesOf file)
 
--- the tests of the rules depend on what they are given alone
+-- the answer for what the accessors give is the answer for the file's own fields
 given : {t : Tested} (file dimensions : List ℕ) (words n : ℕ) → t ≡ tested (rulesRefusal dimensions words (recordOf file) n) → dimensions ≡ dimensionsOf file → words ≡ wordsOf file → n ≡ rulesOf file → t ≡ tested (ofRules file)
 given file dimensions words n is d w r =
     is ∙ ap (λ (x : List ℕ). tested (rulesRefusal x words (recordOf file) n)) d ∙ ap (λ (x : ℕ). tested (rulesRefusal (dimensionsOf file) x (recordOf file) n)) w

@@ -23,7 +23,7 @@ earlier-requires c κs = search needs
 loop-holds : tie.Need-loop-holds Inv-loop μ-loop
 loop-holds c =
     let s = c .before .before .before in
-    walk-start (walk (recordIn (s .args .layout) (s .args .bytes .now)) (s .args .r .0) (s .pre .1) (s .pre .0) (c .earlier .ensures))
+    walk-start (walk (s .pre) (c .earlier .ensures))
 
 sub-j : tie.Need-sub-j Inv-loop μ-loop
 sub-j c = search needs
@@ -38,7 +38,7 @@ returns : tie.Need-returns Inv-loop μ-loop
 returns c =
     let t = c .before .before .before .before in
     let s = t .before .before .before .before in
-    let w = walk (recordIn (s .args .layout) (s .args .bytes .now)) (s .args .r .0) (s .pre .1) (s .pre .0) (t .before .earlier .ensures) in
+    let w = walk (s .pre) (t .before .earlier .ensures) in
     let found = ap (λ (x : List ℕ). sameRecord x (s .args .e .now)) (sym (c .before .before .record-in .ensures)) ∙ sym (c .before .same-record .ensures) ∙ c .if1 .taken in
     sym (walk-hit w (t .loop .inv) (omega arith) found)
 
@@ -46,14 +46,14 @@ earlier-requires-2 : tie.Need-earlier-requires-2 Inv-loop μ-loop
 earlier-requires-2 c κs =
     let t = c .before .before .before .before in
     let s = t .before .before .before .before in
-    let w = walk (recordIn (s .args .layout) (s .args .bytes .now)) (s .args .r .0) (s .pre .1) (s .pre .0) (t .before .earlier .ensures) in
+    let w = walk (s .pre) (t .before .earlier .ensures) in
     omega (arith, walk-few w (t .loop .inv))
 
 loop-less : tie.Need-loop-less Inv-loop μ-loop
 loop-less c =
     let t = c .before .before .before .before .before in
     let s = t .before .before .before .before in
-    let w = walk (recordIn (s .args .layout) (s .args .bytes .now)) (s .args .r .0) (s .pre .1) (s .pre .0) (t .before .earlier .ensures) in
+    let w = walk (s .pre) (t .before .earlier .ensures) in
     let other = ap (λ (x : List ℕ). sameRecord x (s .args .e .now)) (sym (c .before .before .before .record-in .ensures)) ∙ sym (c .before .before .same-record .ensures) ∙ c .before .if1 .left in
     walk-on w (t .loop .inv) (omega arith) other (c .earlier2 .ensures) .0
 
@@ -61,7 +61,7 @@ loop-again : tie.Need-loop-again Inv-loop μ-loop
 loop-again c =
     let t = c .before .before .before .before .before in
     let s = t .before .before .before .before in
-    let w = walk (recordIn (s .args .layout) (s .args .bytes .now)) (s .args .r .0) (s .pre .1) (s .pre .0) (t .before .earlier .ensures) in
+    let w = walk (s .pre) (t .before .earlier .ensures) in
     let other = ap (λ (x : List ℕ). sameRecord x (s .args .e .now)) (sym (c .before .before .before .record-in .ensures)) ∙ sym (c .before .before .same-record .ensures) ∙ c .before .if1 .left in
     walk-on w (t .loop .inv) (omega arith) other (c .earlier2 .ensures) .1
 
@@ -69,7 +69,7 @@ returns-2 : tie.Need-returns-2 Inv-loop μ-loop
 returns-2 c =
     let t = c .before in
     let s = t .before .before .before .before in
-    let w = walk (recordIn (s .args .layout) (s .args .bytes .now)) (s .args .r .0) (s .pre .1) (s .pre .0) (t .before .earlier .ensures) in
+    let w = walk (s .pre) (t .before .earlier .ensures) in
     sym (walk-end w (t .loop .inv) (omega arith))
 
 pub repeated-rule-spec : {M : Type 1} → statement M

@@ -27,7 +27,7 @@ returns : tie.Need-returns
 returns c =
     let s = c .before .before .before .before .before .before in
     let a = s .args in
-    let first = c .before .before .record-refusal .ensures ∙ ap (λ (e : List ℕ). tested (recordTests (a .dimensions .now) (a .words) e (a .r .0))) (s .pre .0) in
+    let first = c .before .before .record-refusal .ensures ∙ ap (λ (e : List ℕ). tested (recordTests (a .dimensions .now) (a .words) e (a .r .0))) (s .pre .is) in
     record-stop (a .dimensions .now) (a .words) (recordIn (a .layout) (a .bytes .now)) (a .r .0) (c .before .before .record-refusal .result) first (c .enum-told2 .given .1)
 
 repeated-rule-requires : tie.Need-repeated-rule-requires
@@ -37,7 +37,7 @@ returns-2 : tie.Need-returns-2
 returns-2 c =
     let s = c .before .before .before .before .before .before .before .before in
     let a = s .args in
-    let first = c .before .before .before .before .record-refusal .ensures ∙ ap (λ (e : List ℕ). tested (recordTests (a .dimensions .now) (a .words) e (a .r .0))) (s .pre .0) in
+    let first = c .before .before .before .before .record-refusal .ensures ∙ ap (λ (e : List ℕ). tested (recordTests (a .dimensions .now) (a .words) e (a .r .0))) (s .pre .is) in
     record-pass (a .dimensions .now) (a .words) (recordIn (a .layout) (a .bytes .now)) (a .r .0) (c .before .before .before .before .record-refusal .result) first (c .before .before .enum-told .given .1) _
     (sym (ap tested (refuse-on (repeated (recordIn (a .layout) (a .bytes .now)) (a .r .0)) (Refusal.Grammar 10 (a .r .0)) (sym (c .before .repeated-rule .ensures) ∙ c .if1 .taken))))
 
@@ -45,7 +45,7 @@ returns-3 : tie.Need-returns-3
 returns-3 c =
     let s = c .before .before .before .before .before .before .before .before in
     let a = s .args in
-    let first = c .before .before .before .before .record-refusal .ensures ∙ ap (λ (e : List ℕ). tested (recordTests (a .dimensions .now) (a .words) e (a .r .0))) (s .pre .0) in
+    let first = c .before .before .before .before .record-refusal .ensures ∙ ap (λ (e : List ℕ). tested (recordTests (a .dimensions .now) (a .words) e (a .r .0))) (s .pre .is) in
     record-pass (a .dimensions .now) (a .words) (recordIn (a .layout) (a .bytes .now)) (a .r .0) (c .before .before .before .before .record-refusal .result) first (c .before .before .enum-told .given .1) _
     (sym (ap tested (refuse-off (repeated (recordIn (a .layout) (a .bytes .now)) (a .r .0)) (Refusal.Grammar 10 (a .r .0)) (sym (c .before .repeated-rule .ensures) ∙ c .if1 .left))))
 

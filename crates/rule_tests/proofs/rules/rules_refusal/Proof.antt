@@ -8,11 +8,11 @@ use lib.ListN.{length, replicate}
 use Rattle.model.specs.Verdict.{tested}
 use Rattle.model.specs.GrammarFile.{recordRefusal}
 use Rattle.model.proofs.Verdicts.{tests-pass, tests-met}
-use Rattle.rule_tests.specs.Chains.{hashOf, Latest, Chained, hashAt}
+use Rattle.rule_tests.specs.Chains.{hashOf, Chained, hashAt}
 use Rattle.rule_tests.specs.Layout.{recordIn}
 use Rattle.rule_tests.specs.Rules.{rulesRefusal}
 use Rattle.rule_tests.proofs.Answers.{left, left-all, left-pass, left-stop, left-end}
-use Rattle.rule_tests.proofs.Chains.{latest-none, chain-none, entered}
+use Rattle.rule_tests.proofs.Chains.{Latest, latest-none, chain-none, entered}
 use borrow.Author.Needs.{needs}
 use Rattle.rule_tests.proofs.rules.rules_refusal.Statement.{statement}
 use Rattle.rule_tests.proofs.rules.rules_refusal.Tie as tie
@@ -58,7 +58,7 @@ rule-refusal-requires c κs =
     let inv = t .loop .inv in
     let hashed = e .before .hash-of .ensures ∙ ap hashOf (e .before .before .before .record-in .ensures) in
     let more = entered (hashAt recordAt) (t .loop .i) (omega arith) (inv .1) (inv .2) (inv .3) (inv .4) (omega arith) hashed (e .enter .ensures) in
-    (e .before .before .before .record-in .ensures, more .3)
+    record { is = e .before .before .before .record-in .ensures; chained = more .3 }
 
 enum-told : tie.Need-enum-told Inv-loop μ-loop
 enum-told c = search needs

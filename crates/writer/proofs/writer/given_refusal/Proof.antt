@@ -8,7 +8,10 @@ use native.Mathlib.Omega.{arith}
 use borrow.Author.Tests.{lt-ltb, le-ltb, eq-eqb, ne-eqb}
 use lib.ListN.{length}
 use Rattle.model.specs.Verdict.{tested}
-use Rattle.writer.specs.Writing.{heading, recordsRefusal}
+use Rattle.rule_tests.specs.declared.layout.Layout.{Layout}
+use Rattle.rule_tests.specs.Layout.{recordIn}
+use Rattle.rule_tests.specs.Rules.{rulesRefusal}
+use Rattle.writer.specs.Writing.{heading}
 use Rattle.writer.proofs.Outcome.{bytes-given, given-fits, no-dimensions, too-many-rules, no-heading, no-records, records-decide}
 use borrow.Author.Needs.{needs}
 use Rattle.writer.proofs.writer.given_refusal.Statement.{statement}
@@ -79,7 +82,7 @@ returns-5 c =
     let few = le-ltb 256 (a .rules) (c .before .before .before .before .before .if2 .left) in
     let right = sym (c .before .before .before .before .wrong-numbers .ensures) ∙ c .before .before .before .if3 .left in
     c .rules-refusal .ensures
-    ∙ ap (λ (l : List ℕ). tested (recordsRefusal l (a .words) (a .records .now) (a .rules))) (c .before .fields .ensures)
+    ∙ ap (λ (l : List ℕ). tested (rulesRefusal l (a .words) (recordIn Layout.Packed (a .records .now)) (a .rules))) (c .before .fields .ensures)
     ∙ records-decide h (a .records .now) fits bytes named few right (ap not (eq-eqb (length (a .records .now)) (24 * a .rules) (c .before .before .if4 .left)))
 
 pub given-refusal-spec : {M : Type 1} → statement M
