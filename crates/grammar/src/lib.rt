@@ -19,6 +19,7 @@ pub use layout::rules;
 pub use layout::start;
 pub use layout::words;
 pub use lists::block_check;
+pub use lists::few_zeros;
 pub use lists::occurrences;
 pub use lists::same_bytes;
 pub use lists::same_record;

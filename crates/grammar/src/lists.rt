@@ -22,11 +22,32 @@ fn all_zero(bytes: &[u8]) -> bool
     zero
 }
 
+// Whether every byte is 0, up to the first that is not: for a few bytes.
+fn none_set(bytes: &[u8]) -> bool
+    ensures { λ r. ⌜ r ≡ allZero (now (bytes .entry)) ⌝ }
+{
+    let mut i: usize = 0;
+    while i < bytes.len() {
+        if bytes[i] != 0 {
+            return false;
+        }
+        i += 1;
+    }
+    true
+}
+
 // Whether n bytes from byte i on are 0.
 pub fn zeros(bytes: &[u8], i: usize, n: usize) -> bool
     ensures { λ r. ⌜ r ≡ allZero (fields (now (bytes .entry)) i n) ⌝ }
 {
     all_zero(fields(bytes, i, n))
+}
+
+// The same, for a few bytes.
+pub fn few_zeros(bytes: &[u8], i: usize, n: usize) -> bool
+    ensures { λ r. ⌜ r ≡ allZero (fields (now (bytes .entry)) i n) ⌝ }
+{
+    none_set(fields(bytes, i, n))
 }
 
 // The sum of the bytes.

@@ -8,6 +8,7 @@ ghost use Rattle.model.specs.Verdict.{tested};
 ghost use Rattle.model.specs.GrammarFile.{field, allZero, wrongCategory, wrongWord, eachOnce, wrongVariables, unusedSet};
 ghost use Rattle.record_tests.specs.RecordTests.{unusedLexical, unusedNonlexical, recordTests};
 use grammar::dimension_in;
+use grammar::few_zeros;
 use grammar::fields;
 use grammar::less;
 use grammar::occurrences;
@@ -113,7 +114,7 @@ fn wrong_variables(dimensions: &[u8], e: &[u8]) -> bool
 fn lexical_unused(e: &[u8]) -> bool
     ensures { λ r. ⌜ r ≡ allZero (unusedLexical (now (e .entry))) ⌝ }
 {
-    if !zeros(e, 2, 3) {
+    if !few_zeros(e, 2, 3) {
         return false;
     }
     zeros(e, 7, 16)
@@ -124,18 +125,18 @@ fn nonlexical_unused(dimensions: &[u8], e: &[u8]) -> bool
     ensures { λ r. ⌜ r ≡ allZero (unusedNonlexical (now (dimensions .entry)) (now (e .entry))) ⌝ }
 {
     let n = record_daughters(e) as usize;
-    if !zeros(e, 2 + n, less(3, n)) {
+    if !few_zeros(e, 2 + n, less(3, n)) {
         return false;
     }
-    if !zeros(e, 5, 2) {
+    if !few_zeros(e, 5, 2) {
         return false;
     }
     let d = dimension_in(dimensions, record_category(e)) as usize;
-    if !zeros(e, 7 + d, less(4, d)) {
+    if !few_zeros(e, 7 + d, less(4, d)) {
         return false;
     }
     let v = variables(dimensions, e) as usize;
-    zeros(e, 11 + v, less(12, v))
+    few_zeros(e, 11 + v, less(12, v))
 }
 
 // Refusal 9: an unused byte is not 0.
