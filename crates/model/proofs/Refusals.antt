@@ -38,7 +38,7 @@ abbrev given : Test → Refusal
 given t = refusalOf (t .author) (t .number) (t .place)
 
 -- what the first test gives that meets the call
-abbrev firstMet : List Test → Option Refusal
+abbrev pub firstMet : List Test → Option Refusal
 firstMet [] = none
 firstMet (t ∷ ts) = refuseIf (t .meets) (given t) orElse firstMet ts
 
@@ -118,14 +118,14 @@ some-first (x ∷ ts) a n p r e f = go (x .meets) refl f (λ k. some-first ts a 
         passed t q (inr d) = q t d
 
 -- an answer by tests that refuse or pass
-abbrev answerBy : Option Refusal → List ℕ → Answer
+abbrev pub answerBy : Option Refusal → List ℕ → Answer
 answerBy none result = values result
 answerBy (some r) result = refusalAnswer r
 
 by-refusal : (o : Option Refusal) (result : List ℕ) (a : Author) (n p : ℕ) → answerBy o result ≡ refusal a n p → (r : Refusal) → o ≡ some r → refusalAnswer r ≡ refusal a n p
 by-refusal o result a n p e r f = sym (ap (λ (x : Option Refusal). answerBy x result) f) ∙ e
 
-decided : (ts : List Test) (result : List ℕ) (o : Option Refusal) → firstMet ts ≡ o → Decided ts result (answerBy o result)
+pub decided : (ts : List Test) (result : List ℕ) (o : Option Refusal) → firstMet ts ≡ o → Decided ts result (answerBy o result)
 decided ts result none e =
     record {
       refused = λ a n p. (λ f. let z : _≡_ {A = ℕ} 0 1 = cc in absurd (omega arith), λ f. none-some (sym (first-some ts a n p f) ∙ e));
@@ -148,7 +148,7 @@ count-by : (o : Option Refusal) (c e : ℕ) → answerBy o (c ∷ e ∷ []) ≡ 
 count-by none c e = refl
 count-by (some r) c e = refl
 
-by-tests : (ts : List Test) (o : Option Refusal) (n : ℕ) → firstMet ts ≡ o → Decided ts (n ∷ []) (verdictAnswer (verdict o n))
+pub by-tests : (ts : List Test) (o : Option Refusal) (n : ℕ) → firstMet ts ≡ o → Decided ts (n ∷ []) (verdictAnswer (verdict o n))
 by-tests ts o n e = subst (Decided ts (n ∷ [])) (verdict-by o n) (decided ts (n ∷ []) o e)
 
 wrote : (ts : List Test) (o : Option Refusal) (list out : List ℕ) → firstMet ts ≡ o → (o ≡ none → length list ≤ length out) → Wrote ts list out (written o list out)
@@ -157,8 +157,8 @@ wrote ts (some r) list out e room =
     record { as-it-was = λ a n p f. refl; written = λ h. none-some (sym e ∙ none-met ts h); fits = λ h. none-some (sym e ∙ none-met ts h) }
 
 -- the tests of a call, part by part: the first that meets it gives o
-record Gives (ts : List Test) (o : Option Refusal) : Type 0 where
-  first : firstMet ts ≡ o
+pub record Gives (ts : List Test) (o : Option Refusal) : Type 0 where
+  pub first : firstMet ts ≡ o
 
 met-join : (xs ys : List Test) → firstMet (xs ++ ys) ≡ firstMet xs orElse firstMet ys
 met-join [] ys = refl
@@ -170,7 +170,7 @@ met-join (x ∷ xs) ys = go (x .meets) (met-join xs ys)
     go false ih = ih
 
 infixr 20 _then_
-_then_ : {xs ys : List Test} {a b : Option Refusal} → Gives xs a → Gives ys b → Gives (xs ++ ys) (a orElse b)
+pub _then_ : {xs ys : List Test} {a b : Option Refusal} → Gives xs a → Gives ys b → Gives (xs ++ ys) (a orElse b)
 _then_ {xs} {ys} e f = record { first = met-join xs ys ∙ ap₂ _orElse_ (e .first) (f .first) }
 
 alone : (b : Bool) (r : Refusal) → refuseIf b r orElse none ≡ refuseIf b r
@@ -183,7 +183,7 @@ grammar-one n p b = record { first = alone b (Refusal.Grammar n p) }
 analysis-one : (n p : ℕ) (b : Bool) → Gives (ofAnalysis n p b ∷ []) (refuseIf b (Refusal.Analysis n p))
 analysis-one n p b = record { first = alone b (Refusal.Analysis n p) }
 
-desk-one : (n p : ℕ) (b : Bool) → Gives (ofDesk n p b ∷ []) (refuseIf b (Refusal.Desk n p))
+pub desk-one : (n p : ℕ) (b : Bool) → Gives (ofDesk n p b ∷ []) (refuseIf b (Refusal.Desk n p))
 desk-one n p b = record { first = alone b (Refusal.Desk n p) }
 
 from-map : (n : ℕ) (test : ℕ → Bool) (from count : ℕ)

@@ -20,7 +20,7 @@ use Rattle.model.specs.Calls.{roomRefusal}
 use Rattle.model.proofs.Tests.{no-refusal, first-of}
 
 -- an answer in the paper's terms says which value of the enum it is: different verdicts have different answers
-same-refusal : (r s : Refusal) → refusalAnswer r ≡ refusalAnswer s → r ≡ s
+pub same-refusal : (r s : Refusal) → refusalAnswer r ≡ refusalAnswer s → r ≡ s
 same-refusal (Refusal.Grammar n p) (Refusal.Grammar m q) e = cc
 same-refusal (Refusal.Analysis n p) (Refusal.Analysis m q) e = cc
 same-refusal (Refusal.Desk n p) (Refusal.Desk m q) e = cc

@@ -1,0 +1,8 @@
+pub mod Months
+pub mod OneDate
+pub mod OpeningMonth
+pub mod InYear
+pub mod OpenOrNot
+pub mod WideDates
+pub mod Demand1
+pub mod Examples
