@@ -12,7 +12,8 @@
  *     32-39                   number
  *     0-31      the value     place
  *
- * The value of the count is two: bits 0-29 the count, bits 30-59 the effort. Every bit not named here is 0. README.md has the refusals in words. */
+ * The value of the count is two: bits 0-29 the count, bits 30-59 the effort; that of dg_date_of is three, as said there. Every bit not named here is 0.
+ * README.md has the refusals in words. */
 #ifndef DOWNGRATER_H
 #define DOWNGRATER_H
 
@@ -66,6 +67,21 @@ uint64_t dg_entry(const uint8_t *file, size_t file_len, const uint16_t *sentence
 /* The survey; its value is the number of categories, and it asks an output of 96 numbers. */
 uint64_t dg_survey(const uint8_t *file, size_t file_len, uint16_t *out, size_t out_len);
 
+/* Dates, from 1 January 2000, which is day 0, to 31 December 2399, which is day 146,096, in the Gregorian calendar. No grammar is asked for. Years, months and
+ * days are counted as people write them, from 1; a number that is too large for a date is no date and is never cut: 27. */
+
+/* A date's number, which is the value. */
+uint64_t dg_day_number(uint32_t year, uint32_t month, uint32_t day);
+
+/* A number's one date; its value is three numbers, bits 16-31 the year, bits 8-15 the month, bits 0-7 the day. */
+uint64_t dg_date_of(uint64_t number);
+
+/* The opening day of a deposit of a date, after a term of 0 to 600 months; its value is the day's number. */
+uint64_t dg_opening_day(uint32_t year, uint32_t month, uint32_t day, uint64_t term);
+
+/* Whether that deposit is open on a day; its value is 1 from the opening day on, and 0 before it. */
+uint64_t dg_is_open(uint32_t year, uint32_t month, uint32_t day, uint64_t term, uint64_t asked);
+
 /* An answer, taken apart. */
 static inline int dg_refused(uint64_t answer) { return (int)(answer >> 63); }
 static inline unsigned dg_whose(uint64_t answer) { return (unsigned)(answer >> 40) & 255; }
@@ -74,6 +90,9 @@ static inline uint32_t dg_place(uint64_t answer) { return (uint32_t)answer; }
 static inline uint32_t dg_value(uint64_t answer) { return (uint32_t)answer; }
 static inline uint32_t dg_counted(uint64_t answer) { return (uint32_t)answer & ((1u << 30) - 1); }
 static inline uint32_t dg_effort(uint64_t answer) { return (uint32_t)(answer >> 30) & ((1u << 30) - 1); }
+static inline unsigned dg_year(uint64_t answer) { return (unsigned)(answer >> 16) & 65535; }
+static inline unsigned dg_month(uint64_t answer) { return (unsigned)(answer >> 8) & 255; }
+static inline unsigned dg_day(uint64_t answer) { return (unsigned)answer & 255; }
 
 #ifdef __cplusplus
 }

@@ -1,4 +1,4 @@
--- The opening day is a date, and a longer term opens no earlier (`one-date`).
+-- The opening day is a date, and a longer term opens later (`one-date`).
 -- Assumes nothing.
 use mathlib.Core.Path.{_≡_, refl, sym, ap, _∙_}
 use mathlib.Core.Bool.{Bool, true, false, not}
@@ -72,13 +72,13 @@ module _ (d : Date) (term : ℕ) (r : Is d) where
   year-later l = omega (arith, sum-up-to yearFrom2000 399 (m .year - firstYear) (omega arith), years-sum)
 
 -- ---- dates in order
-module _ (a b : Date) (r : Is a) (s : Is b) where
+module _ (a b : Date) (r : Is a) where
   -- of a later year
-  by-year : a .year < b .year → dayNumber a ≤ dayNumber b
+  by-year : a .year < b .year → dayNumber a < dayNumber b
   by-year l = omega (arith, in-year a r, sum-up-to yearFrom2000 (a .year - firstYear) (b .year - firstYear) (omega (arith, r .from-first)))
 
   -- of a later month of the year
-  by-month : a .year ≡ b .year → a .month < b .month → dayNumber a ≤ dayNumber b
+  by-month : a .year ≡ b .year → a .month < b .month → dayNumber a < dayNumber b
   by-month e l =
       omega (
         arith,
@@ -88,56 +88,38 @@ module _ (a b : Date) (r : Is a) (s : Is b) where
         in-month a r,
       )
 
-module _ (d : Date) (shorter longer : ℕ) (l : shorter ≤ longer) (p : Passes d longer) where
+module _ (d : Date) (shorter longer : ℕ) (l : shorter < longer) (p : Passes d longer) where
   abbrev a : Date
   a = opening d shorter
 
   abbrev b : Date
   b = opening d longer
 
+  u : After (monthOf d) shorter (openingMonth d shorter)
+  u = after d shorter (p .right)
+
+  v : After (monthOf d) longer (openingMonth d longer)
+  v = after d longer (p .right)
+
   earlier : Passes d shorter
   earlier =
-      let r = p .right in
       record {
-        right = r;
+        right = p .right;
         few = omega (arith, p .few);
-        early = omega (
-          arith,
-          p .early,
-          after d shorter r .first,
-          after d shorter r .last,
-          after d shorter r .months,
-          after d longer r .first,
-          after d longer r .last,
-          after d longer r .months,
-        );
+        early = omega (arith, p .early, u .first, u .months, v .last, v .months);
       }
 
-  in-order : dayNumber a ≤ dayNumber b
-  in-order = go (ltb (a .year) (b .year)) refl (ltb (a .month) (b .month)) refl
+  in-order : dayNumber a < dayNumber b
+  in-order = go (ltb (a .year) (b .year)) refl
     where
       x : Is a
       x = opening-is d shorter (p .right) (earlier .early)
 
-      y : Is b
-      y = opening-is d longer (p .right) (p .early)
-
-      u : After (monthOf d) shorter (openingMonth d shorter)
-      u = after d shorter (p .right)
-
-      v : After (monthOf d) longer (openingMonth d longer)
-      v = after d longer (p .right)
-
-      go : (s : Bool) → ltb (a .year) (b .year) ≡ s → (t : Bool) → ltb (a .month) (b .month) ≡ t → dayNumber a ≤ dayNumber b
-      go true e t f = by-year a b x y (ltb-true _ _ e)
-      go false e true f =
-          by-month a b x y (omega (arith, ltb-false (a .year) (b .year) e, u .first, u .last, u .months, v .first, v .last, v .months)) (ltb-true _ _ f)
-      go false e false f =
-          let same-year : a .year ≡ b .year = omega (arith, ltb-false (a .year) (b .year) e, u .first, u .last, u .months, v .first, v .last, v .months) in
-          let same-month : a .month ≡ b .month = omega (arith, ltb-false (a .month) (b .month) f, same-year, u .months, v .months) in
-          let same : openingMonth d shorter ≡ openingMonth d longer = λ i. record { year = same-year i; month = same-month i } in
-          let n = ap (λ (m : Month). dayNumber (dateInMonth m (d .day))) same in
-          omega (arith, n)
+      go : (s : Bool) → ltb (a .year) (b .year) ≡ s → dayNumber a < dayNumber b
+      go true e = by-year a b x (ltb-true _ _ e)
+      go false e =
+          let same : a .year ≡ b .year = omega (arith, ltb-false (a .year) (b .year) e, u .first, u .months, v .last, v .months) in
+          by-month a b x same (omega (arith, same, u .months, v .months))
 
 pub one-date : OneDate
 one-date = record {

@@ -136,8 +136,8 @@ pub record OneDate : Type 0 where
   pub opens : (d : Date) (term : ℕ) → openingRefusal d term ≡ none → isDate (opening d term) ≡ true
   -- a term of 0 opens at once
   pub at-once : (d : Date) → isDate d ≡ true → opening d 0 ≡ d
-  -- a longer term never opens earlier, and where it is not refused, a shorter one is not
-  pub later : (d : Date) (shorter longer : ℕ) → shorter ≤ longer → openingRefusal d longer ≡ none
-      → (openingRefusal d shorter ≡ none) × (dayNumber (opening d shorter) ≤ dayNumber (opening d longer))
+  -- a longer term opens later, and so never earlier; and where it is not refused, a shorter one is not
+  pub later : (d : Date) (shorter longer : ℕ) → shorter < longer → openingRefusal d longer ≡ none
+      → (openingRefusal d shorter ≡ none) × (dayNumber (opening d shorter) < dayNumber (opening d longer))
   -- 28 for an opening day after the last date: its number would be past the last
   pub after-last : (d : Date) (term : ℕ) → isDate d ≡ true → (tooLate d term ≡ true) → days ≤ dayNumber (opening d term)

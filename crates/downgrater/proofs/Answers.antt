@@ -8,7 +8,8 @@ use Rattle.model.specs.declared.Refusal.{Refusal}
 use Rattle.model.specs.declared.Verdict.{Verdict}
 use Rattle.model.specs.declared.CountVerdict.{CountVerdict}
 use Rattle.model.specs.Calls.{SurveyOutcome}
-use Rattle.downgrater.specs.Packing.{ValueFits, CountsFit, Says, SaysCount}
+use Rattle.dates.specs.declared.DateVerdict.{DateVerdict}
+use Rattle.downgrater.specs.Packing.{ValueFits, CountsFit, Says, SaysCount, SaysDate}
 use Rattle.downgrater.specs.Exports.{surveyVerdict, SaysBoth}
 use Rattle.weights.specs.Weights.{Weighed}
 
@@ -26,6 +27,9 @@ module _ (v w : CountVerdict) (is : v ≡ w) where
 
   pub said-count : (x : ℕ) → SaysCount v x → SaysCount w x
   said-count x s = subst (λ (u : CountVerdict). SaysCount u x) is s
+
+pub said-date : (v w : DateVerdict) → v ≡ w → (x : ℕ) → SaysDate v x → SaysDate w x
+said-date v w is x s = subst (λ (u : DateVerdict). SaysDate u x) is s
 
 pub surveyed : (file out : List ℕ) (v : Verdict) (after : List ℕ) → SurveyOutcome file out v after → SurveyOutcome file out (surveyVerdict file out) after
 surveyed file out v after s = record { figures = s .figures; figures-right = s .figures-right; verdict-is = refl; output-is = s .output-is }

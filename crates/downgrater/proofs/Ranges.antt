@@ -1,18 +1,18 @@
--- The values of accepted calls fit their bits: a value is at most 7,168, a sum of weights at most 24,480, and the effort of a count that is not refused is
--- within its limit, and what is counted is kept from the live prefixes.
+-- The values of accepted calls fit their bits: a value is at most 7,168, a sum of weights at most 24,480, a day number below 146,097; the effort of a count that
+-- is not refused is within its limit, and what is counted is kept from the live prefixes.
 -- Assumes nothing.
 use mathlib.Core.Path.{_≡_, refl}
-use mathlib.Core.Bool.{not}
+use mathlib.Core.Bool.{Bool, true, false, not}
 use mathlib.Core.Option.{Option, none, some}
 use mathlib.Core.List.{List}
-use Prim.Native.Nat.{ℕ, _*_, _≤_}
+use Prim.Native.Nat.{ℕ, _*_, _<_, _≤_}
 use native.Mathlib.Omega.{arith}
 use borrow.Author.Tests.{ltb-false, leb-false}
 use lib.Dec.{ltb, leb, eqb}
 use lib.ListN.{length}
 use Rattle.model.specs.declared.Refusal.{Refusal}
 use Rattle.model.specs.declared.Verdict.{Verdict}
-use Rattle.model.specs.Base.{_orElse_}
+use Rattle.model.specs.Base.{if_then_else_, _orElse_}
 use Rattle.model.specs.Verdict.{refuseIf, verdict, countVerdict}
 use Rattle.model.specs.Grammar.{Grammar}
 use Rattle.model.specs.GrammarFile.{grammarRefusal, grammarOf, rulesOf, categoriesOf, blocksFor, wrongHeading}
@@ -29,13 +29,20 @@ use Rattle.model.proofs.Demands.{trace-short, tree-short}
 use Rattle.analyses.proofs.Limits.{ranges}
 use Rattle.analyses.proofs.FoundEntry.{is-entry}
 use Rattle.weights.specs.Weights.{largestSum, AtMost}
+use Rattle.calendar.specs.declared.Date.{Date}
+use Rattle.calendar.specs.Calendar.{days, isDate, dayNumber}
+use Rattle.dates.specs.Dates.{opening, openOn, noDate, dateRefusal, openingRefusal, openRefusal, numberVerdict, openingVerdict, openVerdict}
+use Rattle.dates.proofs.OneDate.{kept-date, one-date}
 use Rattle.downgrater.specs.Packing.{ValueFits, CountsFit}
 use Rattle.downgrater.specs.Exports.{surveyVerdict}
 
 -- a verdict's value, where there is no refusal
+value-within : (most : ℕ) → most < 4294967296 → (o : Option Refusal) (n : ℕ) → (o ≡ none → n ≤ most) → ValueFits (verdict o n)
+value-within most few none n h = omega (arith, h refl)
+value-within most few (some r) n h = tt
+
 value : (o : Option Refusal) (n : ℕ) → (o ≡ none → n ≤ 7168) → ValueFits (verdict o n)
-value none n h = omega (arith, h refl)
-value (some r) n h = tt
+value o n h = value-within 7168 (omega arith) o n h
 
 pub sum-fits : (v : Verdict) → AtMost largestSum v → ValueFits v
 sum-fits (Verdict.Accepted n) h = omega arith
@@ -148,3 +155,19 @@ module _ (file sentence : List ℕ) where
             let t = rest-of E M (rest-of W (E orElse M) (rest-of L (W orElse E orElse M) f)) in
             let b = leb-false (count g sentence n) m (no-refusal (leb (count g sentence n) m) (Refusal.Desk 26 0) t) in
             omega (arith, is-entry file a sentence r m b .short, r .nodes-few)
+
+-- day numbers, and 1 or 0
+pub number-fits : (d : Date) → ValueFits (numberVerdict d)
+number-fits d = value-within days (omega arith) (dateRefusal d) (dayNumber d) (λ e. omega (arith, one-date .date-back d (kept-date d e) .0))
+
+pub opening-fits : (d : Date) (term : ℕ) → ValueFits (openingVerdict d term)
+opening-fits d term =
+    value-within days (omega arith) (openingRefusal d term) (dayNumber (opening d term))
+    (λ e. omega (arith, one-date .date-back (opening d term) (one-date .opens d term e) .0))
+
+pub open-fits : (d : Date) (term asked : ℕ) → ValueFits (openVerdict d term asked)
+open-fits d term asked = value-within 1 (omega arith) (openRefusal d term asked) (openOn d term asked) (λ e. few (leb (dayNumber (opening d term)) asked))
+  where
+    few : (b : Bool) → (if b then 1 else 0) ≤ 1
+    few true = omega arith
+    few false = omega arith

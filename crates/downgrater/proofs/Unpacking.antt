@@ -13,9 +13,12 @@ use Rattle.model.specs.declared.Verdict.{Verdict}
 use Rattle.model.specs.declared.Verdict.the-variants.{Accepted, Refused}
 use Rattle.model.specs.declared.CountVerdict.{CountVerdict}
 use Rattle.model.specs.declared.CountVerdict.the-variants.{Counted, NotCounted}
+use Rattle.dates.specs.declared.DateVerdict.{DateVerdict}
+use Rattle.dates.specs.declared.DateVerdict.the-variants.{Dated, NotDated}
+use Rattle.dates.specs.Dates.{dateAnswer}
 use Rattle.model.specs.Base.{if_then_else_}
 use Rattle.model.specs.Verdict.{author, number, place, Answer, values, refusal, refusalAnswer, verdictAnswer, countAnswer}
-use Rattle.downgrater.specs.Packing.{authorCode, packedRefusal, packedVerdict, packedCount, authorOf, unpackedRefusal, unpackedVerdict, unpackedCount, Fits, VerdictFits, CountFits, Says, SaysCount}
+use Rattle.downgrater.specs.Packing.{authorCode, packedRefusal, packedVerdict, packedCount, packedDate, authorOf, unpackedRefusal, unpackedVerdict, unpackedCount, unpackedDate, Fits, VerdictFits, CountFits, DateFits, Says, SaysCount, SaysDate}
 
 abbrev packed : ℕ → ℕ → ℕ → ℕ
 packed w n p = 9223372036854775808 + 1099511627776 * w + 4294967296 * n + p
@@ -52,9 +55,22 @@ count-back (Counted c e) f =
     rw low (λ i. values (first i ∷ second i ∷ []))
 count-back (NotCounted r) f = by-refusal r (values (packedRefusal r % 1073741824 ∷ packedRefusal r / 1073741824 ∷ [])) f
 
+pub date-back : (v : DateVerdict) → DateFits v → unpackedDate (packedDate v) ≡ dateAnswer v
+date-back (Dated d) f =
+    let x = 65536 * d .year + 256 * d .month + d .day in
+    let low : ltb x 9223372036854775808 ≡ true = lt-ltb x 9223372036854775808 (omega (arith, f .0, f .1, f .2)) in
+    let first : x / 65536 ≡ d .year = omega (arith, f .1, f .2) in
+    let second : x / 256 % 256 ≡ d .month = omega (arith, f .1, f .2) in
+    let third : x % 256 ≡ d .day = omega (arith, f .2) in
+    rw low (λ i. values (first i ∷ second i ∷ third i ∷ []))
+date-back (NotDated r) f = by-refusal r (values (packedRefusal r / 65536 ∷ packedRefusal r / 256 % 256 ∷ packedRefusal r % 256 ∷ [])) f
+
 -- what a number says is what C reads from its bits
 pub says-back : (v : Verdict) (x : ℕ) → Says v x → unpackedVerdict x ≡ verdictAnswer v
 says-back v x s = ap unpackedVerdict (s .packed) ∙ verdict-back v (s .fits)
 
 pub says-count-back : (v : CountVerdict) (x : ℕ) → SaysCount v x → unpackedCount x ≡ countAnswer v
 says-count-back v x s = ap unpackedCount (s .packed) ∙ count-back v (s .fits)
+
+pub says-date-back : (v : DateVerdict) (x : ℕ) → SaysDate v x → unpackedDate x ≡ dateAnswer v
+says-date-back v x s = ap unpackedDate (s .packed) ∙ date-back v (s .fits)

@@ -2,12 +2,20 @@
 ghost use mathlib.Core.Path.{_≡_};
 ghost use Rattle.model.specs.Calls.{readVerdict, writeVerdict, writeOutput, checkTraceVerdict, checkTreeVerdict, traceToTreeVerdict, traceToTreeOutput, treeToTraceVerdict, treeToTraceOutput, countCall, entryVerdict, entryOutput, SurveyOutcome};
 ghost use Rattle.writer.specs.Writing.{heading};
-ghost use Rattle.downgrater.specs.Packing.{Says, SaysCount};
+ghost use Rattle.calendar.specs.Calendar.{date};
+ghost use Rattle.dates.specs.Dates.{numberVerdict, dateCall, openingVerdict, openVerdict};
+ghost use Rattle.downgrater.specs.Packing.{Says, SaysCount, SaysDate};
 ghost use Rattle.downgrater.specs.Exports.{surveyVerdict, SaysTraceSum, SaysTreeSum};
 use crate::packing::count_bits;
+use crate::packing::date_bits;
 use crate::packing::verdict_bits;
 use analyses::count;
 use analyses::entry;
+use dates::date_from;
+use dates::date_of;
+use dates::day_number;
+use dates::is_open;
+use dates::opening_day;
 use derivation::check_tree;
 use derivation::tree_to_trace;
 use reader::read_grammar;
@@ -129,4 +137,36 @@ pub extern "C" fn dg_weigh_tree(file: &[u8], sentence: &[u16], tree: &[u16]) -> 
     ensures { λ x. ⌜ SaysTreeSum (now (file .entry)) (now (sentence .entry)) (now (tree .entry)) x ⌝ }
 {
     verdict_bits(weigh_tree(file, sentence, tree))
+}
+
+// A date's number.
+#[no_mangle]
+pub extern "C" fn dg_day_number(year: u32, month: u32, day: u32) -> u64
+    ensures { λ x. ⌜ Says (numberVerdict (date year month day)) x ⌝ }
+{
+    verdict_bits(day_number(date_from(year, month, day)))
+}
+
+// A number's one date: year, month and day.
+#[no_mangle]
+pub extern "C" fn dg_date_of(number: u64) -> u64
+    ensures { λ x. ⌜ SaysDate (dateCall number) x ⌝ }
+{
+    date_bits(date_of(number))
+}
+
+// The number of the opening day of a deposit of a date, after a term in months.
+#[no_mangle]
+pub extern "C" fn dg_opening_day(year: u32, month: u32, day: u32, term: u64) -> u64
+    ensures { λ x. ⌜ Says (openingVerdict (date year month day) term) x ⌝ }
+{
+    verdict_bits(opening_day(date_from(year, month, day), term))
+}
+
+// 1 or 0, for open or not on the day asked.
+#[no_mangle]
+pub extern "C" fn dg_is_open(year: u32, month: u32, day: u32, term: u64, asked: u64) -> u64
+    ensures { λ x. ⌜ Says (openVerdict (date year month day) term asked) x ⌝ }
+{
+    verdict_bits(is_open(date_from(year, month, day), term, asked))
 }

@@ -1,6 +1,7 @@
 // A verdict as one 64-bit number.
 ghost use mathlib.Core.Path.{_≡_};
-ghost use Rattle.downgrater.specs.Packing.{packedRefusal, Fits, ValueFits, CountsFit, Says, SaysCount};
+ghost use Rattle.downgrater.specs.Packing.{packedRefusal, Fits, ValueFits, CountsFit, Says, SaysCount, SaysDate};
+use dates::DateVerdict;
 use model::CountVerdict;
 use model::Refusal;
 use model::Verdict;
@@ -39,5 +40,15 @@ pub fn count_bits(v: CountVerdict) -> u64
     match v {
         CountVerdict::Counted(count, effort) => count + 1073741824 * effort,
         CountVerdict::NotCounted(r) => refusal_bits(r),
+    }
+}
+
+// A date's verdict: year, month and day, or its refusal.
+pub fn date_bits(v: DateVerdict) -> u64
+    ensures { λ x. ⌜ SaysDate v x ⌝ }
+{
+    match v {
+        DateVerdict::Dated(d) => { 65536 * (d.year as u64) + 256 * (d.month as u64) + d.day as u64 }
+        DateVerdict::NotDated(r) => refusal_bits(r),
     }
 }

@@ -1,8 +1,9 @@
-// Runs the calls on the grammar files of data/: the worked examples of document 01 (K3 to K10), sums of weights, and a damaged file for each refusal 1 to 10.
-// Each answer is on a line: its numbers, or R with the refusal's number and place.
+// Runs the calls on the grammar files of data/: the worked examples of document 01 (K3 to K10), sums of weights, and a damaged file for each refusal 1 to 10;
+// and those on dates. Each answer is on a line: its numbers, or R with the refusal's number and place.
 mod conversions;
 mod counts;
 mod figures;
+mod opening_days;
 mod reading;
 mod show;
 mod sums;
@@ -37,4 +38,6 @@ fn main() {
     counts::run(copy, &pair_file[0..k]);
     title(b"sums of weights");
     sums::run(copy, weighted);
+    title(b"dates and opening days");
+    opening_days::run();
 }
