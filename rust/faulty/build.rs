@@ -6,8 +6,22 @@ use std::{env, fs};
 include!("faults.rs");
 
 /// The modules that a copy consists of. The calls themselves stay the reference's.
-const MODULES: [&str; 13] =
-    ["derivations", "file", "grammar", "listing", "live", "queue", "record", "reference", "survey", "trace", "tree", "weight", "writer"];
+const MODULES: [&str; 14] = [
+    "dates",
+    "derivations",
+    "file",
+    "grammar",
+    "listing",
+    "live",
+    "queue",
+    "record",
+    "reference",
+    "survey",
+    "trace",
+    "tree",
+    "weight",
+    "writer",
+];
 
 fn main() {
     println!("cargo::rerun-if-changed=faults.rs");

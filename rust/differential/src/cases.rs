@@ -1,4 +1,4 @@
-//! One random case: a grammar with files, writer inputs, analyses and counts made from it.
+//! One random case: a grammar with files, writer inputs, analyses and counts made from it, and some dates.
 
 use reference::file::{heading_of, BLOCK};
 use reference::listing::traces_of_trees;
@@ -7,6 +7,7 @@ use reference::live::live_prefixes;
 use crate::analyses::{self, Analysis};
 use crate::compare::{Difference, Done, Pair};
 use crate::damage;
+use crate::dates;
 use crate::grammars::{self, Made};
 use crate::rng::Rng;
 use crate::show::show_file;
@@ -30,7 +31,8 @@ pub fn case(pair: &mut Pair, rng: &mut Rng) -> Done {
     let nodes = analysis.as_ref().map_or(3, |analysis| analysis.tree.len());
     counts(pair, rng, &made, &sentence, nodes)?;
     mixed(pair, rng, &made, analysis.as_ref())?;
-    other_weights(pair, rng, &made, analysis.as_ref())
+    other_weights(pair, rng, &made, analysis.as_ref())?;
+    dates::random(pair, rng)
 }
 
 /// The length of an output of numbers: mostly enough, often at the border.

@@ -3,7 +3,7 @@
 use std::fmt;
 
 use reference::survey::survey_is_right;
-use reference::{Answer, Calls, Heading, Reference, TreeCalls};
+use reference::{Answer, Calls, Date, DateCalls, Heading, Reference, TreeCalls};
 
 use crate::show::{show_file, show_heading};
 use crate::tally::{Call, Tally};
@@ -170,5 +170,41 @@ impl Pair<'_> {
         }
         let buffer = wrong.or(first_difference(&tested, &expected));
         self.settle(Call::Survey, answers, buffer, || format!("output of {out}\n{}", show_file(file)))
+    }
+
+    /// A date's number. An accepted one leads back to the date.
+    pub fn day_number(&mut self, date: Date) -> Done {
+        let answers = (self.tested.day_number(date), Reference.day_number(date));
+        self.settle(Call::DayNumber, answers, None, || format!("{date:?}"))?;
+        let Answer::Accepted(number) = answers.0 else { return Ok(()) };
+        let back = self.tested.date_of(number as u64);
+        if back != Answer::Dated(date) {
+            return Err(Difference { call: Call::DateOf, text: format!("{date:?} is day {number} and comes back as {back:?}") });
+        }
+        self.tally.date_and_back(number as usize);
+        Ok(())
+    }
+
+    /// A number's date. An accepted one leads back to the number.
+    pub fn date_of(&mut self, number: u64) -> Done {
+        let answers = (self.tested.date_of(number), Reference.date_of(number));
+        self.settle(Call::DateOf, answers, None, || format!("day {number}"))?;
+        let Answer::Dated(date) = answers.0 else { return Ok(()) };
+        let back = self.tested.day_number(date);
+        if back != Answer::Accepted(number as u32) {
+            return Err(Difference { call: Call::DayNumber, text: format!("day {number} is {date:?} and comes back as {back:?}") });
+        }
+        self.tally.number_and_back(number as usize);
+        Ok(())
+    }
+
+    pub fn opening_day(&mut self, date: Date, term: u64) -> Done {
+        let answers = (self.tested.opening_day(date, term), Reference.opening_day(date, term));
+        self.settle(Call::OpeningDay, answers, None, || format!("{date:?}\nterm {term}"))
+    }
+
+    pub fn is_open(&mut self, date: Date, term: u64, asked: u64) -> Done {
+        let answers = (self.tested.is_open(date, term, asked), Reference.is_open(date, term, asked));
+        self.settle(Call::IsOpen, answers, None, || format!("{date:?}\nterm {term}\nday {asked}"))
     }
 }

@@ -6,6 +6,7 @@ use reference::samples::{CHAIN, COPY, PAIR, SHUFFLED, SMALL};
 
 use crate::compare::{Done, Pair};
 use crate::damage::{at, seal};
+use crate::dates;
 use crate::grammars::Made;
 
 pub fn fixed(pair: &mut Pair) -> Done {
@@ -21,7 +22,8 @@ pub fn fixed(pair: &mut Pair) -> Done {
     writer(pair)?;
     checks(pair)?;
     lengths_of_files(pair)?;
-    bytes_of_files(pair)
+    bytes_of_files(pair)?;
+    dates::fixed(pair)
 }
 
 fn copy() -> Made {

@@ -4,6 +4,7 @@ mod analyses;
 mod cases;
 mod compare;
 mod damage;
+mod dates;
 mod fixed;
 mod grammars;
 mod options;
@@ -84,6 +85,7 @@ fn run(tested: &dyn Calls, options: &Options) -> bool {
         "{} sums along a trace and along its tree, the highest {}; {} grammars with other weights",
         tally.sums, tally.highest_sum, tally.reweighed
     );
+    println!("{} days both ways, {} terms beside the next longer one", tally.days_both_ways(), tally.terms);
     if options.program.is_some() {
         println!("{} runs of the program", tally.programs);
     }

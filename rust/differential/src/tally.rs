@@ -17,9 +17,13 @@ pub enum Call {
     Count,
     Entry,
     Survey,
+    DayNumber,
+    DateOf,
+    OpeningDay,
+    IsOpen,
 }
 
-pub const CALLS: [Call; 11] = [
+pub const CALLS: [Call; 15] = [
     Call::ReadGrammar,
     Call::WriteGrammar,
     Call::CheckTrace,
@@ -31,6 +35,10 @@ pub const CALLS: [Call; 11] = [
     Call::Count,
     Call::Entry,
     Call::Survey,
+    Call::DayNumber,
+    Call::DateOf,
+    Call::OpeningDay,
+    Call::IsOpen,
 ];
 
 impl Call {
@@ -49,6 +57,8 @@ impl Call {
             Call::Count => file.chain([11, 24, 25]).collect(),
             Call::Entry => file.chain([11, 23, 24, 25, 26]).collect(),
             Call::Survey => file.chain([23]).collect(),
+            Call::DayNumber | Call::DateOf => vec![27],
+            Call::OpeningDay | Call::IsOpen => vec![27, 28],
         }
     }
 }
@@ -56,9 +66,18 @@ impl Call {
 /// The highest sum of weights: 255 for each of 96 steps or nodes.
 const HIGHEST_SUM: u32 = 96 * 255;
 
+/// The days of the span: 400 years, 97 of them leap years.
+pub const DAYS: usize = 400 * 365 + 97;
+
+/// The refusals, from 1, and 0 for accepted.
+const NUMBERS: usize = 29;
+
+/// How many calls the table has beside each other.
+const BESIDE: usize = 11;
+
 /// For each call how often it was accepted (at 0) and how often each refusal was met.
 pub struct Tally {
-    met: [[u64; 27]; CALLS.len()],
+    met: [[u64; NUMBERS]; CALLS.len()],
     /// Listings where trees and live prefixes were compared.
     pub agreements: u64,
     /// Round trips: a file's fields written again, a trace to its tree and back.
@@ -68,13 +87,27 @@ pub struct Tally {
     pub highest_sum: u32,
     /// Grammars compared with themselves under other weights.
     pub reweighed: u64,
+    /// Of each day whether its number led to its date and back, and whether its date led to its number and back.
+    both_ways: Vec<[bool; 2]>,
+    /// Terms whose opening day was compared with that of the term a month longer.
+    pub terms: u64,
     /// Runs of the program.
     pub programs: u64,
 }
 
 impl Tally {
     pub fn new() -> Tally {
-        Tally { met: [[0; 27]; CALLS.len()], agreements: 0, round_trips: 0, sums: 0, highest_sum: 0, reweighed: 0, programs: 0 }
+        Tally {
+            met: [[0; NUMBERS]; CALLS.len()],
+            agreements: 0,
+            round_trips: 0,
+            sums: 0,
+            highest_sum: 0,
+            reweighed: 0,
+            both_ways: vec![[false; 2]; DAYS],
+            terms: 0,
+            programs: 0,
+        }
     }
 
     pub fn add(&mut self, call: Call, answer: Answer) {
@@ -83,6 +116,20 @@ impl Tally {
             _ => 0,
         };
         self.met[call as usize][number] += 1;
+    }
+
+    /// The day's number led to its date, and that date to the number.
+    pub fn number_and_back(&mut self, number: usize) {
+        self.both_ways[number][0] = true;
+    }
+
+    /// The day's date led to its number, and that number to the date.
+    pub fn date_and_back(&mut self, number: usize) {
+        self.both_ways[number][1] = true;
+    }
+
+    pub fn days_both_ways(&self) -> usize {
+        self.both_ways.iter().filter(|ways| **ways == [true; 2]).count()
     }
 
     /// The number of inputs compared.
@@ -107,7 +154,34 @@ impl Tally {
         if self.highest_sum < HIGHEST_SUM {
             missing.push(format!("no analysis had the sum {HIGHEST_SUM}"));
         }
+        if self.days_both_ways() < DAYS {
+            missing.push(format!("{} of {DAYS} days both ways", self.days_both_ways()));
+        }
         missing
+    }
+
+    /// The table of some calls, with the rows that they can meet.
+    fn table(&self, f: &mut fmt::Formatter, calls: &[Call]) -> fmt::Result {
+        write!(f, "{:>13}{:>9}", "", "all")?;
+        for call in calls {
+            write!(f, "{:>13}", format!("{call:?}"))?;
+        }
+        writeln!(f)?;
+        for number in 0..NUMBERS {
+            let met: Vec<u64> = calls.iter().map(|&call| self.met[call as usize][number]).collect();
+            let can: Vec<bool> = calls.iter().map(|call| number == 0 || call.refusals().contains(&(number as u8))).collect();
+            let all: u64 = met.iter().sum();
+            if all == 0 && !can.contains(&true) {
+                continue;
+            }
+            write!(f, "{:>13}{all:>9}", row(number))?;
+            for (can, met) in can.into_iter().zip(met) {
+                let shown = if can || met > 0 { met.to_string() } else { "-".to_string() };
+                write!(f, "{shown:>13}")?;
+            }
+            writeln!(f)?;
+        }
+        Ok(())
     }
 }
 
@@ -123,22 +197,25 @@ fn row(number: usize) -> String {
 
 impl fmt::Display for Tally {
     fn fmt(&self, f: &mut fmt::Formatter) -> fmt::Result {
-        write!(f, "{:>13}{:>9}", "", "all")?;
-        for call in CALLS {
-            write!(f, "{:>13}", format!("{call:?}"))?;
+        CALLS.chunks(BESIDE).try_for_each(|calls| self.table(f, calls))
+    }
+}
+
+#[cfg(test)]
+mod tests {
+    use super::*;
+
+    /// A day that was gone through one way alone is missing.
+    #[test]
+    fn every_day_both_ways() {
+        let mut tally = Tally::new();
+        let days = |tally: &Tally| tally.missing().into_iter().find(|text| text.ends_with("days both ways"));
+        for number in 0..DAYS {
+            tally.date_and_back(number);
+            tally.number_and_back(number.max(1));
         }
-        writeln!(f)?;
-        for number in 0..27 {
-            let all: u64 = self.met.iter().map(|met| met[number]).sum();
-            write!(f, "{:>13}{all:>9}", row(number))?;
-            for call in CALLS {
-                let can = number == 0 || call.refusals().contains(&(number as u8));
-                let met = self.met[call as usize][number];
-                let shown = if can || met > 0 { met.to_string() } else { "-".to_string() };
-                write!(f, "{shown:>13}")?;
-            }
-            writeln!(f)?;
-        }
-        Ok(())
+        assert_eq!(days(&tally), Some("146096 of 146097 days both ways".to_string()));
+        tally.number_and_back(0);
+        assert_eq!(days(&tally), None);
     }
 }

@@ -33,12 +33,14 @@ impl Refusal {
 #[derive(Clone, Copy, Debug, PartialEq, Eq)]
 pub enum Answer {
     /// A node count; of the reader R, of the survey C, of the writer the file's length, of an entry its number of steps, of a weighing
-    /// the sum of weights.
+    /// the sum of weights, of a date and of the opening day the day's number, of open or not 1 or 0.
     Accepted(u32),
     Counted {
         count: u32,
         effort: u32,
     },
+    /// The date of a day number.
+    Dated(Date),
     Refused(Refusal),
     /// An answer with bits that no answer has. The reference never gives it.
     Malformed(u64),
@@ -54,8 +56,16 @@ pub struct Heading {
     pub dimensions: Vec<u8>,
 }
 
+/// A year, a month and a day of the month, in the order of time. Any three numbers: the calls say whether they are a date.
+#[derive(Clone, Copy, Debug, PartialEq, Eq, PartialOrd, Ord)]
+pub struct Date {
+    pub year: u32,
+    pub month: u32,
+    pub day: u32,
+}
+
 /// The public calls. A refused call changes no buffer, and an accepted one nothing past the last entry that it writes.
-pub trait Calls: TreeCalls {
+pub trait Calls: TreeCalls + DateCalls {
     fn read_grammar(&self, file: &[u8]) -> Answer;
     fn write_grammar(&self, heading: &Heading, records: &[u8], out: &mut [u8]) -> Answer;
     fn check_trace(&self, file: &[u8], sentence: &[u16], trace: &[u16]) -> Answer;
@@ -71,4 +81,14 @@ pub trait TreeCalls {
     fn weigh_tree(&self, file: &[u8], sentence: &[u16], tree: &[u16]) -> Answer;
     fn trace_to_tree(&self, file: &[u8], sentence: &[u16], trace: &[u16], out: &mut [u16]) -> Answer;
     fn tree_to_trace(&self, file: &[u8], sentence: &[u16], tree: &[u16], out: &mut [u16]) -> Answer;
+}
+
+/// The public calls on dates and the days that deposits open (document 02, paper 3). They take no grammar and no buffer.
+pub trait DateCalls {
+    fn day_number(&self, date: Date) -> Answer;
+    fn date_of(&self, number: u64) -> Answer;
+    /// The number of the day a deposit of this date opens, after a term in months.
+    fn opening_day(&self, date: Date, term: u64) -> Answer;
+    /// Whether that deposit is open on the day with the number asked.
+    fn is_open(&self, date: Date, term: u64, asked: u64) -> Answer;
 }

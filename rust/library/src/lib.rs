@@ -4,10 +4,12 @@ mod answer;
 #[cfg(downgrater_library)]
 mod calls;
 #[cfg(downgrater_library)]
+mod dates;
+#[cfg(downgrater_library)]
 mod trees;
 
-pub use answer::{counted, verdict};
-pub use interface::{Answer, Calls, Heading, Refusal, TreeCalls, Whose};
+pub use answer::{counted, dated, verdict};
+pub use interface::{Answer, Calls, Date, DateCalls, Heading, Refusal, TreeCalls, Whose};
 
 /// The proved library, or nothing where it was not there when this crate was built.
 pub fn library() -> Option<Box<dyn Calls>> {

@@ -1,6 +1,8 @@
-//! Document 01 and paper 1 of document 02 a second time, in plain Rust and from the documents alone: literal, simple and not fast. Indices
-//! are lists of digits, the queue is sorted, trees are enumerated one by one. The proved library is compared with it, call by call.
+//! Document 01 and papers 1 and 3 of document 02 a second time, in plain Rust and from the documents alone: literal, simple and not fast;
+//! paper 2 changes no answer. Indices are lists of digits, the queue is sorted, trees are enumerated one by one, and so are the dates of
+//! four hundred years. The proved library is compared with it, call by call.
 
+pub mod dates;
 pub mod derivations;
 pub mod file;
 pub mod grammar;
@@ -19,5 +21,5 @@ pub mod weight;
 pub mod writer;
 
 pub use interface as calls;
-pub use interface::{Answer, Calls, Heading, Refusal, TreeCalls, Whose};
+pub use interface::{Answer, Calls, Date, DateCalls, Heading, Refusal, TreeCalls, Whose};
 pub use reference::Reference;

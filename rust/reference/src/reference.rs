@@ -1,6 +1,7 @@
-//! The public calls: the grammar first, then the desk's tests, then the analysis.
+//! The public calls: the grammar first, then the desk's tests, then the analysis. Those on dates have the desk's tests alone.
 
-use crate::calls::{Answer, Calls, Heading, Refusal, TreeCalls};
+use crate::calls::{Answer, Calls, Date, DateCalls, Heading, Refusal, TreeCalls};
+use crate::dates::{date_of, day_number, is_open, opening_day};
 use crate::file::read;
 use crate::listing::{entry, listing};
 use crate::survey::least_heights;
@@ -118,5 +119,27 @@ impl TreeCalls for Reference {
 
     fn tree_to_trace(&self, file: &[u8], sentence: &[u16], tree: &[u16], out: &mut [u16]) -> Answer {
         answer(self.written_trace(file, sentence, tree, out))
+    }
+}
+
+impl DateCalls for Reference {
+    fn day_number(&self, date: Date) -> Answer {
+        answer(day_number(date))
+    }
+
+    fn date_of(&self, number: u64) -> Answer {
+        match date_of(number) {
+            Ok(date) => Answer::Dated(date),
+            Err(refusal) => Answer::Refused(refusal),
+        }
+    }
+
+    fn opening_day(&self, date: Date, term: u64) -> Answer {
+        answer(opening_day(date, term))
+    }
+
+    /// 1 for open, 0 for not.
+    fn is_open(&self, date: Date, term: u64, asked: u64) -> Answer {
+        answer(is_open(date, term, asked).map(usize::from))
     }
 }
