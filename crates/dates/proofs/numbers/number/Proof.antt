@@ -25,7 +25,7 @@ add-result c =
     record { fits = omega (arith, number-below (s .args .d) (is-date (s .args .d) (s .pre)), c .before .first-day .ensures, c .months-before .ensures) }
 
 sub-result : tie.Need-sub-result
-sub-result c = is-date (c .before .before .args .d) (c .before .before .pre) .day-from
+sub-result c = omega (arith, is-date (c .before .before .args .d) (c .before .before .pre) .day-from)
 
 cast-result : tie.Need-cast-result
 cast-result c = search needs

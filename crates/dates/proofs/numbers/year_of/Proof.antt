@@ -39,7 +39,7 @@ returns : tie.Need-returns Inv-loop μ-loop
 returns c =
     let t = c .before .before .before .loop in
     let n = c .before .before .before .before .args .number in
-    year-found n (t .year) (t .inv .0) (c .before .first-day .result) (c .before .first-day .ensures) (c .if1 .taken) (c .before .before .loop-test .taken) (t .inv .2)
+    year-found n (t .year) (t .inv .0) (c .before .first-day .result) (c .before .first-day .ensures) (omega (arith, c .if1 .taken)) (c .before .before .loop-test .taken) (t .inv .2)
 
 add-year-2 : tie.Need-add-year-2 Inv-loop μ-loop
 add-year-2 c = search needs
@@ -51,7 +51,7 @@ loop-again : tie.Need-loop-again Inv-loop μ-loop
 loop-again c =
     let t = c .before .before .before .loop in
     let n = c .before .before .before .before .args .number in
-    (omega arith, omega arith, year-over n (t .year) (t .inv .0) (c .before .first-day .result) (c .before .first-day .ensures) (c .if1 .left))
+    (omega arith, omega arith, year-over n (t .year) (t .inv .0) (c .before .first-day .result) (c .before .first-day .ensures) (omega (arith, c .if1 .left)))
 
 returns-2 : tie.Need-returns-2 Inv-loop μ-loop
 returns-2 c =

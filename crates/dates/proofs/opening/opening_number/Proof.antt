@@ -2,6 +2,7 @@
 -- Assumes nothing.
 use mathlib.Core.Path.{_≡_, refl, sym, ap, _∙_}
 use Prim.Native.Nat.{_≤_}
+use native.Mathlib.Omega.{arith}
 use lib.Dec.{ltb}
 use borrow.Author.Tests.{lt-ltb, le-ltb}
 use borrow.Author.Needs.{needs}
@@ -9,7 +10,7 @@ use Rattle.model.specs.declared.Verdict.{Verdict}
 use Rattle.calendar.specs.declared.Date.{Date}
 use Rattle.calendar.specs.Calendar.{lastYear, dayNumber}
 use Rattle.calendar.proofs.Calendar.{is-date, date-is}
-use Rattle.dates.specs.Dates.{opening}
+use Rattle.dates.specs.Dates.{opening, longestTerm}
 use Rattle.dates.proofs.OneDate.{opening-is}
 use Rattle.dates.proofs.opening.opening_number.Statement.{statement}
 use Rattle.dates.proofs.opening.opening_number.Tie as tie
@@ -26,14 +27,14 @@ early : {a b : Date} → a ≡ b → a .year ≤ lastYear → b .year ≤ lastYe
 early e l = rw e at l
 
 returns : tie.Need-returns
-returns c = rw (lt-ltb _ _ (c .if1 .taken)) refl
+returns c = rw (lt-ltb longestTerm (c .before .args .term) (omega (arith, c .if1 .taken))) refl
 
 opening-date-requires : tie.Need-opening-date-requires
 opening-date-requires c κs = search needs
 
 returns-2 : tie.Need-returns-2
 returns-2 c =
-    rw (le-ltb _ _ (c .before .before .if1 .left), late (c .before .opening-date .ensures) ∙ lt-ltb _ _ (c .if2 .taken)) refl
+    rw (le-ltb longestTerm (c .before .before .before .args .term) (omega (arith, c .before .before .if1 .left)), late (c .before .opening-date .ensures) ∙ lt-ltb _ _ (c .if2 .taken)) refl
 
 number-requires : tie.Need-number-requires
 number-requires c κs =
@@ -44,7 +45,7 @@ number-requires c κs =
 returns-3 : tie.Need-returns-3
 returns-3 c =
     let s = c .before .before in
-    rw (le-ltb _ _ (s .before .if1 .left), late (s .opening-date .ensures) ∙ le-ltb _ _ (c .before .if2 .left))
+    rw (le-ltb longestTerm (s .before .before .args .term) (omega (arith, s .before .if1 .left)), late (s .opening-date .ensures) ∙ le-ltb _ _ (c .before .if2 .left))
     (ap Verdict.Accepted (c .number .ensures ∙ ap dayNumber (s .opening-date .ensures)))
 
 pub opening-number-spec : {M : Type 1} → statement M
