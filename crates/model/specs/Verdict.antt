@@ -60,8 +60,8 @@ abbrev pub tested : Option Refusal → Tested
 tested none = Passed
 tested (some r) = Met r
 
--- a verdict is a refusal, the first there is, or else a number: a node count, "of the reader R", "of the survey C", "of the writer the file's length", or a sum
--- of weights (document 02, paper 1)
+-- a verdict is a refusal, the first there is, or else a number: a node count, "of the reader R", "of the survey C", "of the writer the file's length", a sum of
+-- weights (document 02, paper 1), or a day's number, or 1 or 0 for open or not (paper 3)
 abbrev pub verdict : Option Refusal → ℕ → Verdict
 verdict none n = Accepted n
 verdict (some r) n = Refused r
