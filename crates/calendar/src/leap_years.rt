@@ -1,6 +1,6 @@
-// Leap years.
+// Leap years, and the lengths of years.
 ghost use mathlib.Core.Path.{_≡_};
-ghost use Rattle.calendar.specs.Calendar.{leap};
+ghost use Rattle.calendar.specs.Calendar.{leap, yearLength};
 
 pub fn is_leap(year: u16) -> bool
     ensures { λ r. ⌜ r ≡ leap year ⌝ }
@@ -12,4 +12,10 @@ pub fn is_leap(year: u16) -> bool
         return true;
     }
     year % 400 == 0
+}
+
+pub fn year_length(year: u16) -> u64
+    ensures { λ r. ⌜ r ≡ yearLength year ⌝ }
+{
+    if is_leap(year) { 366 } else { 365 }
 }

@@ -5,6 +5,7 @@ mod months;
 
 pub use first_days::first_day;
 pub use leap_years::is_leap;
+pub use leap_years::year_length;
 pub use months::month_length;
 
 pub struct Date {

@@ -7,48 +7,34 @@ use Rattle.calendar.specs.declared.Date.{Date}
 use Rattle.calendar.specs.Calendar.{date, firstYear, lastYear, years, days, yearLength, monthLength, yearFrom2000, yearsBefore, monthFrom1, monthsBefore, Passed, yearsPassed, dateIn, dateOf}
 use Rattle.calendar.proofs.Passed.{passed-is}
 use Rattle.calendar.proofs.Calendar.{months-sum, years-sum, years-most, month-more}
-use Rattle.dates.specs.Years.{InYear}
 
--- ---- the year. No year has more than 366 days, so as many years as 366 goes into the number have begun
+-- ---- the year: as many years as 366 goes into the number have begun, since none has more days
 pub years-begun : (number : ℕ) → yearsBefore (firstYear + number / 366 - firstYear) ≤ number
 years-begun number =
     let e : firstYear + number / 366 - firstYear ≡ number / 366 = omega arith in
     omega (arith, ap yearsBefore e, years-most (number / 366))
 
-module _ (number year : ℕ) (from : firstYear ≤ year) where
-  next-is : year + 1 - firstYear ≡ suc (year - firstYear)
-  next-is = omega arith
+-- after the years before it, `left` days of the number are left
+module _ (number year left : ℕ) (from : firstYear ≤ year) (sum : yearsBefore (year - firstYear) + left ≡ number) where
+  year-is : firstYear + (year - firstYear) ≡ year
+  year-is = omega arith
 
-  -- it is over by the first day of the next
-  pub year-over : (first : ℕ) → first ≡ yearsBefore (year + 1 - firstYear) → first ≤ number → yearsBefore (year + 1 - firstYear) ≤ number
-  year-over first e l = omega arith
+  pub year-over : (length : ℕ) → length ≡ yearLength year → length ≤ left → yearsBefore (year + 1 - firstYear) + (left - length) ≡ number
+  year-over length e l =
+      let next : year + 1 - firstYear ≡ suc (year - firstYear) = omega arith in
+      omega (arith, ap yearsBefore next, ap yearLength year-is)
 
-  pub year-found : (first : ℕ) → first ≡ yearsBefore (year + 1 - firstYear) → number < first → year < lastYear → yearsBefore (year - firstYear) ≤ number
-      → InYear number year
-  year-found first e l early begun =
-      record { from-first = from; to-last = omega arith; begun = begun; not-over = omega (arith, ap yearsBefore next-is) }
-
-  pub last-year : number < days → year ≤ lastYear → lastYear ≤ year → yearsBefore (year - firstYear) ≤ number → InYear number year
-  last-year l to late begun =
+  -- in the last year they are days of it
+  pub last-inside : number < days → year ≤ lastYear → lastYear ≤ year → left < yearLength year
+  last-inside l to late =
       let e : suc (year - firstYear) ≡ years = omega arith in
-      record { from-first = from; to-last = to; begun = begun; not-over = omega (arith, ap yearsBefore e, years-sum) }
+      omega (arith, ap yearsBefore e, years-sum, ap yearLength year-is)
 
-module _ (number year : ℕ) (r : InYear number year) where
-  abbrev k : ℕ
-  k = year - firstYear
-
-  year-is : firstYear + k ≡ year
-  year-is = omega (arith, r .from-first)
-
-  pub left-inside : (first : ℕ) → first ≡ yearsBefore k → number - first < yearLength year
-  left-inside first e = omega (arith, r .begun, r .not-over, ap yearLength year-is)
-
-  pub date-of-year : (first : ℕ) → first ≡ yearsBefore k → dateIn year (number - first) ≡ dateOf number
-  date-of-year first e =
-      let y : yearsPassed number ≡ record { whole = k; left = number - first } =
-      passed-is yearFrom2000 years k (number - first) number (omega (arith, r .to-last))
-      (omega (arith, left-inside first e, ap yearLength year-is)) (omega (arith, r .begun)) in
-      sym (ap (λ (p : Passed). dateIn (firstYear + p .whole) (p .left)) y ∙ ap (λ (n : ℕ). dateIn n (number - first)) year-is)
+  pub date-of-year : year ≤ lastYear → left < yearLength year → dateIn year left ≡ dateOf number
+  date-of-year to inside =
+      let y : yearsPassed number ≡ record { whole = year - firstYear; left = left } =
+      passed-is yearFrom2000 years (year - firstYear) left number (omega arith) (omega (arith, ap yearLength year-is)) sum in
+      sym (ap (λ (p : Passed). dateIn (firstYear + p .whole) (p .left)) y ∙ ap (λ (n : ℕ). dateIn n left) year-is)
 
 -- ---- the month: after the months before it, `left` days of the number are left
 module _ (year number month left : ℕ) (from : 1 ≤ month) (sum : monthsBefore year (month - 1) + left ≡ number) where

@@ -1,3 +1,2 @@
 pub mod Dates
-pub mod Years
 pub mod WideDates

@@ -1,10 +1,9 @@
 // A date's number, and a number's date.
 ghost use mathlib.Core.Path.{_≡_};
 ghost use mathlib.Core.Bool.{true};
-ghost use Prim.Native.Nat.{_<_, _≤_, _-_};
-ghost use Rattle.calendar.specs.Calendar.{lengthIn, days, isDate, yearLength, monthsBefore, dayNumber, dateIn};
+ghost use Prim.Native.Nat.{_+_, _-_, _<_, _≤_};
+ghost use Rattle.calendar.specs.Calendar.{firstYear, lastYear, days, yearLength, lengthIn, isDate, yearsBefore, monthsBefore, dayNumber, dateIn, dateOf};
 ghost use Rattle.dates.specs.Dates.{numberVerdict, dateCall};
-ghost use Rattle.dates.specs.Years.{InYear};
 use crate::DateVerdict;
 use calendar::DAYS;
 use calendar::Date;
@@ -13,8 +12,12 @@ use calendar::LAST_YEAR;
 use calendar::first_day;
 use calendar::is_leap;
 use calendar::month_length;
+use calendar::year_length;
 use model::Refusal;
 use model::Verdict;
+
+// The most days that a year has.
+const LONGEST_YEAR: u64 = 366;
 
 // The days of a month.
 fn days_in(leap: bool, month: u8) -> u64
@@ -87,21 +90,6 @@ pub fn day_number(d: Date) -> Verdict
     }
 }
 
-// The year that a day lies in. No year has more than 366 days, so that the search begins at most one year before it.
-fn year_of(number: u64) -> u16
-    requires { ⌜ number < days ⌝ }
-    ensures { λ r. ⌜ InYear number r ⌝ }
-{
-    let mut year = FIRST_YEAR + ((number / 366) as u16);
-    while year < LAST_YEAR {
-        if number < first_day(year + 1) as u64 {
-            return year;
-        }
-        year += 1;
-    }
-    year
-}
-
 // The date of a year by its day, counted from 0.
 fn date_in(year: u16, number: u64) -> Date
     requires { ⌜ number < yearLength year ⌝ }
@@ -111,11 +99,11 @@ fn date_in(year: u16, number: u64) -> Date
     let mut month: u8 = 1;
     let mut left = number;
     while month < 12 {
-        let length = days_in(leap, month);
-        if left < length {
+        let in_month = days_in(leap, month);
+        if left < in_month {
             break;
         }
-        left -= length;
+        left -= in_month;
         month += 1;
     }
     Date {
@@ -125,13 +113,31 @@ fn date_in(year: u16, number: u64) -> Date
     }
 }
 
-// A number's one date.
+// The date that is so many days after 1 January of a year.
+fn date_after(first: u16, number: u64) -> Date
+    requires { ⌜ (firstYear ≤ first) × (first ≤ lastYear) × (yearsBefore (first - firstYear) + number < days) ⌝ }
+    ensures { λ r. ⌜ r ≡ dateOf (yearsBefore (first - firstYear) + number) ⌝ }
+{
+    let mut year = first;
+    let mut left = number;
+    while year < LAST_YEAR {
+        let in_year = year_length(year);
+        if left < in_year {
+            break;
+        }
+        left -= in_year;
+        year += 1;
+    }
+    date_in(year, left)
+}
+
+// A number's one date. No year has more than 366 days, so that the year looked up has begun by that day; it is the day's year or the one before it.
 pub fn date_of(number: u64) -> DateVerdict
     ensures { λ r. ⌜ r ≡ dateCall number ⌝ }
 {
     if DAYS <= number {
         return DateVerdict::NotDated(Refusal::Desk(27, 0));
     }
-    let year = year_of(number);
-    DateVerdict::Dated(date_in(year, number - first_day(year) as u64))
+    let year = FIRST_YEAR + ((number / LONGEST_YEAR) as u16);
+    DateVerdict::Dated(date_after(year, number - first_day(year) as u64))
 }
