@@ -67,19 +67,21 @@ uint64_t dg_entry(const uint8_t *file, size_t file_len, const uint16_t *sentence
 /* The survey; its value is the number of categories, and it asks an output of 96 numbers. */
 uint64_t dg_survey(const uint8_t *file, size_t file_len, uint16_t *out, size_t out_len);
 
-/* Dates, from 1 January 2000, which is day 0, to 31 December 2399, which is day 146,096, in the Gregorian calendar. No grammar is asked for. Years, months and
- * days are counted as people write them, from 1; a number that is too large for a date is no date and is never cut: 27. */
+/* Dates, from 1 January 2000, which is day 0, to 31 December 2399, which is day 146,096, in the Gregorian calendar. No grammar is asked for. A year is written
+ * in full; months and days are counted from 1. What is no date of that span is refused with 27, and so is a number that is too large for a date: none is cut. */
 
 /* A date's number, which is the value. */
 uint64_t dg_day_number(uint32_t year, uint32_t month, uint32_t day);
 
-/* A number's one date; its value is three numbers, bits 16-31 the year, bits 8-15 the month, bits 0-7 the day. */
+/* A number's one date; its value is three numbers, bits 16-31 the year, bits 8-15 the month, bits 0-7 the day. 27 from 146,097 on. */
 uint64_t dg_date_of(uint64_t number);
 
-/* The opening day of a deposit of a date, after a term of 0 to 600 months; its value is the day's number. */
+/* The opening day of a deposit of a date, after a term in months; its value is the day's number. 27 for the date; then 28 for a term over 600 or an opening
+ * day after 31 December 2399. */
 uint64_t dg_opening_day(uint32_t year, uint32_t month, uint32_t day, uint64_t term);
 
-/* Whether that deposit is open on a day; its value is 1 from the opening day on, and 0 before it. */
+/* Whether that deposit is open on the day with the number asked; its value is 1 from the opening day on, and 0 before it, also before the deposit's date. 27 for
+ * the date or for the day asked; then 28, as above. */
 uint64_t dg_is_open(uint32_t year, uint32_t month, uint32_t day, uint64_t term, uint64_t asked);
 
 /* An answer, taken apart. */

@@ -1,14 +1,15 @@
--- The calendar: months make up years and years the span, numbers count the days (`days-counted`), and a number has one date, a date one number (`dated`).
+-- The calendar: months make up years and years the span, and a number has one date, a date one number (`both-ways`).
 -- Assumes nothing.
-use mathlib.Core.Path.{_≡_, refl, sym, ap, ap₂, _∙_, subst}
-use mathlib.Core.Bool.{Bool, true, false, _&&_, _||_}
+use mathlib.Core.Path.{_≡_, refl, sym, ap, ap₂, _∙_}
+use mathlib.Core.Bool.{Bool, true, false, _||_}
 use Prim.Native.Nat.{ℕ, zero, suc, _+_, _*_, _-_, _<_, _≤_}
 use native.Mathlib.Omega.{arith}
-use lib.Dec.{T, eqb, ltb, leb}
-use borrow.Author.Tests.{le-leb, leb-true, ltb-true, ltb-false}
+use lib.Dec.{eqb}
+use borrow.Author.Tests.{le-leb, leb-true}
 use Rattle.model.specs.Base.{if_then_else_, sumBelow}
+use Rattle.model.proofs.Tests.{both-true}
 use Rattle.calendar.specs.declared.Date.{Date}
-use Rattle.calendar.specs.Calendar.{date, leap, lengthIn, yearLength, monthLength, firstYear, lastYear, years, days, isDate, yearFrom2000, yearsBefore, monthFrom1, monthsBefore, dayNumber, Passed, yearsPassed, monthsPassed, dateIn, dateOf, nextDate, DaysCounted, Dated}
+use Rattle.calendar.specs.Calendar.{date, leap, lengthIn, yearLength, monthLength, firstYear, lastYear, years, days, isDate, daysOfYear, daysOfYears, daysOfMonth, daysOfMonths, dayNumber, Passed, yearsPassed, monthsPassed, dateIn, dateOf, BothWays}
 use Rattle.calendar.proofs.Passed.{At, found, sum-up-to, passed-is}
 
 -- ---- the lengths of years and months
@@ -16,10 +17,10 @@ lengths-sum : (b : Bool) → sumBelow (λ k. lengthIn b (suc k)) 12 ≡ (if b th
 lengths-sum true = refl
 lengths-sum false = refl
 
-pub months-sum : (year : ℕ) → monthsBefore year 12 ≡ yearLength year
+pub months-sum : (year : ℕ) → daysOfMonths year 12 ≡ yearLength year
 months-sum year = lengths-sum (leap year)
 
-pub years-sum : yearsBefore years ≡ days
+pub years-sum : daysOfYears years ≡ days
 years-sum = refl
 
 -- a year has 366 days at most
@@ -30,7 +31,7 @@ year-most year = go (leap year)
     go true = omega arith
     go false = omega arith
 
-pub years-most : (n : ℕ) → yearsBefore n ≤ 366 * n
+pub years-most : (n : ℕ) → daysOfYears n ≤ 366 * n
 years-most zero = omega arith
 years-most (suc n) = omega (arith, years-most n, year-most (firstYear + n))
 
@@ -39,29 +40,23 @@ pub length-in : (year month : ℕ) {length : ℕ} {b : Bool} → length ≡ leng
 length-in year month e f = e ∙ ap (λ (x : Bool). lengthIn x month) f
 
 -- a month has 28 to 31 days
-pub length-least : (year month : ℕ) → 28 ≤ monthLength year month
-length-least year month = go (eqb month 2) (leap year) (eqb month 4 || eqb month 6 || eqb month 9 || eqb month 11)
+pub length-within : (b : Bool) (month : ℕ) → (28 ≤ lengthIn b month) × (lengthIn b month ≤ 31)
+length-within b month = go (eqb month 2) b (eqb month 4 || eqb month 6 || eqb month 9 || eqb month 11)
   where
-    go : (a b c : Bool) → 28 ≤ (if a then (if b then 29 else 28) else (if c then 30 else 31))
-    go true true c = omega arith
-    go true false c = omega arith
-    go false b true = omega arith
-    go false b false = omega arith
+    go : (x y z : Bool) → let n : ℕ = if x then (if y then 29 else 28) else (if z then 30 else 31) in (28 ≤ n) × (n ≤ 31)
+    go true true z = (omega arith, omega arith)
+    go true false z = (omega arith, omega arith)
+    go false y true = (omega arith, omega arith)
+    go false y false = (omega arith, omega arith)
 
 pub length-most : (year month : ℕ) → monthLength year month ≤ 31
-length-most year month = go (eqb month 2) (leap year) (eqb month 4 || eqb month 6 || eqb month 9 || eqb month 11)
-  where
-    go : (a b c : Bool) → (if a then (if b then 29 else 28) else (if c then 30 else 31)) ≤ 31
-    go true true c = omega arith
-    go true false c = omega arith
-    go false b true = omega arith
-    go false b false = omega arith
+length-most year month = length-within (leap year) month .1
 
 -- the months before the next one
-pub month-more : (year month : ℕ) → 1 ≤ month → monthsBefore year month ≡ monthsBefore year (month - 1) + monthLength year month
+pub month-more : (year month : ℕ) → 1 ≤ month → daysOfMonths year month ≡ daysOfMonths year (month - 1) + monthLength year month
 month-more year month l =
     let e : suc (month - 1) ≡ month = omega arith in
-    sym (ap (monthsBefore year) e) ∙ ap (λ (n : ℕ). monthsBefore year (month - 1) + n) (ap (monthLength year) e)
+    sym (ap (daysOfMonths year) e) ∙ ap (λ (n : ℕ). daysOfMonths year (month - 1) + n) (ap (monthLength year) e)
 
 -- ---- what a date is, fact by fact
 pub record Is (d : Date) : Type 0 where
@@ -72,18 +67,14 @@ pub record Is (d : Date) : Type 0 where
   pub day-from : 1 ≤ d .day
   pub day-to : d .day ≤ monthLength (d .year) (d .month)
 
-and-true : (a b : Bool) → a && b ≡ true → (a ≡ true) × (b ≡ true)
-and-true true b h = (refl, h)
-and-true false b h = let z : _≡_ {A = ℕ} 0 1 = cc in absurd (omega arith)
-
 module _ (d : Date) where
   pub is-date : isDate d ≡ true → Is d
   is-date h =
-      let h₅ = and-true _ _ h in
-      let h₄ = and-true _ _ (h₅ .0) in
-      let h₃ = and-true _ _ (h₄ .0) in
-      let h₂ = and-true _ _ (h₃ .0) in
-      let h₁ = and-true _ _ (h₂ .0) in
+      let h₅ = both-true _ _ h in
+      let h₄ = both-true _ _ (h₅ .0) in
+      let h₃ = both-true _ _ (h₄ .0) in
+      let h₂ = both-true _ _ (h₃ .0) in
+      let h₁ = both-true _ _ (h₂ .0) in
       record {
         from-first = leb-true _ _ (h₁ .0);
         to-last = leb-true _ _ (h₁ .1);
@@ -108,13 +99,13 @@ module _ (number : ℕ) (l : number < days) where
   abbrev m : Passed
   m = monthsPassed year (y .left)
 
-  in-years : At yearFrom2000 0 years number y
-  in-years = found yearFrom2000 0 years number (omega (arith, years-sum))
+  in-years : At daysOfYear 0 years number y
+  in-years = found daysOfYear 0 years number (omega (arith, years-sum))
 
-  in-months : At (monthFrom1 year) 0 12 (y .left) m
-  in-months = found (monthFrom1 year) 0 12 (y .left) (omega (arith, in-years .inside, months-sum year))
+  in-months : At (daysOfMonth year) 0 12 (y .left) m
+  in-months = found (daysOfMonth year) 0 12 (y .left) (omega (arith, in-years .inside, months-sum year))
 
-  dated-is : Is (dateOf number)
+  pub dated-is : Is (dateOf number)
   dated-is = record {
     from-first = omega arith;
     to-last = omega (arith, in-years .there);
@@ -124,11 +115,11 @@ module _ (number : ℕ) (l : number < days) where
     day-to = omega (arith, in-months .inside);
   }
 
-  dated-number : dayNumber (dateOf number) ≡ number
+  pub dated-number : dayNumber (dateOf number) ≡ number
   dated-number =
       let e : (firstYear + y .whole) - firstYear ≡ y .whole = omega arith in
       let f : suc (m .whole) - 1 ≡ m .whole = omega arith in
-      omega (arith, ap yearsBefore e, ap (monthsBefore year) f, in-years .same, in-months .same)
+      omega (arith, ap daysOfYears e, ap (daysOfMonths year) f, in-years .same, in-months .same)
 
 -- ---- a date's number
 module _ (d : Date) (r : Is d) where
@@ -138,78 +129,37 @@ module _ (d : Date) (r : Is d) where
   abbrev j : ℕ
   j = d .month - 1
 
-  year-is : firstYear + k ≡ d .year
+  pub year-is : firstYear + k ≡ d .year
   year-is = omega (arith, r .from-first)
 
   month-is : suc j ≡ d .month
   month-is = omega (arith, r .month-from)
 
-  pub in-month : d .day - 1 < monthFrom1 (d .year) j
+  pub in-month : d .day - 1 < daysOfMonth (d .year) j
   in-month = omega (arith, r .day-from, r .day-to, ap (monthLength (d .year)) month-is)
 
   abbrev in-its-year : ℕ
-  in-its-year = monthsBefore (d .year) j + (d .day - 1)
+  in-its-year = daysOfMonths (d .year) j + (d .day - 1)
 
-  pub in-year : in-its-year < yearFrom2000 k
+  pub in-year : in-its-year < daysOfYear k
   in-year =
-      omega (arith, in-month, sum-up-to (monthFrom1 (d .year)) j 12 (omega (arith, r .month-to, r .month-from)), months-sum (d .year), ap yearLength year-is)
+      omega (arith, in-month, sum-up-to (daysOfMonth (d .year)) j 12 (omega (arith, r .month-to, r .month-from)), months-sum (d .year), ap yearLength year-is)
 
   pub number-below : dayNumber d < days
-  number-below = omega (arith, in-year, sum-up-to yearFrom2000 k years (omega (arith, r .to-last)), years-sum)
+  number-below = omega (arith, in-year, sum-up-to daysOfYear k years (omega (arith, r .to-last)), years-sum)
 
-  same-date : dateOf (dayNumber d) ≡ d
+  pub same-date : dateOf (dayNumber d) ≡ d
   same-date =
       let y : yearsPassed (dayNumber d) ≡ record { whole = k; left = in-its-year } =
-      passed-is yearFrom2000 years k in-its-year (dayNumber d) (omega (arith, r .to-last)) in-year (omega arith) in
+      passed-is daysOfYear years k in-its-year (dayNumber d) (omega (arith, r .to-last)) in-year (omega arith) in
       let m : monthsPassed (d .year) in-its-year ≡ record { whole = j; left = d .day - 1 } =
-      passed-is (monthFrom1 (d .year)) 12 j (d .day - 1) in-its-year (omega (arith, r .month-to)) in-month (omega arith) in
+      passed-is (daysOfMonth (d .year)) 12 j (d .day - 1) in-its-year (omega (arith, r .month-to)) in-month (omega arith) in
       ap (λ (p : Passed). dateIn (firstYear + p .whole) (p .left)) y ∙ ap (λ (n : ℕ). dateIn n in-its-year) year-is
       ∙ ap (λ (p : Passed). date (d .year) (suc (p .whole)) (suc (p .left))) m
       ∙ ap₂ (date (d .year)) month-is (omega (arith, r .day-from))
 
-pub dated : Dated
-dated = record {
-  of-number = λ number l. (date-is (dateOf number) (dated-is number l), dated-number number l);
-  of-date = λ d h. (number-below d (is-date d h), same-date d (is-date d h));
+pub both-ways : BothWays
+both-ways = record {
+  number-back = λ number l. (date-is (dateOf number) (dated-is number l), dated-number number l);
+  date-back = λ d h. (number-below d (is-date d h), same-date d (is-date d h));
 }
-
--- ---- the date after a date has the next number
-module _ (d : Date) (r : Is d) where
-  next-day : d .day < monthLength (d .year) (d .month) → dayNumber (date (d .year) (d .month) (suc (d .day))) ≡ suc (dayNumber d)
-  next-day l = omega (arith, r .day-from)
-
-  ends-month : monthLength (d .year) (d .month) ≤ d .day → monthsBefore (d .year) (d .month - 1) + d .day ≡ monthsBefore (d .year) (d .month)
-  ends-month l = omega (arith, month-more (d .year) (d .month) (r .month-from), r .day-to)
-
-  next-month : monthLength (d .year) (d .month) ≤ d .day → dayNumber (date (d .year) (suc (d .month)) 1) ≡ suc (dayNumber d)
-  next-month l =
-      let e : suc (d .month) - 1 ≡ d .month = omega arith in
-      omega (arith, ap (monthsBefore (d .year)) e, ends-month l, r .day-from)
-
-  next-year : monthLength (d .year) (d .month) ≤ d .day → 12 ≤ d .month → dayNumber (date (suc (d .year)) 1 1) ≡ suc (dayNumber d)
-  next-year l late =
-      let e : suc (d .year) - firstYear ≡ suc (d .year - firstYear) = omega (arith, r .from-first) in
-      let december : d .month ≡ 12 = omega (arith, r .month-to) in
-      omega (
-        arith,
-        ap yearsBefore e,
-        ends-month l,
-        ap (monthsBefore (d .year)) december,
-        months-sum (d .year),
-        ap yearLength (year-is d r),
-        r .day-from,
-      )
-
-  next-counts : dayNumber (nextDate d) ≡ suc (dayNumber d)
-  next-counts = go (ltb (d .day) (monthLength (d .year) (d .month))) refl (ltb (d .month) 12) refl
-    where
-      go : (a : Bool) → ltb (d .day) (monthLength (d .year) (d .month)) ≡ a → (b : Bool) → ltb (d .month) 12 ≡ b
-          → dayNumber
-          (if a then date (d .year) (d .month) (suc (d .day)) else (if b then date (d .year) (suc (d .month)) 1 else date (suc (d .year)) 1 1))
-          ≡ suc (dayNumber d)
-      go true x b y = next-day (ltb-true _ _ x)
-      go false x true y = next-month (ltb-false _ _ x)
-      go false x false y = next-year (ltb-false _ _ x) (ltb-false _ _ y)
-
-pub days-counted : DaysCounted
-days-counted = record { first = refl; next = λ d h. next-counts d (is-date d h); last = refl }

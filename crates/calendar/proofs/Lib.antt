@@ -1,3 +1,4 @@
 pub mod Table
 pub mod Passed
 pub mod Calendar
+pub mod NextDate

@@ -8,6 +8,7 @@ use native.Mathlib.Nat.{add-suc, suc-add, add-zero, zero-add}
 use lib.Dec.{ltb}
 use borrow.Author.Tests.{ltb-true, ltb-false}
 use Rattle.model.specs.Base.{if_then_else_, sumBelow}
+use Rattle.model.proofs.Sums.{sum-rises}
 use Rattle.calendar.specs.Calendar.{Passed, passedFrom}
 
 module _ (f : ℕ → ℕ) where
@@ -31,14 +32,10 @@ module _ (f : ℕ → ℕ) where
           let r : At (suc k) n (p - f k) (passedFrom f (suc k) n (p - f k)) = later l in
           record { there = omega (arith, r .there); inside = r .inside; same = omega (arith, r .same) }
 
-  sum-grows : (s d : ℕ) → sumBelow f s ≤ sumBelow f (s + d)
-  sum-grows s zero = omega (arith, ap (sumBelow f) (add-zero s))
-  sum-grows s (suc d) = omega (arith, sum-grows s d, ap (sumBelow f) (add-suc s d))
-
   pub sum-up-to : (s t : ℕ) → s < t → sumBelow f s + f s ≤ sumBelow f t
   sum-up-to s t l =
       let e : suc s + (t - suc s) ≡ t = omega arith in
-      omega (arith, sum-grows (suc s) (t - suc s), ap (sumBelow f) e)
+      omega (arith, sum-rises f (suc s) (t - suc s), ap (sumBelow f) e)
 
   -- there is no other such place
   one-place : (s t p q : ℕ) → p < f s → q < f t → sumBelow f s + p ≡ sumBelow f t + q → (s ≡ t) × (p ≡ q)

@@ -3,7 +3,7 @@
 -- Assumes nothing.
 use mathlib.Core.Path.{_≡_}
 use Prim.Native.Nat.{ℕ, zero, suc, _+_, _-_, _%_, _<_}
-use mathlib.Core.Bool.{Bool, true, false, _&&_, _||_, not}
+use mathlib.Core.Bool.{Bool, true, _&&_, _||_, not}
 use lib.Dec.{eqb, ltb, leb}
 use Rattle.model.specs.Base.{if_then_else_, sumBelow}
 use Rattle.calendar.specs.declared.Date.{Date}
@@ -48,24 +48,25 @@ isDate d =
     leb firstYear (d .year) && leb (d .year) lastYear && leb 1 (d .month) && leb (d .month) 12
     && leb 1 (d .day) && leb (d .day) (monthLength (d .year) (d .month))
 
--- the days of the first n years, from 2000 on, and of the first n months of a year
-abbrev pub yearFrom2000 : ℕ → ℕ
-yearFrom2000 k = yearLength (firstYear + k)
+-- the days of year number k, counted from 0 for 2000, and of the first n years
+abbrev pub daysOfYear : ℕ → ℕ
+daysOfYear k = yearLength (firstYear + k)
 
-abbrev pub yearsBefore : ℕ → ℕ
-yearsBefore n = sumBelow yearFrom2000 n
+abbrev pub daysOfYears : ℕ → ℕ
+daysOfYears n = sumBelow daysOfYear n
 
-abbrev pub monthFrom1 : ℕ → ℕ → ℕ
-monthFrom1 year k = monthLength year (suc k)
+-- the days of month number k of a year, counted from 0 for January, and of the first n months
+abbrev pub daysOfMonth : ℕ → ℕ → ℕ
+daysOfMonth year k = monthLength year (suc k)
 
-abbrev pub monthsBefore : ℕ → ℕ → ℕ
-monthsBefore year n = sumBelow (monthFrom1 year) n
+abbrev pub daysOfMonths : ℕ → ℕ → ℕ
+daysOfMonths year n = sumBelow (daysOfMonth year) n
 
 -- "a date's number": the days of the years before its year, of the months before its month, and of its month before it
 abbrev pub dayNumber : Date → ℕ
-dayNumber d = yearsBefore (d .year - firstYear) + monthsBefore (d .year) (d .month - 1) + (d .day - 1)
+dayNumber d = daysOfYears (d .year - firstYear) + daysOfMonths (d .year) (d .month - 1) + (d .day - 1)
 
--- Years or months of f 0, f 1, .. days: how many of them are over, and how many days are left of what they were taken from
+-- How many whole years (or months) of f 0, f 1, .. days go into a number of days, and how many days are left
 pub record Passed : Type 0 where
   pub whole : ℕ
   pub left : ℕ
@@ -76,10 +77,10 @@ passedFrom f k zero number = record { whole = k; left = number }
 passedFrom f k (suc n) number = if ltb number (f k) then record { whole = k; left = number } else passedFrom f (suc k) n (number - f k)
 
 abbrev pub yearsPassed : ℕ → Passed
-yearsPassed number = passedFrom yearFrom2000 0 years number
+yearsPassed number = passedFrom daysOfYear 0 years number
 
 abbrev pub monthsPassed : ℕ → ℕ → Passed
-monthsPassed year number = passedFrom (monthFrom1 year) 0 12 number
+monthsPassed year number = passedFrom (daysOfMonth year) 0 12 number
 
 -- the date of a year by its day, counted from 0
 abbrev pub dateIn : ℕ → ℕ → Date
@@ -89,19 +90,31 @@ dateIn year number = date year (suc (monthsPassed year number .whole)) (suc (mon
 abbrev pub dateOf : ℕ → Date
 dateOf number = dateIn (firstYear + yearsPassed number .whole) (yearsPassed number .left)
 
--- The date after a date: the next of its month, or the first of the next month, or 1 January of the next year
+-- a month of a year, and the month after it
+pub record Month : Type 0 where
+  pub year : ℕ
+  pub month : ℕ
+
+abbrev pub monthOf : Date → Month
+monthOf d = record { year = d .year; month = d .month }
+
+abbrev pub nextMonth : Month → Month
+nextMonth m = if ltb (m .month) 12 then record { year = m .year; month = suc (m .month) } else record { year = suc (m .year); month = 1 }
+
+-- the date after a date: the next day of its month, or the first of the next month
+abbrev pub firstOf : Month → Date
+firstOf m = date (m .year) (m .month) 1
+
 abbrev pub nextDate : Date → Date
-nextDate d =
-    if ltb (d .day) (monthLength (d .year) (d .month)) then date (d .year) (d .month) (suc (d .day))
-    else (if ltb (d .month) 12 then date (d .year) (suc (d .month)) 1 else date (suc (d .year)) 1 1)
+nextDate d = if ltb (d .day) (monthLength (d .year) (d .month)) then date (d .year) (d .month) (suc (d .day)) else firstOf (nextMonth (monthOf d))
 
--- `dayNumber` counts days: "1 January 2000, which is day 0", a date's number is one more than that of the date before it, and 31 December 2399 has the last
+-- The numbers count the days: 0 is 1 January 2000, the date of the next number is the next date, and the last is 31 December 2399
 pub record DaysCounted : Type 0 where
-  pub first : dayNumber (date 2000 1 1) ≡ 0
-  pub next : (d : Date) → isDate d ≡ true → dayNumber (nextDate d) ≡ suc (dayNumber d)
-  pub last : suc (dayNumber (date 2399 12 31)) ≡ days
+  pub first : dateOf 0 ≡ date 2000 1 1
+  pub next : (number : ℕ) → suc number < days → dateOf (suc number) ≡ nextDate (dateOf number)
+  pub last : dateOf (days - 1) ≡ date 2399 12 31
 
--- Every day of the span has one date, and every date one day
-pub record Dated : Type 0 where
-  pub of-number : (number : ℕ) → number < days → (isDate (dateOf number) ≡ true) × (dayNumber (dateOf number) ≡ number)
-  pub of-date : (d : Date) → isDate d ≡ true → (dayNumber d < days) × (dateOf (dayNumber d) ≡ d)
+-- Number to date to number, and date to number to date, are the identity on the whole span
+pub record BothWays : Type 0 where
+  pub number-back : (number : ℕ) → number < days → (isDate (dateOf number) ≡ true) × (dayNumber (dateOf number) ≡ number)
+  pub date-back : (d : Date) → isDate d ≡ true → (dayNumber d < days) × (dateOf (dayNumber d) ≡ d)

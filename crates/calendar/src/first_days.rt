@@ -1,10 +1,10 @@
 // The day number of 1 January, looked up for each of the 400 years.
 ghost use mathlib.Core.Path.{_≡_};
 ghost use Prim.Native.Nat.{_≤_, _-_};
-ghost use Rattle.calendar.specs.Calendar.{firstYear, lastYear, yearsBefore};
+ghost use Rattle.calendar.specs.Calendar.{firstYear, lastYear, daysOfYears};
 use crate::FIRST_YEAR;
 
-// Of the years from 2000 on.
+// "The day number of 1 January is looked up for each of the 400 years": of the years from 2000 on.
 const FIRST_DAYS: [u32; 400] = [
     0,
     366,
@@ -411,7 +411,7 @@ const FIRST_DAYS: [u32; 400] = [
 // The day number of 1 January of a year.
 pub fn first_day(year: u16) -> u32
     requires { ⌜ (firstYear ≤ year) × (year ≤ lastYear) ⌝ }
-    ensures { λ r. ⌜ r ≡ yearsBefore (year - firstYear) ⌝ }
+    ensures { λ r. ⌜ r ≡ daysOfYears (year - firstYear) ⌝ }
 {
     FIRST_DAYS[(year - FIRST_YEAR) as usize]
 }

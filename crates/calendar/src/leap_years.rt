@@ -2,6 +2,7 @@
 ghost use mathlib.Core.Path.{_≡_};
 ghost use Rattle.calendar.specs.Calendar.{leap, yearLength};
 
+// The year is a leap year.
 pub fn is_leap(year: u16) -> bool
     ensures { λ r. ⌜ r ≡ leap year ⌝ }
 {
@@ -14,6 +15,7 @@ pub fn is_leap(year: u16) -> bool
     year % 400 == 0
 }
 
+// The days of a year.
 pub fn year_length(year: u16) -> u64
     ensures { λ r. ⌜ r ≡ yearLength year ⌝ }
 {

@@ -8,6 +8,7 @@ pub use leap_years::is_leap;
 pub use leap_years::year_length;
 pub use months::month_length;
 
+// A date: the year as it is written, month and day counted from 1.
 pub struct Date {
     pub year: u16,
     pub month: u8,
@@ -18,5 +19,5 @@ pub const FIRST_YEAR: u16 = 2000;
 
 pub const LAST_YEAR: u16 = 2399;
 
-// How many days there are.
+// How many days the span has.
 pub const DAYS: u64 = 146097;

@@ -1,7 +1,7 @@
 -- Demand 1 for the calls on dates: each answers by the first of its tests that meets it.
 -- Assumes nothing.
 use mathlib.Core.Path.{_≡_, refl, ap, subst}
-use mathlib.Core.List.{List, [], _∷_}
+use mathlib.Core.List.{[], _∷_}
 use mathlib.Core.Option.{Option, none, some}
 use Prim.Native.Nat.{ℕ}
 use native.Mathlib.Omega.{arith}
@@ -30,13 +30,13 @@ date-by (some r) d = refl
 pub demand-1-dated : Demand1Dated
 demand-1-dated =
     record {
-      numbered = λ d. by-tests (dateTests d) (dateRefusal d) (dayNumber d) (date-gives d .first);
-      dated = λ number.
+      day-number = λ d. by-tests (dateTests d) (dateRefusal d) (dayNumber d) (date-gives d .first);
+      date-of = λ number.
           let d = dateOf number in
           subst (Decided (dayTests number) (d .year ∷ d .month ∷ d .day ∷ [])) (date-by (dayRefusal number) d)
           (decided (dayTests number) (d .year ∷ d .month ∷ d .day ∷ []) (dayRefusal number) (day-gives number .first));
-      opens = λ d term. by-tests _ (openingRefusal d term) (dayNumber (opening d term)) ((date-gives d then term-gives d term) .first);
-      opened = λ d term asked.
+      opening-day = λ d term. by-tests _ (openingRefusal d term) (dayNumber (opening d term)) ((date-gives d then term-gives d term) .first);
+      is-open = λ d term asked.
           by-tests _ (openRefusal d term asked) (openOn d term asked) ((date-gives d then day-gives asked then term-gives d term) .first);
     }
 

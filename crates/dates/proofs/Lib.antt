@@ -1,7 +1,7 @@
 pub mod Months
 pub mod OneDate
 pub mod OpeningMonth
-pub mod InYear
+pub mod YearsAndMonths
 pub mod OpenOrNot
 pub mod WideDates
 pub mod Demand1

@@ -1,17 +1,14 @@
--- Months after months: twelve make a year, and a month that is later has a later date.
+-- Months after months: twelve make a year.
 -- Assumes nothing.
 use mathlib.Core.Path.{_≡_, refl}
 use mathlib.Core.Bool.{Bool, true, false}
-use Prim.Native.Nat.{ℕ, zero, suc, _+_, _*_, _-_, _<_, _≤_}
+use Prim.Native.Nat.{ℕ, zero, suc, _+_, _*_, _≤_}
 use native.Mathlib.Omega.{arith}
-use lib.Dec.{eqb, leb}
-use borrow.Author.Tests.{leb-true, leb-false, eqb-true, eqb-false}
+use lib.Dec.{ltb}
+use borrow.Author.Tests.{ltb-true, ltb-false}
 use Rattle.model.specs.Base.{if_then_else_}
-use Rattle.calendar.specs.declared.Date.{Date}
-use Rattle.dates.specs.Dates.{Month, nextMonth, monthAfter, openingMonth}
-
-abbrev pub monthOf : Date → Month
-monthOf d = record { year = d .year; month = d .month }
+use Rattle.calendar.specs.Calendar.{Month, nextMonth}
+use Rattle.dates.specs.Dates.{monthAfter}
 
 -- a is the month that is `term` months after m
 pub record After (m : Month) (term : ℕ) (a : Month) : Type 0 where
@@ -20,18 +17,11 @@ pub record After (m : Month) (term : ℕ) (a : Month) : Type 0 where
   pub months : (a .year) * 12 + a .month ≡ (m .year) * 12 + m .month + term
 
 next-is : (m a : Month) (term : ℕ) → After m term a → After m (suc term) (nextMonth a)
-next-is m a term r = go (eqb (a .month) 12) refl
+next-is m a term r = go (ltb (a .month) 12) refl
   where
-    go : (b : Bool) → eqb (a .month) 12 ≡ b → After m (suc term) (if b then record { year = suc (a .year); month = 1 } else record { year = a .year; month = suc (a .month) })
-    go true e = record { first = omega arith; last = omega arith; months = omega (arith, r .months, eqb-true (a .month) 12 e) }
-    go false e = record { first = omega arith; last = under (a .month) (r .last) (eqb-false (a .month) 12 e); months = omega (arith, r .months) }
-      where
-        under : (n : ℕ) → n ≤ 12 → (n ≡ 12 → ⊥) → suc n ≤ 12
-        under n l ne = at (leb (suc n) 12) refl
-          where
-            at : (b : Bool) → leb (suc n) 12 ≡ b → suc n ≤ 12
-            at true q = leb-true (suc n) 12 q
-            at false q = absurd (ne (omega (arith, leb-false (suc n) 12 q)))
+    go : (b : Bool) → ltb (a .month) 12 ≡ b → After m (suc term) (if b then record { year = a .year; month = suc (a .month) } else record { year = suc (a .year); month = 1 })
+    go true e = record { first = omega arith; last = ltb-true (a .month) 12 e; months = omega (arith, r .months) }
+    go false e = record { first = omega arith; last = omega arith; months = omega (arith, r .months, r .last, ltb-false (a .month) 12 e) }
 
 pub month-after : (m : Month) (term : ℕ) → 1 ≤ m .month → m .month ≤ 12 → After m term (monthAfter term m)
 month-after m zero a b = record { first = a; last = b; months = omega arith }

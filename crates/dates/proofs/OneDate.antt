@@ -1,22 +1,21 @@
--- The opening day is a date, and a longer term opens later (`one-date`).
+-- Numbers and dates go both ways, the opening day is a date, and a longer term opens later (`one-date`).
 -- Assumes nothing.
-use mathlib.Core.Path.{_≡_, refl, sym, ap, _∙_}
+use mathlib.Core.Path.{_≡_, refl, sym, ap}
 use mathlib.Core.Bool.{Bool, true, false, not}
-use mathlib.Core.Option.{Option, none}
-use Prim.Native.Nat.{ℕ, zero, suc, _+_, _*_, _-_, _<_, _≤_}
+use mathlib.Core.Option.{none}
+use Prim.Native.Nat.{ℕ, _-_, _<_, _≤_}
 use native.Mathlib.Omega.{arith}
-use lib.Dec.{ltb, leb}
-use borrow.Author.Tests.{le-leb, leb-true, leb-false, le-ltb, ltb-true, ltb-false, not-false}
+use lib.Dec.{ltb}
+use borrow.Author.Tests.{le-leb, lt-leb, le-ltb, ltb-true, ltb-false, not-false}
 use Rattle.model.specs.declared.Refusal.{Refusal}
-use Rattle.model.specs.Base.{if_then_else_, sumBelow}
 use Rattle.model.specs.Verdict.{refuseIf}
 use Rattle.model.proofs.Tests.{no-refusal, three-none}
 use Rattle.calendar.specs.declared.Date.{Date}
-use Rattle.calendar.specs.Calendar.{date, firstYear, lastYear, years, days, monthLength, monthFrom1, monthsBefore, yearFrom2000, yearsBefore, isDate, dayNumber}
+use Rattle.calendar.specs.Calendar.{date, leap, firstYear, lastYear, days, isDate, daysOfYear, daysOfYears, daysOfMonth, daysOfMonths, dayNumber, Month, monthOf}
 use Rattle.calendar.proofs.Passed.{sum-up-to}
-use Rattle.calendar.proofs.Calendar.{Is, is-date, date-is, dated, in-month, in-year, years-sum, length-least}
-use Rattle.dates.specs.Dates.{Month, openingMonth, least, dateInMonth, opening, longestTerm, tooLong, tooLate, dateRefusal, termRefusal, openingRefusal, OneDate}
-use Rattle.dates.proofs.Months.{monthOf, After, month-after, one-month}
+use Rattle.calendar.proofs.Calendar.{Is, is-date, date-is, both-ways, in-month, in-year, number-below, years-sum, length-within}
+use Rattle.dates.specs.Dates.{openingMonth, opening, noDay, longestTerm, tooLong, tooLate, dateRefusal, openingRefusal, OneDate}
+use Rattle.dates.proofs.Months.{After, month-after}
 
 -- ---- what is not refused
 pub record Passes (d : Date) (term : ℕ) : Type 0 where
@@ -48,43 +47,42 @@ module _ (d : Date) (term : ℕ) (r : Is d) where
   pub after : After (monthOf d) term m
   after = month-after (monthOf d) term (r .month-from) (r .month-to)
 
-  -- a day of a month, from the first to its last
-  least-within : (n : ℕ) → 28 ≤ n → (1 ≤ least (d .day) n) × (least (d .day) n ≤ n)
-  least-within n few = go (leb (d .day) n) refl
-    where
-      go : (b : Bool) → leb (d .day) n ≡ b → (1 ≤ (if b then d .day else n)) × ((if b then d .day else n) ≤ n)
-      go true e = (r .day-from, leb-true (d .day) n e)
-      go false e = (omega arith, omega arith)
-
   pub opening-is : opening d term .year ≤ lastYear → Is (opening d term)
   opening-is l =
-      let w = least-within (monthLength (m .year) (m .month)) (length-least (m .year) (m .month)) in
       record {
         from-first = omega (arith, after .first, after .last, after .months, r .from-first, r .month-from);
         to-last = l;
         month-from = after .first;
         month-to = after .last;
-        day-from = w .0;
-        day-to = w .1;
+        day-from = omega (arith, r .day-from, length-within (leap (m .year)) (m .month) .0);
+        day-to = omega arith;
       }
 
-  year-later : lastYear < opening d term .year → days ≤ dayNumber (opening d term)
-  year-later l = omega (arith, sum-up-to yearFrom2000 399 (m .year - firstYear) (omega arith), years-sum)
+  -- an opening day after the last year has a number past the last
+  number-late : lastYear < opening d term .year → days ≤ dayNumber (opening d term)
+  number-late l = omega (arith, sum-up-to daysOfYear 399 (m .year - firstYear) (omega arith), years-sum)
+
+  late-alike : tooLate d term ≡ noDay (dayNumber (opening d term))
+  late-alike = go (ltb lastYear (opening d term .year)) refl
+    where
+      go : (b : Bool) → ltb lastYear (opening d term .year) ≡ b → b ≡ noDay (dayNumber (opening d term))
+      go true e = sym (le-leb _ _ (number-late (ltb-true _ _ e)))
+      go false e = sym (lt-leb _ _ (number-below (opening d term) (opening-is (ltb-false _ _ e))))
 
 -- ---- dates in order
 module _ (a b : Date) (r : Is a) where
   -- of a later year
   by-year : a .year < b .year → dayNumber a < dayNumber b
-  by-year l = omega (arith, in-year a r, sum-up-to yearFrom2000 (a .year - firstYear) (b .year - firstYear) (omega (arith, r .from-first)))
+  by-year l = omega (arith, in-year a r, sum-up-to daysOfYear (a .year - firstYear) (b .year - firstYear) (omega (arith, r .from-first)))
 
   -- of a later month of the year
   by-month : a .year ≡ b .year → a .month < b .month → dayNumber a < dayNumber b
   by-month e l =
       omega (
         arith,
-        ap (λ (y : ℕ). yearsBefore (y - firstYear)) e,
-        ap (λ (y : ℕ). monthsBefore y (b .month - 1)) e,
-        sum-up-to (monthFrom1 (a .year)) (a .month - 1) (b .month - 1) (omega (arith, r .month-from)),
+        ap (λ (y : ℕ). daysOfYears (y - firstYear)) e,
+        ap (λ (y : ℕ). daysOfMonths y (b .month - 1)) e,
+        sum-up-to (daysOfMonth (a .year)) (a .month - 1) (b .month - 1) (omega (arith, r .month-from)),
         in-month a r,
       )
 
@@ -123,15 +121,11 @@ module _ (d : Date) (shorter longer : ℕ) (l : shorter < longer) (p : Passes d 
 
 pub one-date : OneDate
 one-date = record {
-  number-back = dated .of-number;
-  date-back = dated .of-date;
+  both-ways = both-ways;
   opens = λ d term h. let p = passes d term h in date-is (opening d term) (opening-is d term (p .right) (p .early));
-  at-once = λ d h. ap (date (d .year) (d .month)) (shortened (d .day) (monthLength (d .year) (d .month)) (is-date d h .day-to));
+  at-once = λ d h. ap (date (d .year) (d .month)) (omega (arith, is-date d h .day-to));
   later = λ d shorter longer l h.
       let p = passes d longer h in
       (passing d shorter (earlier d shorter longer l p), in-order d shorter longer l p);
-  after-last = λ d term h l. year-later d term (is-date d h) (ltb-true lastYear (opening d term .year) l);
+  after-last = λ d term h. late-alike d term (is-date d h);
 }
-  where
-    shortened : (a b : ℕ) → a ≤ b → least a b ≡ a
-    shortened a b l = rw (le-leb a b l) refl

@@ -1,6 +1,6 @@
 -- Open or not, from the verdict on the opening day.
 -- Assumes nothing.
-use mathlib.Core.Path.{_≡_, refl, sym, ap, _∙_}
+use mathlib.Core.Path.{_≡_, sym, ap, _∙_}
 use mathlib.Core.Bool.{true, false}
 use mathlib.Core.Option.{Option}
 use Prim.Native.Nat.{ℕ}

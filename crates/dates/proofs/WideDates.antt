@@ -1,19 +1,17 @@
 -- A date that stands for the one given has its answers; numbers cut to the largest of a field stand for those given.
 -- Assumes nothing.
-use mathlib.Core.Path.{_≡_, refl, sym, ap, _∙_}
-use mathlib.Core.Bool.{Bool, true, false, _&&_}
-use Prim.Native.Nat.{ℕ, _<_, _≤_}
+use mathlib.Core.Path.{_≡_, refl, sym, ap, _∙_, subst}
+use mathlib.Core.Bool.{Bool, true, false}
+use Prim.Native.Nat.{ℕ, min, _≤_}
 use native.Mathlib.Omega.{arith}
-use lib.Dec.{leb}
-use borrow.Author.Tests.{le-leb, lt-leb, leb-true, leb-false}
+use lib.Dec.{T}
 use Rattle.model.specs.declared.Refusal.{Refusal}
 use Rattle.model.specs.declared.Verdict.{Verdict}
-use Rattle.model.specs.Base.{if_then_else_}
-use Rattle.model.proofs.Tests.{not-both}
+use Rattle.model.proofs.Tests.{passes, same-test}
 use Rattle.calendar.specs.declared.Date.{Date}
-use Rattle.calendar.specs.Calendar.{date, isDate, monthLength}
-use Rattle.calendar.proofs.Calendar.{Is, is-date, date-is, length-most}
-use Rattle.dates.specs.Dates.{least, numberVerdict, openingVerdict, openVerdict}
+use Rattle.calendar.specs.Calendar.{date, isDate}
+use Rattle.calendar.proofs.Calendar.{is-date, length-most}
+use Rattle.dates.specs.Dates.{numberVerdict, openingVerdict, openVerdict}
 use Rattle.dates.specs.WideDates.{StandsFor}
 
 module _ {given kept : Date} (s : StandsFor given kept) where
@@ -35,32 +33,19 @@ module _ {given kept : Date} (s : StandsFor given kept) where
   open-alike term asked = alike (λ d. openVerdict d term asked) (λ d e. rw e refl)
 
 -- ---- numbers cut to the largest of their field
-same-bool : (a b : Bool) → (a ≡ true → b ≡ true) → (b ≡ true → a ≡ true) → a ≡ b
-same-bool true b there back = sym (there refl)
-same-bool false true there back = back refl
-same-bool false false there back = refl
-
--- a number that is below the largest is itself
-small : (x n : ℕ) → x ≤ n → least x n ≡ x
-small x n l = rw (le-leb x n l) refl
-
--- what is cut to below the largest was so before
-uncut : (x n : ℕ) → least x n < n → x ≤ n
-uncut x n l = go (leb x n) refl l
-  where
-    go : (b : Bool) → leb x n ≡ b → (if b then x else n) < n → x ≤ n
-    go true e l = leb-true x n e
-    go false e l = absurd (omega arith)
-
 module _ (year month day : ℕ) where
   abbrev whole : Date
   whole = date year month day
 
   abbrev cut : Date
-  cut = date (least year 65535) (least month 255) (least day 255)
+  cut = date (min year 65535) (min month 255) (min day 255)
 
   same : year ≤ 65535 → month ≤ 255 → day ≤ 255 → cut ≡ whole
-  same y m d = λ i. date (small year 65535 y i) (small month 255 m i) (small day 255 d i)
+  same y m d =
+      let e₁ : min year 65535 ≡ year = omega arith in
+      let e₂ : min month 255 ≡ month = omega arith in
+      let e₃ : min day 255 ≡ day = omega arith in
+      λ i. date (e₁ i) (e₂ i) (e₃ i)
 
   whole-is : isDate whole ≡ true → cut ≡ whole
   whole-is h = let r = is-date whole h in same (omega (arith, r .to-last)) (omega (arith, r .month-to)) (omega (arith, r .day-to, length-most year month))
@@ -68,12 +53,11 @@ module _ (year month day : ℕ) where
   cut-is : isDate cut ≡ true → cut ≡ whole
   cut-is h =
       let r = is-date cut h in
-      same (uncut year 65535 (omega (arith, r .to-last))) (uncut month 255 (omega (arith, r .month-to)))
-      (uncut day 255 (omega (arith, r .day-to, length-most (cut .year) (cut .month))))
+      same (omega (arith, r .to-last)) (omega (arith, r .month-to)) (omega (arith, r .day-to, length-most (cut .year) (cut .month)))
 
   pub cut-stands : StandsFor whole cut
   cut-stands =
       record {
-        same-test = same-bool (isDate cut) (isDate whole) (λ h. sym (ap isDate (cut-is h)) ∙ h) (λ h. ap isDate (whole-is h) ∙ h);
+        same-test = same-test (isDate cut) (isDate whole) (λ t. subst T (ap isDate (cut-is (passes _ t))) t) (λ t. subst T (sym (ap isDate (whole-is (passes _ t)))) t);
         same-date = whole-is;
       }

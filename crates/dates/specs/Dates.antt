@@ -1,11 +1,11 @@
 -- The day a deposit opens (document 02, paper 3): the opening day, the refusals in their order, the outcome of each call, and what is proved of them.
 -- Assumes nothing.
 use mathlib.Core.Path.{_≡_}
-use Prim.Native.Nat.{ℕ, zero, suc, _<_, _≤_}
+use Prim.Native.Nat.{ℕ, zero, suc, min, _<_}
 use mathlib.Core.Bool.{Bool, true, not}
 use mathlib.Core.List.{List, [], _∷_}
 use mathlib.Core.Option.{Option, none, some}
-use lib.Dec.{eqb, ltb, leb}
+use lib.Dec.{ltb, leb}
 use Rattle.model.specs.declared.Refusal.{Refusal}
 use Rattle.model.specs.declared.Verdict.{Verdict}
 use Rattle.model.specs.Base.{if_then_else_, _orElse_}
@@ -13,32 +13,21 @@ use Rattle.model.specs.Verdict.{refuseIf, verdict, Answer, values, refusalAnswe
 use Rattle.model.specs.Refusals.{Test, ofDesk, _andThen_}
 use Rattle.model.specs.Demands.{Decided}
 use Rattle.calendar.specs.declared.Date.{Date}
-use Rattle.calendar.specs.Calendar.{date, monthLength, lastYear, days, isDate, dayNumber, dateOf}
+use Rattle.calendar.specs.Calendar.{date, monthLength, lastYear, days, isDate, dayNumber, dateOf, Month, monthOf, nextMonth, BothWays}
 use Rattle.dates.specs.declared.DateVerdict.{DateVerdict}
 use Rattle.dates.specs.declared.DateVerdict.the-variants.{Dated, NotDated}
 
--- a month of a year
-pub record Month : Type 0 where
-  pub year : ℕ
-  pub month : ℕ
-
-abbrev pub nextMonth : Month → Month
-nextMonth m = if eqb (m .month) 12 then record { year = suc (m .year); month = 1 } else record { year = m .year; month = suc (m .month) }
-
+-- "The opening day lies in the month the term after the deposit's"
 abbrev pub monthAfter : ℕ → Month → Month
 monthAfter zero m = m
 monthAfter (suc term) m = nextMonth (monthAfter term m)
 
--- "The opening day lies in the month the term after the deposit's"
 abbrev pub openingMonth : Date → ℕ → Month
-openingMonth d term = monthAfter term (record { year = d .year; month = d .month })
-
-abbrev pub least : ℕ → ℕ → ℕ
-least a b = if leb a b then a else b
+openingMonth d term = monthAfter term (monthOf d)
 
 -- "and has the deposit's day of the month, or is the last day of that month if it is shorter"
 abbrev pub dateInMonth : Month → ℕ → Date
-dateInMonth m day = date (m .year) (m .month) (least day (monthLength (m .year) (m .month)))
+dateInMonth m day = date (m .year) (m .month) (min day (monthLength (m .year) (m .month)))
 
 abbrev pub opening : Date → ℕ → Date
 opening d term = dateInMonth (openingMonth d term) (d .day)
@@ -57,13 +46,14 @@ noDate d = not (isDate d)
 abbrev pub noDay : ℕ → Bool
 noDay number = leb days number
 
--- "28 a term over 600 months, or an opening day after the last date": 31 December is the last day of its year
+-- "28 a term over 600 months, or an opening day after the last date"
 abbrev pub longestTerm : ℕ
 longestTerm = 600
 
 abbrev pub tooLong : ℕ → Bool
 tooLong term = ltb longestTerm term
 
+-- the last date is the last day of its year
 abbrev pub tooLate : Date → ℕ → Bool
 tooLate d term = ltb lastYear (opening d term .year)
 
@@ -79,6 +69,7 @@ termRefusal d term = refuseIf (tooLong term) (Refusal.Desk 28 0) orElse refuseIf
 abbrev pub openingRefusal : Date → ℕ → Option Refusal
 openingRefusal d term = dateRefusal d orElse termRefusal d term
 
+-- both the deposit's date and the day asked are tested before the term
 abbrev pub openRefusal : Date → ℕ → ℕ → Option Refusal
 openRefusal d term asked = dateRefusal d orElse dayRefusal asked orElse termRefusal d term
 
@@ -107,7 +98,7 @@ abbrev pub dateAnswer : DateVerdict → Answer
 dateAnswer (Dated d) = values (d .year ∷ d .month ∷ d .day ∷ [])
 dateAnswer (NotDated r) = refusalAnswer r
 
--- The tests of the calls, in their order: in the call for open or not, both the date and the day asked are tested before 28
+-- The tests of the calls, one for each line that can meet them
 abbrev pub dateTests : Date → List Test
 dateTests d = ofDesk 27 0 (noDate d) ∷ []
 
@@ -119,19 +110,17 @@ termTests d term = ofDesk 28 0 (tooLong term) ∷ ofDesk 28 0 (tooLate d term) �
 
 -- Demand 1 for the four calls: each is refused by its tests, in their order, and else gives its value
 pub record Demand1Dated : Type 0 where
-  pub numbered : (d : Date) → Decided (dateTests d) (dayNumber d ∷ []) (verdictAnswer (numberVerdict d))
-  pub dated : (number : ℕ)
+  pub day-number : (d : Date) → Decided (dateTests d) (dayNumber d ∷ []) (verdictAnswer (numberVerdict d))
+  pub date-of : (number : ℕ)
       → let d = dateOf number in Decided (dayTests number) (d .year ∷ d .month ∷ d .day ∷ []) (dateAnswer (dateCall number))
-  pub opens : (d : Date) (term : ℕ)
+  pub opening-day : (d : Date) (term : ℕ)
       → Decided (dateTests d andThen termTests d term) (dayNumber (opening d term) ∷ []) (verdictAnswer (openingVerdict d term))
-  pub opened : (d : Date) (term asked : ℕ)
+  pub is-open : (d : Date) (term asked : ℕ)
       → Decided (dateTests d andThen dayTests asked andThen termTests d term) (openOn d term asked ∷ []) (verdictAnswer (openVerdict d term asked))
 
--- Dates and numbers, and opening days
+-- Every day of the span has one date and every date one day, and what opening days are
 pub record OneDate : Type 0 where
-  -- number to date to number, and date to number to date, are the identity on the whole span
-  pub number-back : (number : ℕ) → number < days → (isDate (dateOf number) ≡ true) × (dayNumber (dateOf number) ≡ number)
-  pub date-back : (d : Date) → isDate d ≡ true → (dayNumber d < days) × (dateOf (dayNumber d) ≡ d)
+  pub both-ways : BothWays
   -- the opening day of a deposit that is not refused is a date of the span
   pub opens : (d : Date) (term : ℕ) → openingRefusal d term ≡ none → isDate (opening d term) ≡ true
   -- a term of 0 opens at once
@@ -139,5 +128,5 @@ pub record OneDate : Type 0 where
   -- a longer term opens later, and so never earlier; and where it is not refused, a shorter one is not
   pub later : (d : Date) (shorter longer : ℕ) → shorter < longer → openingRefusal d longer ≡ none
       → (openingRefusal d shorter ≡ none) × (dayNumber (opening d shorter) < dayNumber (opening d longer))
-  -- 28 for an opening day after the last date: its number would be past the last
-  pub after-last : (d : Date) (term : ℕ) → isDate d ≡ true → (tooLate d term ≡ true) → days ≤ dayNumber (opening d term)
+  -- the opening day is after the last date exactly when its number is that of no day of the span
+  pub after-last : (d : Date) (term : ℕ) → isDate d ≡ true → tooLate d term ≡ noDay (dayNumber (opening d term))

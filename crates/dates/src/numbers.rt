@@ -2,7 +2,7 @@
 ghost use mathlib.Core.Path.{_≡_};
 ghost use mathlib.Core.Bool.{true};
 ghost use Prim.Native.Nat.{_+_, _-_, _<_, _≤_};
-ghost use Rattle.calendar.specs.Calendar.{firstYear, lastYear, days, yearLength, lengthIn, isDate, yearsBefore, monthsBefore, dayNumber, dateIn, dateOf};
+ghost use Rattle.calendar.specs.Calendar.{firstYear, lastYear, days, yearLength, lengthIn, isDate, daysOfYears, daysOfMonths, dayNumber, dateIn, dateOf};
 ghost use Rattle.dates.specs.Dates.{numberVerdict, dateCall};
 use crate::DateVerdict;
 use calendar::DAYS;
@@ -22,7 +22,7 @@ const LONGEST_YEAR: u64 = 366;
 // The days of a month.
 fn days_in(leap: bool, month: u8) -> u64
     requires { ⌜ (1 ≤ month) × (month ≤ 12) ⌝ }
-    ensures { λ r. ⌜ (r ≡ lengthIn leap month) × (r ≤ 255) ⌝ }
+    ensures { λ r. ⌜ r ≡ lengthIn leap month ⌝ }
 {
     month_length(leap, month) as u64
 }
@@ -55,7 +55,7 @@ pub fn is_date(d: Date) -> bool
 // The days of a year before a month.
 fn months_before(year: u16, month: u8) -> u64
     requires { ⌜ (1 ≤ month) × (month ≤ 12) ⌝ }
-    ensures { λ r. ⌜ r ≡ monthsBefore year (month - 1) ⌝ }
+    ensures { λ r. ⌜ r ≡ daysOfMonths year (month - 1) ⌝ }
 {
     let leap = is_leap(year);
     let mut total: u64 = 0;
@@ -68,7 +68,7 @@ fn months_before(year: u16, month: u8) -> u64
 }
 
 // The number of a date of the span.
-pub fn number(d: Date) -> u64
+pub fn number_of(d: Date) -> u64
     requires { ⌜ isDate d ≡ true ⌝ }
     ensures { λ r. ⌜ r ≡ dayNumber d ⌝ }
 {
@@ -84,7 +84,7 @@ pub fn day_number(d: Date) -> Verdict
     ensures { λ r. ⌜ r ≡ numberVerdict d ⌝ }
 {
     if is_date(d) {
-        Verdict::Accepted(number(d))
+        Verdict::Accepted(number_of(d))
     } else {
         Verdict::Refused(Refusal::Desk(27, 0))
     }
@@ -114,12 +114,12 @@ fn date_in(year: u16, number: u64) -> Date
 }
 
 // The date that is so many days after 1 January of a year.
-fn date_after(first: u16, number: u64) -> Date
-    requires { ⌜ (firstYear ≤ first) × (first ≤ lastYear) × (yearsBefore (first - firstYear) + number < days) ⌝ }
-    ensures { λ r. ⌜ r ≡ dateOf (yearsBefore (first - firstYear) + number) ⌝ }
+fn date_after(start: u16, count: u64) -> Date
+    requires { ⌜ (firstYear ≤ start) × (start ≤ lastYear) × (daysOfYears (start - firstYear) + count < days) ⌝ }
+    ensures { λ r. ⌜ r ≡ dateOf (daysOfYears (start - firstYear) + count) ⌝ }
 {
-    let mut year = first;
-    let mut left = number;
+    let mut year = start;
+    let mut left = count;
     while year < LAST_YEAR {
         let in_year = year_length(year);
         if left < in_year {

@@ -1,12 +1,12 @@
 // The opening day of a deposit, and whether it is open on a day.
 ghost use mathlib.Core.Path.{_≡_};
 ghost use mathlib.Core.Bool.{true};
-ghost use Prim.Native.Nat.{_≤_};
+ghost use Prim.Native.Nat.{min, _≤_};
 ghost use Rattle.model.specs.Verdict.{verdict};
 ghost use Rattle.calendar.specs.Calendar.{isDate, dayNumber};
-ghost use Rattle.dates.specs.Dates.{least, openFrom, longestTerm, opening, termRefusal, openingVerdict, openVerdict};
+ghost use Rattle.dates.specs.Dates.{openFrom, longestTerm, opening, termRefusal, openingVerdict, openVerdict};
 use crate::numbers::is_date;
-use crate::numbers::number;
+use crate::numbers::number_of;
 use calendar::DAYS;
 use calendar::Date;
 use calendar::LAST_YEAR;
@@ -18,8 +18,9 @@ use model::Verdict;
 // The longest term, in months.
 const LONGEST_TERM: u64 = 600;
 
+// The lesser of two numbers.
 fn least_of(a: u8, b: u8) -> u8
-    ensures { λ r. ⌜ r ≡ least a b ⌝ }
+    ensures { λ r. ⌜ r ≡ min a b ⌝ }
 {
     if a <= b { a } else { b }
 }
@@ -52,7 +53,7 @@ fn opening_number(d: Date, term: u64) -> Verdict
     if LAST_YEAR < year {
         return Verdict::Refused(Refusal::Desk(28, 0));
     }
-    Verdict::Accepted(number(o))
+    Verdict::Accepted(number_of(o))
 }
 
 // The number of a deposit's opening day.

@@ -30,8 +30,8 @@ use Rattle.analyses.proofs.Limits.{ranges}
 use Rattle.analyses.proofs.FoundEntry.{is-entry}
 use Rattle.weights.specs.Weights.{largestSum, AtMost}
 use Rattle.calendar.specs.declared.Date.{Date}
-use Rattle.calendar.specs.Calendar.{days, isDate, dayNumber}
-use Rattle.dates.specs.Dates.{opening, openOn, noDate, dateRefusal, openingRefusal, openRefusal, numberVerdict, openingVerdict, openVerdict}
+use Rattle.calendar.specs.Calendar.{days, dayNumber}
+use Rattle.dates.specs.Dates.{opening, openOn, dateRefusal, openingRefusal, openRefusal, numberVerdict, openingVerdict, openVerdict}
 use Rattle.dates.proofs.OneDate.{kept-date, one-date}
 use Rattle.downgrater.specs.Packing.{ValueFits, CountsFit}
 use Rattle.downgrater.specs.Exports.{surveyVerdict}
@@ -158,12 +158,12 @@ module _ (file sentence : List ℕ) where
 
 -- day numbers, and 1 or 0
 pub number-fits : (d : Date) → ValueFits (numberVerdict d)
-number-fits d = value-within days (omega arith) (dateRefusal d) (dayNumber d) (λ e. omega (arith, one-date .date-back d (kept-date d e) .0))
+number-fits d = value-within days (omega arith) (dateRefusal d) (dayNumber d) (λ e. omega (arith, one-date .both-ways .date-back d (kept-date d e) .0))
 
 pub opening-fits : (d : Date) (term : ℕ) → ValueFits (openingVerdict d term)
 opening-fits d term =
     value-within days (omega arith) (openingRefusal d term) (dayNumber (opening d term))
-    (λ e. omega (arith, one-date .date-back (opening d term) (one-date .opens d term e) .0))
+    (λ e. omega (arith, one-date .both-ways .date-back (opening d term) (one-date .opens d term e) .0))
 
 pub open-fits : (d : Date) (term asked : ℕ) → ValueFits (openVerdict d term asked)
 open-fits d term asked = value-within 1 (omega arith) (openRefusal d term asked) (openOn d term asked) (λ e. few (leb (dayNumber (opening d term)) asked))

@@ -23,7 +23,7 @@ use Rattle.model.proofs.Perm.{perm-mem}
 use Rattle.model.proofs.Variables.{parts-length, vars-out}
 use Rattle.model.proofs.RuleFromRecord.{Tested, field-length, field-at, daughters-length, twelve, lengths-total, named-are, rule-right}
 use Rattle.model.proofs.FromFile.{ruleRead, rule-passed, record-tested, dimensions-in, dimensions-four}
-use Rattle.grammar.proofs.Sums.{sum-same, sum-first, sum-total}
+use Rattle.model.proofs.Sums.{sum-same, sum-first, sum-total}
 
 -- no rule has a number from R on
 made-none : (f : ℕ → Rule) (from n r : ℕ) → n ≤ r → getElem? (map f (numbersFrom from n)) r ≡ none

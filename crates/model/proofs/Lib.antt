@@ -1,5 +1,6 @@
 pub mod Tests
 pub mod Lists
+pub mod Sums
 pub mod Order
 pub mod Live
 pub mod Listing

@@ -14,7 +14,7 @@ use Rattle.model.specs.Base.{_orElse_, firstFrom, every}
 use Rattle.model.specs.Verdict.{refuseIf}
 use Rattle.model.specs.GrammarFile.{within, allZero, fields, categoriesOf, startOf, wordsOf, rulesOf, dimensionsOf, dimensionIn, recordRefusal, wrongHeading}
 use Rattle.model.specs.Writer.{Heading, allBytes, fitsFields, headingBlock, fileOf, writerRefusal}
-use Rattle.model.proofs.Tests.{not-off, after}
+use Rattle.model.proofs.Tests.{not-off, after, same-test}
 use Rattle.model.proofs.ByteLists.{fields-length, fields-at, zeros-by, zeros-at}
 use Rattle.model.proofs.WriterFile.{Written, file-written}
 use Rattle.model.proofs.WriterFields.{fit-words, fit-rules, written-categories, written-start, written-words, written-rules, written-gap, written-dimension, written-dimensions}
@@ -32,12 +32,6 @@ wrongNumbers h =
 and-true : (b : Bool) → b && true ≡ b
 and-true true = refl
 and-true false = refl
-
-same-test : (a b : Bool) → (T a → T b) → (T b → T a) → a ≡ b
-same-test true true f g = refl
-same-test true false f g = absurd (f tt)
-same-test false true f g = absurd (g tt)
-same-test false false f g = refl
 
 -- eight tests of which the first fails
 first-off : (a b c d e f g u : Bool) → a ≡ false → not (a && b && c && d && e && f && g && u) ≡ true

@@ -33,7 +33,7 @@ place (Grammar n p) = p
 place (Analysis n p) = p
 place (Desk n p) = p
 
--- an answer in the paper's terms: its values (one number; of the count two, count and effort), or whose refusal it is, its number and its place
+-- an answer in the paper's terms: its values (one number; of the count two, count and effort; of a date three), or whose refusal it is, its number and its place
 pub data Answer : Type 0 where
   values : List ℕ → Answer
   refusal : Author → ℕ → ℕ → Answer

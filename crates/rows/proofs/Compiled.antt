@@ -16,7 +16,7 @@ use Rattle.model.proofs.RuleFromRecord.{three, category-in, daughter-in, field-
 use Rattle.model.proofs.FromFile.{rule-is, rules-in, record-tested, categories-few}
 use Rattle.rows.specs.Row.{unpacked}
 use Rattle.rows.specs.Table.{startCell, slotCell, cellOf, begins, slots, CellsFit, RuleCells, Compiled}
-use Rattle.grammar.proofs.Sums.{sum-rises}
+use Rattle.model.proofs.Sums.{sum-rises}
 use Rattle.rows.proofs.Lists.{same-parts}
 use Rattle.rows.proofs.Cells.{Bytes, record-bytes, slot-small, cell-start, cell-slot}
 use Rattle.rows.proofs.Packing.{unpacked-packed}

@@ -32,7 +32,7 @@ use Rattle.model.proofs.RowsLine.{nodesOf}
 use Rattle.model.proofs.Rows.{AgreeRow, begin-agree}
 use Rattle.model.proofs.RowsNamed.{frontOwner, extended-old, extended-new, AgreeNamed, SameNamed, nextNames, step-named, begin-named, pending-is, FrontNamed, Fronts, front-named}
 use Rattle.recognizer.specs.Traces.{takenRow}
-use Rattle.grammar.proofs.Sums.{sum-first}
+use Rattle.model.proofs.Sums.{sum-first}
 use Rattle.unfold.specs.Unfold.{daughterCount, firstMade, Taken, treesFrom, Unfolds}
 use Rattle.unfold.proofs.UnfoldStep.{Onward, onward}
 

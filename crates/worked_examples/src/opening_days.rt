@@ -73,7 +73,7 @@ fn dates_of() {
     date_of(146097);
 }
 
-// "31 January 2001 plus 1 month is 28 February 2001"; 29 February after one year and after four; no term, the longest, and what is turned away.
+// "31 January 2001 plus 1 month is 28 February 2001"; 29 February after one year and after four; no term, the longest, and what is refused.
 fn openings() {
     opening(2001, 1, 31, 1);
     opening(2000, 2, 29, 12);
@@ -85,13 +85,14 @@ fn openings() {
     opening(2100, 2, 29, 601);
 }
 
-// The day before the opening day, that day and the last; a term that is too long, and a day that is none, which is tested before.
+// The day before the opening day, that day and the last; a term that is too long, a day that is none and a date that is none, which are tested before.
 fn open_or_not() {
     open_on(2001, 1, 31, 1, 423);
     open_on(2001, 1, 31, 1, 424);
     open_on(2001, 1, 31, 1, 146096);
     open_on(2001, 1, 31, 601, 424);
     open_on(2001, 1, 31, 601, 146097);
+    open_on(2001, 2, 29, 601, 424);
 }
 
 pub fn run() {

@@ -3,7 +3,7 @@
 -- Assumes nothing.
 use Prim.Native.Nat.{_-_}
 use borrow.Author.Needs.{needs}
-use Rattle.calendar.specs.Calendar.{firstYear, years, yearFrom2000}
+use Rattle.calendar.specs.Calendar.{firstYear, years, daysOfYear}
 use Rattle.calendar.proofs.Table.{sum-entry}
 use Rattle.calendar.proofs.first_days.first_day.Statement.{statement}
 use Rattle.calendar.proofs.first_days.first_day.Tie as tie
@@ -21,7 +21,7 @@ array-read-result : tie.Need-array-read-result
 array-read-result c = search needs
 
 returns : tie.Need-returns
-returns c = sum-entry yearFrom2000 years (c .args .year - firstYear) (search needs)
+returns c = sum-entry daysOfYear years (c .args .year - firstYear) (search needs)
 
 pub first-day-spec : {M : Type 1} → statement M
 first-day-spec = tie.close (tie.spec sub-result cast-result mul-result array-read-result returns)

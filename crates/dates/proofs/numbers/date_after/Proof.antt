@@ -5,8 +5,8 @@ use mathlib.Core.Logic.{⊎-elim}
 use Prim.Native.Nat.{ℕ, _+_, _-_, _<_, _≤_}
 use native.Mathlib.Omega.{arith}
 use borrow.Author.Needs.{needs}
-use Rattle.calendar.specs.Calendar.{firstYear, lastYear, yearLength, yearsBefore}
-use Rattle.dates.proofs.InYear.{year-over, last-inside, date-of-year}
+use Rattle.calendar.specs.Calendar.{firstYear, lastYear, yearLength, daysOfYears}
+use Rattle.dates.proofs.YearsAndMonths.{year-over, last-inside, date-of-year}
 use Rattle.dates.proofs.numbers.date_after.Statement.{statement}
 use Rattle.dates.proofs.numbers.date_after.Tie as tie
 use Rattle.dates.proofs.numbers.date_after.Reads as reads
@@ -16,14 +16,14 @@ use Rattle.calendar.proofs.year_length.Reads as year-length-reads
 
 -- the day's number
 abbrev counted : ℕ → ℕ → ℕ
-counted first number = yearsBefore (first - firstYear) + number
+counted start count = daysOfYears (start - firstYear) + count
 
 abbrev Inv-loop : tie.InvT-loop
-Inv-loop first number year₀ left₀ year left =
-    (firstYear ≤ year) × (year ≤ lastYear) × (yearsBefore (year - firstYear) + left ≡ counted first number)
+Inv-loop start count year₀ left₀ year left =
+    (firstYear ≤ year) × (year ≤ lastYear) × (daysOfYears (year - firstYear) + left ≡ counted start count)
 
 abbrev μ-loop : tie.MeasureT-loop
-μ-loop first number year₀ left₀ year left = lastYear - year
+μ-loop start count year₀ left₀ year left = lastYear - year
 
 loop-holds : tie.Need-loop-holds Inv-loop μ-loop
 loop-holds c = (c .pre .0, c .pre .1, refl)
@@ -43,7 +43,7 @@ loop-again c =
     let a = c .before .before .before .before .args in (
       omega arith,
       omega arith,
-      year-over (counted (a .first) (a .number)) (t .year) (t .left) (t .inv .0) (t .inv .2) (c .before .year-length .result) (c .before .year-length .ensures)
+      year-over (counted (a .start) (a .count)) (t .year) (t .left) (t .inv .0) (t .inv .2) (c .before .year-length .result) (c .before .year-length .ensures)
           (omega (arith, c .if1 .left)),
     )
 
@@ -53,7 +53,7 @@ inside c =
     let t = c .before .loop in
     let a = c .before .before .args in
     ⊎-elim
-    (λ w. last-inside (counted (a .first) (a .number)) (t .year) (t .left) (t .inv .0) (t .inv .2) (c .before .before .pre .2) (t .inv .1) (w .left))
+    (λ w. last-inside (counted (a .start) (a .count)) (t .year) (t .left) (t .inv .0) (t .inv .2) (c .before .before .pre .2) (t .inv .1) (w .left))
     (λ w. omega (arith, w .2 .taken, w .1 .ensures))
     (c .loop-test .came)
 
@@ -65,7 +65,7 @@ returns c =
     let s = c .before in
     let t = s .before .loop in
     let a = s .before .before .args in
-    c .date-in .ensures ∙ date-of-year (counted (a .first) (a .number)) (t .year) (t .left) (t .inv .0) (t .inv .2) (t .inv .1) (inside s)
+    c .date-in .ensures ∙ date-of-year (counted (a .start) (a .count)) (t .year) (t .left) (t .inv .0) (t .inv .2) (t .inv .1) (inside s)
 
 pub date-after-spec : {M : Type 1} → statement M
 date-after-spec =

@@ -2,12 +2,12 @@
 -- Assumes nothing.
 use mathlib.Core.Path.{_≡_}
 use mathlib.Core.Logic.{⊎-elim}
-use Prim.Native.Nat.{ℕ, _+_, _-_, _<_, _≤_}
+use Prim.Native.Nat.{_+_, _-_, _<_, _≤_}
 use native.Mathlib.Omega.{arith}
 use borrow.Author.Needs.{needs}
-use Rattle.calendar.specs.Calendar.{monthLength, monthsBefore}
+use Rattle.calendar.specs.Calendar.{monthLength, daysOfMonths}
 use Rattle.calendar.proofs.Calendar.{length-in, length-most}
-use Rattle.dates.proofs.InYear.{month-over, december-inside, date-found}
+use Rattle.dates.proofs.YearsAndMonths.{month-over, december-inside, date-found}
 use Rattle.dates.proofs.numbers.date_in.Statement.{statement}
 use Rattle.dates.proofs.numbers.date_in.Tie as tie
 use Rattle.dates.proofs.numbers.date_in.Reads as reads
@@ -16,7 +16,7 @@ use Rattle.dates.proofs.numbers.days_in.Reads as days-in-reads
 use Rattle.calendar.proofs.is_leap.Reads as is-leap-reads
 
 abbrev Inv-loop : tie.InvT-loop
-Inv-loop year number leap month₀ left₀ month left = (1 ≤ month) × (month ≤ 12) × (monthsBefore year (month - 1) + left ≡ number)
+Inv-loop year number leap month₀ left₀ month left = (1 ≤ month) × (month ≤ 12) × (daysOfMonths year (month - 1) + left ≡ number)
 
 abbrev μ-loop : tie.MeasureT-loop
 μ-loop year number leap month₀ left₀ month left = 12 - month
@@ -43,7 +43,7 @@ loop-again c =
       omega arith,
       omega arith,
       month-over (a .year) (a .number) (t .month) (t .left) (t .inv .0) (t .inv .2) (c .before .days-in .result)
-          (length-in (a .year) (t .month) (c .before .days-in .ensures .0) (c .before .before .before .before .is-leap .ensures)) (c .if1 .left),
+          (length-in (a .year) (t .month) (c .before .days-in .ensures) (c .before .before .before .before .is-leap .ensures)) (c .if1 .left),
     )
 
 -- the days left are days of the month
@@ -53,7 +53,7 @@ inside c =
     let a = c .before .before .before .args in
     ⊎-elim
     (λ w. december-inside (a .year) (a .number) (t .month) (t .left) (t .inv .0) (t .inv .2) (c .before .before .before .pre) (t .inv .1) (w .left))
-    (λ w. omega (arith, w .2 .taken, length-in (a .year) (t .month) (w .1 .ensures .0) (c .before .before .is-leap .ensures)))
+    (λ w. omega (arith, w .2 .taken, length-in (a .year) (t .month) (w .1 .ensures) (c .before .before .is-leap .ensures)))
     (c .loop-test .came)
 
 cast-t8 : tie.Need-cast-t8 Inv-loop μ-loop

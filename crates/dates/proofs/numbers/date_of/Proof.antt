@@ -5,9 +5,9 @@ use Prim.Native.Nat.{_+_, _-_, _/_}
 use native.Mathlib.Omega.{arith}
 use borrow.Author.Tests.{le-leb, lt-leb}
 use borrow.Author.Needs.{needs}
-use Rattle.calendar.specs.Calendar.{firstYear, days, yearsBefore, dateOf}
+use Rattle.calendar.specs.Calendar.{firstYear, days, daysOfYears, dateOf}
 use Rattle.dates.specs.declared.DateVerdict.{DateVerdict}
-use Rattle.dates.proofs.InYear.{years-begun}
+use Rattle.dates.proofs.YearsAndMonths.{years-begun}
 use Rattle.dates.proofs.numbers.date_of.Statement.{statement}
 use Rattle.dates.proofs.numbers.date_of.Tie as tie
 use Rattle.dates.proofs.numbers.date_of.Reads as reads
@@ -43,7 +43,7 @@ returns-2 c =
     let s = c .before .before in
     let n = s .before .args .number in
     let year = firstYear + n / 366 in
-    let same : yearsBefore (year - firstYear) + (n - c .before .first-day .result) ≡ n = omega (arith, c .before .first-day .ensures, years-begun n) in
+    let same : daysOfYears (year - firstYear) + (n - c .before .first-day .result) ≡ n = omega (arith, c .before .first-day .ensures, years-begun n) in
     rw (lt-leb days n (omega (arith, s .if1 .left))) (ap DateVerdict.Dated (c .date-after .ensures ∙ ap dateOf same))
 
 pub date-of-spec : {M : Type 1} → statement M

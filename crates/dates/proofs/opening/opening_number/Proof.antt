@@ -16,7 +16,7 @@ use Rattle.dates.proofs.opening.opening_number.Statement.{statement}
 use Rattle.dates.proofs.opening.opening_number.Tie as tie
 use Rattle.dates.proofs.opening.opening_number.Reads as reads
 use Rattle.dates.proofs.opening.opening_number.Lts as lts
-use Rattle.dates.proofs.numbers.number.Reads as number-reads
+use Rattle.dates.proofs.numbers.number_of.Reads as number-of-reads
 use Rattle.dates.proofs.opening.opening_date.Reads as opening-date-reads
 
 -- the year of the date that was found
@@ -36,8 +36,8 @@ returns-2 : tie.Need-returns-2
 returns-2 c =
     rw (le-ltb longestTerm (c .before .before .before .args .term) (omega (arith, c .before .before .if1 .left)), late (c .before .opening-date .ensures) ∙ lt-ltb _ _ (c .if2 .taken)) refl
 
-number-requires : tie.Need-number-requires
-number-requires c κs =
+number-of-requires : tie.Need-number-of-requires
+number-of-requires c κs =
     let s = c .before .before .before in
     let o = opening-is (s .args .d) (s .args .term) (is-date (s .args .d) (s .pre)) (early (c .before .opening-date .ensures) (c .if2 .left)) in
     rw (c .before .opening-date .ensures) (date-is (opening (s .args .d) (s .args .term)) o)
@@ -46,8 +46,8 @@ returns-3 : tie.Need-returns-3
 returns-3 c =
     let s = c .before .before in
     rw (le-ltb longestTerm (s .before .before .args .term) (omega (arith, s .before .if1 .left)), late (s .opening-date .ensures) ∙ le-ltb _ _ (c .before .if2 .left))
-    (ap Verdict.Accepted (c .number .ensures ∙ ap dayNumber (s .opening-date .ensures)))
+    (ap Verdict.Accepted (c .number-of .ensures ∙ ap dayNumber (s .opening-date .ensures)))
 
 pub opening-number-spec : {M : Type 1} → statement M
 opening-number-spec =
-    tie.close (tie.spec returns opening-date-requires returns-2 number-requires returns-3)
+    tie.close (tie.spec returns opening-date-requires returns-2 number-of-requires returns-3)

@@ -27,7 +27,6 @@ verdict-bits-requires c κs =
 
 returns : tie.Need-returns
 returns c =
-    let a = c .before .before .before .args in
     said _ _ (c .before .day-number .ensures ∙ number-alike (c .before .before .date-from .ensures)) _ (c .verdict-bits .ensures)
 
 pub dg-day-number-spec : {M : Type 1} → statement M

@@ -1,12 +1,12 @@
--- `dates::numbers::number` meets its contract.
+-- `dates::numbers::number_of` meets its contract.
 -- Assumes nothing.
 use native.Mathlib.Omega.{arith}
 use borrow.Author.Needs.{needs}
 use Rattle.calendar.proofs.Calendar.{is-date, number-below}
-use Rattle.dates.proofs.numbers.number.Statement.{statement}
-use Rattle.dates.proofs.numbers.number.Tie as tie
-use Rattle.dates.proofs.numbers.number.Reads as reads
-use Rattle.dates.proofs.numbers.number.Lts as lts
+use Rattle.dates.proofs.numbers.number_of.Statement.{statement}
+use Rattle.dates.proofs.numbers.number_of.Tie as tie
+use Rattle.dates.proofs.numbers.number_of.Reads as reads
+use Rattle.dates.proofs.numbers.number_of.Lts as lts
 use Rattle.dates.proofs.numbers.months_before.Reads as months-before-reads
 use Rattle.calendar.proofs.first_day.Reads as first-day-reads
 
@@ -38,8 +38,8 @@ add-result-2 c =
 returns : tie.Need-returns
 returns c = search needs
 
-pub number-spec : {M : Type 1} → statement M
-number-spec =
+pub number-of-spec : {M : Type 1} → statement M
+number-of-spec =
     tie.close
     (tie.spec
     first-day-requires
