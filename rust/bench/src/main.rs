@@ -1,7 +1,8 @@
 //! The library and plain Rust in one process, in turns, best of several runs, both built for release: nanoseconds per live prefix of
-//! `dg_count` and of the same search, and nanoseconds a block of `dg_read_grammar` and of the same reader. The time of the library's count
-//! includes its tests of the grammar file, that of the search does not.
+//! `dg_count` and of the same search, nanoseconds a block of `dg_read_grammar` and of the same reader, and nanoseconds a call of the four
+//! calls on dates and of the same calls. The time of the library's count includes its tests of the grammar file, that of the search does not.
 
+mod dates;
 mod files;
 mod inputs;
 mod reader;
@@ -13,7 +14,7 @@ use std::time::Instant;
 
 use reference::file::{read, BLOCK};
 use reference::notation::grammar_file;
-use reference::{Answer, Calls};
+use reference::{Answer, Calls, Date, Refusal};
 
 use inputs::Input;
 use search::Table;
@@ -22,6 +23,9 @@ const EFFORT_LIMIT: u64 = 1_000_000_000;
 
 /// How often a file is read in one run.
 const READINGS: u64 = 200;
+
+/// How many days the span has.
+const DAYS: u64 = 146_097;
 
 fn main() {
     let runs = env::args().nth(1).and_then(|word| word.parse().ok()).unwrap_or(7);
@@ -43,6 +47,9 @@ fn main() {
     for (name, file) in files::full() {
         reading(name, &file, library.as_deref(), runs);
     }
+    println!("\ndates, ns a call");
+    println!("{:<12}{:>10}{:>8}{:>8}", "call", "library", "rust", "ratio");
+    on_dates(library.as_deref(), runs);
 }
 
 /// The best time of each side in nanoseconds.
@@ -107,4 +114,31 @@ fn reading(name: &str, file: &[u8], library: Option<&dyn Calls>, runs: usize) {
     let library = library.map(|library| || assert_eq!(library.read_grammar(black_box(file)), Answer::Accepted(rules), "{name}"));
     let times = in_turns(runs, READINGS, blocks, rust, library);
     println!("{:<12}{:>8}{}", name, blocks, times.columns());
+}
+
+/// Each call on every day of the span, in one run; of the calls with a term, the terms from 0 to 600 one after the other.
+fn on_dates(library: Option<&dyn Calls>, runs: usize) {
+    let all: Vec<(u64, Date)> = (0..DAYS).map(|number| (number, dates::date_of(number).expect("a day of the span"))).collect();
+    let term = |number: u64| number % 601;
+    let accepted = |outcome: Result<u32, Refusal>| outcome.map_or_else(Answer::Refused, Answer::Accepted);
+    let measured = |name: &str, rust: &dyn Fn(u64, Date) -> Answer, call: &dyn Fn(&dyn Calls, u64, Date) -> Answer| {
+        let each = |one: &dyn Fn(u64, Date) -> Answer| {
+            for &(number, date) in &all {
+                black_box(one(black_box(number), black_box(date)));
+            }
+        };
+        let library = library.map(|library| move || each(&|number, date| call(library, number, date)));
+        let times = in_turns(runs, 1, DAYS, || each(rust), library);
+        println!("{:<12}{}", name, times.columns());
+    };
+    measured("day_number", &|_, date| accepted(dates::day_number(date)), &|library, _, date| library.day_number(date));
+    measured("date_of", &|number, _| dates::date_of(number).map_or_else(Answer::Refused, Answer::Dated), &|library, number, _| {
+        library.date_of(number)
+    });
+    measured("opening_day", &|number, date| accepted(dates::opening_day(date, term(number))), &|library, number, date| {
+        library.opening_day(date, term(number))
+    });
+    measured("is_open", &|number, date| accepted(dates::is_open(date, term(number), number)), &|library, number, date| {
+        library.is_open(date, term(number), number)
+    });
 }
