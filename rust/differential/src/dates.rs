@@ -133,16 +133,14 @@ fn order_of_tests(pair: &mut Pair) -> Done {
 fn opening_day(pair: &mut Pair, deposit: Date, term: u64) -> Result<u64, Difference> {
     pair.opening_day(deposit, term)?;
     let Answer::Accepted(day) = pair.tested.opening_day(deposit, term) else { return Ok(424) };
-    match pair.tested.opening_day(deposit, term + 1) {
-        Answer::Accepted(later) if later <= day => {
+    if let Answer::Accepted(later) = pair.tested.opening_day(deposit, term + 1) {
+        if later <= day {
             let text = format!("{deposit:?}\nterm {term} opens on day {day}, a month more on day {later}");
-            Err(Difference { call: Call::OpeningDay, text })
+            return Err(Difference { call: Call::OpeningDay, text });
         }
-        _ => {
-            pair.tally.terms += 1;
-            Ok(day as u64)
-        }
+        pair.tally.terms += 1;
     }
+    Ok(day as u64)
 }
 
 /// Days around this one, at the ends of the span and past it, and this one once it is cut.
