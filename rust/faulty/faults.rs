@@ -688,8 +688,8 @@ pub const FAULTS: &[Fault] = &[
     (
         "28 tested before the date and the day asked",
         "dates",
-        "    day_number(date)?;\n    date_of(asked)?;\n",
-        "    if term > LONGEST {\n        return Err(Refusal::desk(28));\n    }\n    day_number(date)?;\n    date_of(asked)?;\n",
+        "    date_of(asked)?;\n",
+        "    if term > LONGEST {\n        return Err(Refusal::desk(28));\n    }\n    date_of(asked)?;\n",
     ),
     (
         "the day asked cut to 32 bits",
