@@ -490,7 +490,7 @@ pub const FAULTS: &[Fault] = &[
         "        if out.len() < file.len() {\n            return Err(Refusal::grammar(23, 0));",
     ),
     // the calendar
-    ("2100 is a leap year", "dates", "        0 => year % 400 == 0,\n", ""),
+    ("2100, 2200 and 2300 are leap years", "dates", "        0 => year % 400 == 0,\n", ""),
     ("2000 is a common year", "dates", "0 => year % 400 == 0", "0 => false"),
     ("February of a leap year has 30 days", "dates", "2 if is_leap(year) => 29", "2 if is_leap(year) => 30"),
     ("September has 31 days", "dates", "4 | 6 | 9 | 11 => 30", "4 | 6 | 11 => 30"),
@@ -637,14 +637,14 @@ pub const FAULTS: &[Fault] = &[
         "    if date.day > days_in(year, month) {\n        let day = date.day - days_in(year, month);\n        let (year, month) = next_month(year, month);\n        return Date { year, month, day };\n    }\n    Date { year, month, day: date.day }",
     ),
     (
-        "the day of the month not cut",
+        "the deposit's day in a shorter month",
         "dates",
         "date.day.min(days_in(year, month))",
         "date.day",
     ),
     ("the opening day at most the 28th", "dates", "date.day.min(days_in(year, month))", "date.day.min(28)"),
     (
-        "the day cut to the length of the month in the deposit's year",
+        "the day shortened to the length of the month in the deposit's year",
         "dates",
         "date.day.min(days_in(year, month))",
         "date.day.min(days_in(date.year, month))",
@@ -656,7 +656,7 @@ pub const FAULTS: &[Fault] = &[
         "day: if date.day == days_in(date.year, date.month) { days_in(year, month) } else { date.day.min(days_in(year, month)) } }",
     ),
     (
-        "the day cut to every month on the way",
+        "the day shortened to every month on the way",
         "dates",
         "    let (mut year, mut month) = (date.year, date.month);\n    for _ in 0..term {\n        (year, month) = next_month(year, month);\n",
         "    let (mut date, mut year, mut month) = (date, date.year, date.month);\n    for _ in 0..term {\n        (year, month) = next_month(year, month);\n        date.day = date.day.min(days_in(year, month));\n",
@@ -698,7 +698,7 @@ pub const FAULTS: &[Fault] = &[
         "    let asked = asked as u32 as u64;\n    date_of(asked)?;\n",
     ),
     (
-        "a deposit with a term too long is not open",
+        "a deposit that meets 28 is not open",
         "dates",
         "    let opening = opening_day(date, term)? as u64;\n",
         "    let Ok(opening) = opening_day(date, term) else { return Ok(false) };\n    let opening = opening as u64;\n",
