@@ -563,6 +563,12 @@ pub const FAULTS: &[Fault] = &[
         "    let date = Date { day: date.day as u8 as u32, ..date };\n    match dates().binary_search(&date) {",
     ),
     ("a date's 27 is the grammar's", "dates", "Err(_) => Err(Refusal::desk(27))", "Err(_) => Err(Refusal::grammar(27, 0))"),
+    (
+        "a date's 27 has the day as its place",
+        "dates",
+        "Err(_) => Err(Refusal::desk(27))",
+        "Err(_) => Err(Refusal { place: date.day, ..Refusal::desk(27) })",
+    ),
     // a number's date
     (
         "day 146,097 has the last date",
@@ -594,6 +600,12 @@ pub const FAULTS: &[Fault] = &[
         "dates",
         "    Ok(dates()[number as usize])",
         "    Ok(dates()[number as usize - (number > 36_583) as usize])",
+    ),
+    (
+        "a day number's 27 is the grammar's",
+        "dates",
+        "        return Err(Refusal::desk(27));\n",
+        "        return Err(Refusal::grammar(27, 0));\n",
     ),
     (
         "a day number's 27 has it as its place",
@@ -667,6 +679,30 @@ pub const FAULTS: &[Fault] = &[
         "    Date { year, month, day: date.day.min(days_in(year, month)) }",
         "    let year = if month == 12 && term > 0 { year + 1 } else { year };\n    Date { year, month, day: date.day.min(days_in(year, month)) }",
     ),
+    (
+        "the 28 of a term over 600 months is the analysis's",
+        "dates",
+        "    if term > LONGEST {\n        return Err(Refusal::desk(28));",
+        "    if term > LONGEST {\n        return Err(Refusal::analysis(28, 0));",
+    ),
+    (
+        "the 28 of a term over 600 months has the term as its place",
+        "dates",
+        "    if term > LONGEST {\n        return Err(Refusal::desk(28));",
+        "    if term > LONGEST {\n        return Err(Refusal { place: term as u32, ..Refusal::desk(28) });",
+    ),
+    (
+        "the 28 of an opening day after the last date is the grammar's",
+        "dates",
+        "    if opening > LAST {\n        return Err(Refusal::desk(28));",
+        "    if opening > LAST {\n        return Err(Refusal::grammar(28, 0));",
+    ),
+    (
+        "the 28 of an opening day after the last date has its year as its place",
+        "dates",
+        "    if opening > LAST {\n        return Err(Refusal::desk(28));",
+        "    if opening > LAST {\n        return Err(Refusal { place: opening.year, ..Refusal::desk(28) });",
+    ),
     // open or not
     ("open from the day after", "dates", "asked >= opening", "asked > opening"),
     ("open the day before", "dates", "asked >= opening", "asked + 1 >= opening"),
@@ -708,5 +744,23 @@ pub const FAULTS: &[Fault] = &[
         "dates",
         "    date_of(asked)?;\n",
         "    if date_of(asked).is_err() {\n        return Err(Refusal::analysis(27, 0));\n    }\n",
+    ),
+    (
+        "the 27 of the day asked has it as its place",
+        "dates",
+        "    date_of(asked)?;\n",
+        "    date_of(asked).map_err(|refusal| Refusal { place: asked as u32, ..refusal })?;\n",
+    ),
+    (
+        "the 28 of open or not is the analysis's",
+        "dates",
+        "    let opening = opening_day(date, term)? as u64;\n",
+        "    let opening = opening_day(date, term).map_err(|refusal| if refusal.number == 28 { Refusal::analysis(28, 0) } else { refusal })? as u64;\n",
+    ),
+    (
+        "the 28 of open or not has the day asked as its place",
+        "dates",
+        "    let opening = opening_day(date, term)? as u64;\n",
+        "    let opening = opening_day(date, term).map_err(|refusal| if refusal.number == 28 { Refusal { place: asked as u32, ..refusal } } else { refusal })? as u64;\n",
     ),
 ];
