@@ -491,6 +491,7 @@ pub const FAULTS: &[Fault] = &[
     ),
     // the calendar
     ("2100, 2200 and 2300 are leap years", "dates", "        0 => year % 400 == 0,\n", ""),
+    ("2200 is a leap year", "dates", "0 => year % 400 == 0", "0 => year % 200 == 0"),
     ("2000 is a common year", "dates", "0 => year % 400 == 0", "0 => false"),
     ("February of a leap year has 30 days", "dates", "2 if is_leap(year) => 29", "2 if is_leap(year) => 30"),
     ("September has 31 days", "dates", "4 | 6 | 9 | 11 => 30", "4 | 6 | 11 => 30"),
@@ -513,6 +514,18 @@ pub const FAULTS: &[Fault] = &[
         "        Ok(place) => Ok(place),\n        Err(_) =>",
         "        Ok(place) if place + 1 < dates().len() => Ok(place),\n        _ =>",
     ),
+    (
+        "31 December 1999 is day 0",
+        "dates",
+        "        Err(_) => Err(Refusal::desk(27)),\n",
+        "        Err(_) if date == Date { year: 1999, month: 12, day: 31 } => Ok(0),\n        Err(_) => Err(Refusal::desk(27)),\n",
+    ),
+    (
+        "1 January 2400 is day 146,097",
+        "dates",
+        "        Err(_) => Err(Refusal::desk(27)),\n",
+        "        Err(_) if date == Date { year: 2400, month: 1, day: 1 } => Ok(146_097),\n        Err(_) => Err(Refusal::desk(27)),\n",
+    ),
     ("day numbers from 1", "dates", "Ok(place) => Ok(place)", "Ok(place) => Ok(place + 1)"),
     (
         "a date after 28 February 2100 has the next day's number",
@@ -521,10 +534,22 @@ pub const FAULTS: &[Fault] = &[
         "Ok(place) => Ok(place + (date > Date { year: 2100, month: 2, day: 28 }) as usize)",
     ),
     (
+        "the dates of one year have the next day's number",
+        "dates",
+        "Ok(place) => Ok(place)",
+        "Ok(place) => Ok(place + (date.year == 2287) as usize)",
+    ),
+    (
         "the 31st of a shorter month is the 1st of the next",
         "dates",
         "        Err(_) => Err(Refusal::desk(27)),\n",
         "        Err(place) if date > FIRST && date < LAST && (1..=12).contains(&date.month) && date.day == 31 => Ok(place),\n        Err(_) => Err(Refusal::desk(27)),\n",
+    ),
+    (
+        "the 32nd of a month is the 1st of the next",
+        "dates",
+        "        Err(_) => Err(Refusal::desk(27)),\n",
+        "        Err(place) if date > FIRST && date < LAST && (1..=12).contains(&date.month) && date.day == 32 => Ok(place),\n        Err(_) => Err(Refusal::desk(27)),\n",
     ),
     (
         "29 February of a common year is 1 March",
@@ -545,6 +570,12 @@ pub const FAULTS: &[Fault] = &[
         "    let date = if date.month == 13 { Date { year: date.year.wrapping_add(1), month: 1, day: date.day } } else { date };\n    match dates().binary_search(&date) {",
     ),
     (
+        "month 0 is the December before",
+        "dates",
+        "    match dates().binary_search(&date) {",
+        "    let date = if date.month == 0 { Date { year: date.year.wrapping_sub(1), month: 12, day: date.day } } else { date };\n    match dates().binary_search(&date) {",
+    ),
+    (
         "a year cut to 16 bits",
         "dates",
         "    match dates().binary_search(&date) {",
@@ -555,6 +586,12 @@ pub const FAULTS: &[Fault] = &[
         "dates",
         "    match dates().binary_search(&date) {",
         "    let date = Date { month: date.month as u8 as u32, ..date };\n    match dates().binary_search(&date) {",
+    ),
+    (
+        "a month above 255 is January",
+        "dates",
+        "    match dates().binary_search(&date) {",
+        "    let date = Date { month: if date.month > 255 { 1 } else { date.month }, ..date };\n    match dates().binary_search(&date) {",
     ),
     (
         "a day cut to 8 bits",
@@ -594,6 +631,18 @@ pub const FAULTS: &[Fault] = &[
         "dates",
         "    Ok(dates()[number as usize])",
         "    let date = dates()[number as usize];\n    Ok(if is_leap(date.year) && (date.month, date.day) == (12, 31) { tomorrow(date) } else { date })",
+    ),
+    (
+        "1 January is 32 December of the year before",
+        "dates",
+        "    Ok(dates()[number as usize])",
+        "    let date = dates()[number as usize];\n    Ok(if date > FIRST && (date.month, date.day) == (1, 1) { Date { year: date.year - 1, month: 12, day: 32 } } else { date })",
+    ),
+    (
+        "the days of one year have the next day's date",
+        "dates",
+        "    Ok(dates()[number as usize])",
+        "    let date = dates()[number as usize];\n    Ok(if date.year == 2287 { tomorrow(date) } else { date })",
     ),
     (
         "a day after 28 February 2100 has the date before",
