@@ -685,12 +685,43 @@ pub const FAULTS: &[Fault] = &[
         "    let term = term as u32 as u64;\n    if term > LONGEST {",
     ),
     (
+        "a term cut to 16 bits",
+        "dates",
+        "    if term > LONGEST {",
+        "    let term = term as u16 as u64;\n    if term > LONGEST {",
+    ),
+    (
+        "a deposit's day of the month not tested from the 28th on",
+        "dates",
+        "    day_number(date)?;\n",
+        "    day_number(Date { day: date.day.min(28), ..date })?;\n",
+    ),
+    (
+        "the year of a deposit cut to 16 bits in the opening day alone",
+        "reference",
+        "answer(opening_day(date, term))",
+        "answer(opening_day(Date { year: date.year as u16 as u32, ..date }, term))",
+    ),
+    (
         "an opening day after the last date is 27",
         "dates",
         "    if opening > LAST {\n        return Err(Refusal::desk(28));\n    }\n",
         "",
     ),
     ("an opening day on the last date refused", "dates", "opening > LAST", "opening >= LAST"),
+    ("an opening day in 2399 refused", "dates", "opening > LAST", "opening.year >= LAST.year"),
+    (
+        "an opening day in January 2400 taken",
+        "dates",
+        "    if opening > LAST {\n",
+        "    if (opening.year, opening.month) == (2400, 1) {\n        return Ok(dates().len() + opening.day as usize - 1);\n    }\n    if opening > LAST {\n",
+    ),
+    (
+        "an opening day after the last date is the last date",
+        "dates",
+        "    if opening > LAST {\n        return Err(Refusal::desk(28));\n    }\n",
+        "    let opening = opening.min(LAST);\n",
+    ),
     (
         "the days that a month lacks are those of the next",
         "dates",
@@ -711,6 +742,24 @@ pub const FAULTS: &[Fault] = &[
         "date.day.min(days_in(date.year, month))",
     ),
     (
+        "2100 is a leap year where the day is shortened",
+        "dates",
+        "date.day.min(days_in(year, month))",
+        "date.day.min(if month == 2 && year % 4 == 0 { 29 } else { days_in(year, month) })",
+    ),
+    (
+        "every February has 28 days where the day is shortened",
+        "dates",
+        "date.day.min(days_in(year, month))",
+        "date.day.min(if month == 2 { 28 } else { days_in(year, month) })",
+    ),
+    (
+        "a deposit of 29 February opens on 1 March of a common year",
+        "dates",
+        "    Date { year, month, day: date.day.min(days_in(year, month)) }",
+        "    if (date.month, date.day, month) == (2, 29, 2) && !is_leap(year) {\n        return Date { year, month: 3, day: 1 };\n    }\n    Date { year, month, day: date.day.min(days_in(year, month)) }",
+    ),
+    (
         "a deposit on the last day of a month opens on the last",
         "dates",
         "day: date.day.min(days_in(year, month)) }",
@@ -721,6 +770,18 @@ pub const FAULTS: &[Fault] = &[
         "dates",
         "    let (mut year, mut month) = (date.year, date.month);\n    for _ in 0..term {\n        (year, month) = next_month(year, month);\n",
         "    let (mut date, mut year, mut month) = (date, date.year, date.month);\n    for _ in 0..term {\n        (year, month) = next_month(year, month);\n        date.day = date.day.min(days_in(year, month));\n",
+    ),
+    (
+        "the month after December is January of the same year",
+        "dates",
+        "        (year, month) = next_month(year, month);\n",
+        "        month = next_month(year, month).1;\n",
+    ),
+    (
+        "an opening day in January a year early",
+        "dates",
+        "    Date { year, month, day: date.day.min(days_in(year, month)) }",
+        "    let year = if month == 1 && term > 0 { year - 1 } else { year };\n    Date { year, month, day: date.day.min(days_in(year, month)) }",
     ),
     (
         "an opening day in December a year late",
