@@ -817,12 +817,31 @@ pub const FAULTS: &[Fault] = &[
     ("open from the day after", "dates", "asked >= opening", "asked > opening"),
     ("open the day before", "dates", "asked >= opening", "asked + 1 >= opening"),
     ("open on the opening day alone", "dates", "asked >= opening", "asked == opening"),
+    (
+        "open before the deposit's date",
+        "dates",
+        "asked >= opening",
+        "asked.wrapping_sub(day_number(date)? as u64) >= opening - day_number(date)? as u64",
+    ),
+    ("a deposit with no term not open on its own date", "dates", "asked >= opening", "asked > opening || (asked == opening && term > 0)"),
+    (
+        "a day before the deposit's date may not be asked",
+        "dates",
+        "    Ok(asked >= opening)",
+        "    if (asked as usize) < day_number(date)? {\n        return Err(Refusal::desk(27));\n    }\n    Ok(asked >= opening)",
+    ),
     ("the day asked not tested", "dates", "    date_of(asked)?;\n", ""),
     (
         "day 146,097 may be asked",
         "dates",
         "    date_of(asked)?;\n",
         "    if asked != 146_097 {\n        date_of(asked)?;\n    }\n",
+    ),
+    (
+        "day 0 may not be asked",
+        "dates",
+        "    date_of(asked)?;\n",
+        "    if asked == 0 {\n        return Err(Refusal::desk(27));\n    }\n    date_of(asked)?;\n",
     ),
     ("the last day may not be asked", "dates", "    date_of(asked)?;\n", "    date_of(asked + 1)?;\n"),
     (
@@ -848,6 +867,30 @@ pub const FAULTS: &[Fault] = &[
         "dates",
         "    let opening = opening_day(date, term)? as u64;\n",
         "    let Ok(opening) = opening_day(date, term) else { return Ok(false) };\n    let opening = opening as u64;\n",
+    ),
+    (
+        "a deposit that opens after the last date is not open",
+        "dates",
+        "    let opening = opening_day(date, term)? as u64;\n",
+        "    let opening = match opening_day(date, term) {\n        Err(refusal) if refusal.number == 28 && term <= LONGEST => return Ok(false),\n        outcome => outcome? as u64,\n    };\n",
+    ),
+    (
+        "a term over 600 months is 600 in open or not alone",
+        "dates",
+        "    let opening = opening_day(date, term)? as u64;\n",
+        "    let opening = opening_day(date, term.min(LONGEST))? as u64;\n",
+    ),
+    (
+        "the days that a month lacks are those of the next in open or not alone",
+        "dates",
+        "    let opening = opening_day(date, term)? as u64;\n",
+        "    day_number(date)?;\n    let opening = (opening_day(Date { day: 1, ..date }, term)? + date.day as usize - 1) as u64;\n",
+    ),
+    (
+        "the month of a deposit cut to 8 bits in open or not alone",
+        "reference",
+        "answer(is_open(date, term, asked).map(usize::from))",
+        "answer(is_open(Date { month: date.month as u8 as u32, ..date }, term, asked).map(usize::from))",
     ),
     (
         "the 27 of the day asked is the analysis's",
