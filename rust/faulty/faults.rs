@@ -729,7 +729,7 @@ pub const FAULTS: &[Fault] = &[
         "    if date.day > days_in(year, month) {\n        let day = date.day - days_in(year, month);\n        let (year, month) = next_month(year, month);\n        return Date { year, month, day };\n    }\n    Date { year, month, day: date.day }",
     ),
     (
-        "the deposit's day in a shorter month",
+        "the day of the month not shortened",
         "dates",
         "date.day.min(days_in(year, month))",
         "date.day",
@@ -863,10 +863,10 @@ pub const FAULTS: &[Fault] = &[
         "    let asked = asked as u32 as u64;\n    date_of(asked)?;\n",
     ),
     (
-        "a deposit that meets 28 is not open",
+        "a deposit with a term over 600 months is not open",
         "dates",
         "    let opening = opening_day(date, term)? as u64;\n",
-        "    let Ok(opening) = opening_day(date, term) else { return Ok(false) };\n    let opening = opening as u64;\n",
+        "    let opening = match opening_day(date, term) {\n        Err(refusal) if refusal.number == 28 && term > LONGEST => return Ok(false),\n        outcome => outcome? as u64,\n    };\n",
     ),
     (
         "a deposit that opens after the last date is not open",
