@@ -490,7 +490,8 @@ pub const FAULTS: &[Fault] = &[
         "        if out.len() < file.len() {\n            return Err(Refusal::grammar(23, 0));",
     ),
     // the calendar
-    ("2100 is a leap year", "dates", "        0 => year % 400 == 0,\n", ""),
+    ("2100, 2200 and 2300 are leap years", "dates", "        0 => year % 400 == 0,\n", ""),
+    ("2200 is a leap year", "dates", "0 => year % 400 == 0", "0 => year % 200 == 0"),
     ("2000 is a common year", "dates", "0 => year % 400 == 0", "0 => false"),
     ("February of a leap year has 30 days", "dates", "2 if is_leap(year) => 29", "2 if is_leap(year) => 30"),
     ("September has 31 days", "dates", "4 | 6 | 9 | 11 => 30", "4 | 6 | 11 => 30"),
@@ -513,6 +514,18 @@ pub const FAULTS: &[Fault] = &[
         "        Ok(place) => Ok(place),\n        Err(_) =>",
         "        Ok(place) if place + 1 < dates().len() => Ok(place),\n        _ =>",
     ),
+    (
+        "31 December 1999 is day 0",
+        "dates",
+        "        Err(_) => Err(Refusal::desk(27)),\n",
+        "        Err(_) if date == Date { year: 1999, month: 12, day: 31 } => Ok(0),\n        Err(_) => Err(Refusal::desk(27)),\n",
+    ),
+    (
+        "1 January 2400 is day 146,097",
+        "dates",
+        "        Err(_) => Err(Refusal::desk(27)),\n",
+        "        Err(_) if date == Date { year: 2400, month: 1, day: 1 } => Ok(146_097),\n        Err(_) => Err(Refusal::desk(27)),\n",
+    ),
     ("day numbers from 1", "dates", "Ok(place) => Ok(place)", "Ok(place) => Ok(place + 1)"),
     (
         "a date after 28 February 2100 has the next day's number",
@@ -521,10 +534,22 @@ pub const FAULTS: &[Fault] = &[
         "Ok(place) => Ok(place + (date > Date { year: 2100, month: 2, day: 28 }) as usize)",
     ),
     (
+        "the dates of one year have the next day's number",
+        "dates",
+        "Ok(place) => Ok(place)",
+        "Ok(place) => Ok(place + (date.year == 2287) as usize)",
+    ),
+    (
         "the 31st of a shorter month is the 1st of the next",
         "dates",
         "        Err(_) => Err(Refusal::desk(27)),\n",
         "        Err(place) if date > FIRST && date < LAST && (1..=12).contains(&date.month) && date.day == 31 => Ok(place),\n        Err(_) => Err(Refusal::desk(27)),\n",
+    ),
+    (
+        "the 32nd of a month is the 1st of the next",
+        "dates",
+        "        Err(_) => Err(Refusal::desk(27)),\n",
+        "        Err(place) if date > FIRST && date < LAST && (1..=12).contains(&date.month) && date.day == 32 => Ok(place),\n        Err(_) => Err(Refusal::desk(27)),\n",
     ),
     (
         "29 February of a common year is 1 March",
@@ -545,6 +570,12 @@ pub const FAULTS: &[Fault] = &[
         "    let date = if date.month == 13 { Date { year: date.year.wrapping_add(1), month: 1, day: date.day } } else { date };\n    match dates().binary_search(&date) {",
     ),
     (
+        "month 0 is the December before",
+        "dates",
+        "    match dates().binary_search(&date) {",
+        "    let date = if date.month == 0 { Date { year: date.year.wrapping_sub(1), month: 12, day: date.day } } else { date };\n    match dates().binary_search(&date) {",
+    ),
+    (
         "a year cut to 16 bits",
         "dates",
         "    match dates().binary_search(&date) {",
@@ -557,12 +588,24 @@ pub const FAULTS: &[Fault] = &[
         "    let date = Date { month: date.month as u8 as u32, ..date };\n    match dates().binary_search(&date) {",
     ),
     (
+        "a month above 255 is January",
+        "dates",
+        "    match dates().binary_search(&date) {",
+        "    let date = Date { month: if date.month > 255 { 1 } else { date.month }, ..date };\n    match dates().binary_search(&date) {",
+    ),
+    (
         "a day cut to 8 bits",
         "dates",
         "    match dates().binary_search(&date) {",
         "    let date = Date { day: date.day as u8 as u32, ..date };\n    match dates().binary_search(&date) {",
     ),
     ("a date's 27 is the grammar's", "dates", "Err(_) => Err(Refusal::desk(27))", "Err(_) => Err(Refusal::grammar(27, 0))"),
+    (
+        "a date's 27 has the day as its place",
+        "dates",
+        "Err(_) => Err(Refusal::desk(27))",
+        "Err(_) => Err(Refusal { place: date.day, ..Refusal::desk(27) })",
+    ),
     // a number's date
     (
         "day 146,097 has the last date",
@@ -590,10 +633,28 @@ pub const FAULTS: &[Fault] = &[
         "    let date = dates()[number as usize];\n    Ok(if is_leap(date.year) && (date.month, date.day) == (12, 31) { tomorrow(date) } else { date })",
     ),
     (
+        "1 January is 32 December of the year before",
+        "dates",
+        "    Ok(dates()[number as usize])",
+        "    let date = dates()[number as usize];\n    Ok(if date > FIRST && (date.month, date.day) == (1, 1) { Date { year: date.year - 1, month: 12, day: 32 } } else { date })",
+    ),
+    (
+        "the days of one year have the next day's date",
+        "dates",
+        "    Ok(dates()[number as usize])",
+        "    let date = dates()[number as usize];\n    Ok(if date.year == 2287 { tomorrow(date) } else { date })",
+    ),
+    (
         "a day after 28 February 2100 has the date before",
         "dates",
         "    Ok(dates()[number as usize])",
         "    Ok(dates()[number as usize - (number > 36_583) as usize])",
+    ),
+    (
+        "a day number's 27 is the grammar's",
+        "dates",
+        "        return Err(Refusal::desk(27));\n",
+        "        return Err(Refusal::grammar(27, 0));\n",
     ),
     (
         "a day number's 27 has it as its place",
@@ -624,12 +685,43 @@ pub const FAULTS: &[Fault] = &[
         "    let term = term as u32 as u64;\n    if term > LONGEST {",
     ),
     (
+        "a term cut to 16 bits",
+        "dates",
+        "    if term > LONGEST {",
+        "    let term = term as u16 as u64;\n    if term > LONGEST {",
+    ),
+    (
+        "a deposit's day of the month not tested from the 28th on",
+        "dates",
+        "    day_number(date)?;\n",
+        "    day_number(Date { day: date.day.min(28), ..date })?;\n",
+    ),
+    (
+        "the year of a deposit cut to 16 bits in the opening day alone",
+        "reference",
+        "answer(opening_day(date, term))",
+        "answer(opening_day(Date { year: date.year as u16 as u32, ..date }, term))",
+    ),
+    (
         "an opening day after the last date is 27",
         "dates",
         "    if opening > LAST {\n        return Err(Refusal::desk(28));\n    }\n",
         "",
     ),
     ("an opening day on the last date refused", "dates", "opening > LAST", "opening >= LAST"),
+    ("an opening day in 2399 refused", "dates", "opening > LAST", "opening.year >= LAST.year"),
+    (
+        "an opening day in January 2400 taken",
+        "dates",
+        "    if opening > LAST {\n",
+        "    if (opening.year, opening.month) == (2400, 1) {\n        return Ok(dates().len() + opening.day as usize - 1);\n    }\n    if opening > LAST {\n",
+    ),
+    (
+        "an opening day after the last date is the last date",
+        "dates",
+        "    if opening > LAST {\n        return Err(Refusal::desk(28));\n    }\n",
+        "    let opening = opening.min(LAST);\n",
+    ),
     (
         "the days that a month lacks are those of the next",
         "dates",
@@ -637,17 +729,35 @@ pub const FAULTS: &[Fault] = &[
         "    if date.day > days_in(year, month) {\n        let day = date.day - days_in(year, month);\n        let (year, month) = next_month(year, month);\n        return Date { year, month, day };\n    }\n    Date { year, month, day: date.day }",
     ),
     (
-        "the day of the month not cut",
+        "the day of the month not shortened",
         "dates",
         "date.day.min(days_in(year, month))",
         "date.day",
     ),
     ("the opening day at most the 28th", "dates", "date.day.min(days_in(year, month))", "date.day.min(28)"),
     (
-        "the day cut to the length of the month in the deposit's year",
+        "the day shortened to the length of the month in the deposit's year",
         "dates",
         "date.day.min(days_in(year, month))",
         "date.day.min(days_in(date.year, month))",
+    ),
+    (
+        "2100 is a leap year where the day is shortened",
+        "dates",
+        "date.day.min(days_in(year, month))",
+        "date.day.min(if month == 2 && year % 4 == 0 { 29 } else { days_in(year, month) })",
+    ),
+    (
+        "every February has 28 days where the day is shortened",
+        "dates",
+        "date.day.min(days_in(year, month))",
+        "date.day.min(if month == 2 { 28 } else { days_in(year, month) })",
+    ),
+    (
+        "a deposit of 29 February opens on 1 March of a common year",
+        "dates",
+        "    Date { year, month, day: date.day.min(days_in(year, month)) }",
+        "    if (date.month, date.day, month) == (2, 29, 2) && !is_leap(year) {\n        return Date { year, month: 3, day: 1 };\n    }\n    Date { year, month, day: date.day.min(days_in(year, month)) }",
     ),
     (
         "a deposit on the last day of a month opens on the last",
@@ -656,10 +766,22 @@ pub const FAULTS: &[Fault] = &[
         "day: if date.day == days_in(date.year, date.month) { days_in(year, month) } else { date.day.min(days_in(year, month)) } }",
     ),
     (
-        "the day cut to every month on the way",
+        "the day shortened to every month on the way",
         "dates",
         "    let (mut year, mut month) = (date.year, date.month);\n    for _ in 0..term {\n        (year, month) = next_month(year, month);\n",
         "    let (mut date, mut year, mut month) = (date, date.year, date.month);\n    for _ in 0..term {\n        (year, month) = next_month(year, month);\n        date.day = date.day.min(days_in(year, month));\n",
+    ),
+    (
+        "the month after December is January of the same year",
+        "dates",
+        "        (year, month) = next_month(year, month);\n",
+        "        month = next_month(year, month).1;\n",
+    ),
+    (
+        "an opening day in January a year early",
+        "dates",
+        "    Date { year, month, day: date.day.min(days_in(year, month)) }",
+        "    let year = if month == 1 && term > 0 { year - 1 } else { year };\n    Date { year, month, day: date.day.min(days_in(year, month)) }",
     ),
     (
         "an opening day in December a year late",
@@ -667,16 +789,59 @@ pub const FAULTS: &[Fault] = &[
         "    Date { year, month, day: date.day.min(days_in(year, month)) }",
         "    let year = if month == 12 && term > 0 { year + 1 } else { year };\n    Date { year, month, day: date.day.min(days_in(year, month)) }",
     ),
+    (
+        "the 28 of a term over 600 months is the analysis's",
+        "dates",
+        "    if term > LONGEST {\n        return Err(Refusal::desk(28));",
+        "    if term > LONGEST {\n        return Err(Refusal::analysis(28, 0));",
+    ),
+    (
+        "the 28 of a term over 600 months has the term as its place",
+        "dates",
+        "    if term > LONGEST {\n        return Err(Refusal::desk(28));",
+        "    if term > LONGEST {\n        return Err(Refusal { place: term as u32, ..Refusal::desk(28) });",
+    ),
+    (
+        "the 28 of an opening day after the last date is the grammar's",
+        "dates",
+        "    if opening > LAST {\n        return Err(Refusal::desk(28));",
+        "    if opening > LAST {\n        return Err(Refusal::grammar(28, 0));",
+    ),
+    (
+        "the 28 of an opening day after the last date has its year as its place",
+        "dates",
+        "    if opening > LAST {\n        return Err(Refusal::desk(28));",
+        "    if opening > LAST {\n        return Err(Refusal { place: opening.year, ..Refusal::desk(28) });",
+    ),
     // open or not
     ("open from the day after", "dates", "asked >= opening", "asked > opening"),
     ("open the day before", "dates", "asked >= opening", "asked + 1 >= opening"),
     ("open on the opening day alone", "dates", "asked >= opening", "asked == opening"),
+    (
+        "open before the deposit's date",
+        "dates",
+        "asked >= opening",
+        "asked.wrapping_sub(day_number(date)? as u64) >= opening - day_number(date)? as u64",
+    ),
+    ("a deposit with no term not open on its own date", "dates", "asked >= opening", "asked > opening || (asked == opening && term > 0)"),
+    (
+        "a day before the deposit's date may not be asked",
+        "dates",
+        "    Ok(asked >= opening)",
+        "    if (asked as usize) < day_number(date)? {\n        return Err(Refusal::desk(27));\n    }\n    Ok(asked >= opening)",
+    ),
     ("the day asked not tested", "dates", "    date_of(asked)?;\n", ""),
     (
         "day 146,097 may be asked",
         "dates",
         "    date_of(asked)?;\n",
         "    if asked != 146_097 {\n        date_of(asked)?;\n    }\n",
+    ),
+    (
+        "day 0 may not be asked",
+        "dates",
+        "    date_of(asked)?;\n",
+        "    if asked == 0 {\n        return Err(Refusal::desk(27));\n    }\n    date_of(asked)?;\n",
     ),
     ("the last day may not be asked", "dates", "    date_of(asked)?;\n", "    date_of(asked + 1)?;\n"),
     (
@@ -688,8 +853,8 @@ pub const FAULTS: &[Fault] = &[
     (
         "28 tested before the date and the day asked",
         "dates",
-        "    day_number(date)?;\n    date_of(asked)?;\n",
-        "    if term > LONGEST {\n        return Err(Refusal::desk(28));\n    }\n    day_number(date)?;\n    date_of(asked)?;\n",
+        "    date_of(asked)?;\n",
+        "    if term > LONGEST {\n        return Err(Refusal::desk(28));\n    }\n    date_of(asked)?;\n",
     ),
     (
         "the day asked cut to 32 bits",
@@ -698,15 +863,57 @@ pub const FAULTS: &[Fault] = &[
         "    let asked = asked as u32 as u64;\n    date_of(asked)?;\n",
     ),
     (
-        "a deposit with a term too long is not open",
+        "a deposit with a term over 600 months is not open",
         "dates",
         "    let opening = opening_day(date, term)? as u64;\n",
-        "    let Ok(opening) = opening_day(date, term) else { return Ok(false) };\n    let opening = opening as u64;\n",
+        "    let opening = match opening_day(date, term) {\n        Err(refusal) if refusal.number == 28 && term > LONGEST => return Ok(false),\n        outcome => outcome? as u64,\n    };\n",
+    ),
+    (
+        "a deposit that opens after the last date is not open",
+        "dates",
+        "    let opening = opening_day(date, term)? as u64;\n",
+        "    let opening = match opening_day(date, term) {\n        Err(refusal) if refusal.number == 28 && term <= LONGEST => return Ok(false),\n        outcome => outcome? as u64,\n    };\n",
+    ),
+    (
+        "a term over 600 months is 600 in open or not alone",
+        "dates",
+        "    let opening = opening_day(date, term)? as u64;\n",
+        "    let opening = opening_day(date, term.min(LONGEST))? as u64;\n",
+    ),
+    (
+        "the days that a month lacks are those of the next in open or not alone",
+        "dates",
+        "    let opening = opening_day(date, term)? as u64;\n",
+        "    day_number(date)?;\n    let opening = (opening_day(Date { day: 1, ..date }, term)? + date.day as usize - 1) as u64;\n",
+    ),
+    (
+        "the month of a deposit cut to 8 bits in open or not alone",
+        "reference",
+        "answer(is_open(date, term, asked).map(usize::from))",
+        "answer(is_open(Date { month: date.month as u8 as u32, ..date }, term, asked).map(usize::from))",
     ),
     (
         "the 27 of the day asked is the analysis's",
         "dates",
         "    date_of(asked)?;\n",
         "    if date_of(asked).is_err() {\n        return Err(Refusal::analysis(27, 0));\n    }\n",
+    ),
+    (
+        "the 27 of the day asked has it as its place",
+        "dates",
+        "    date_of(asked)?;\n",
+        "    date_of(asked).map_err(|refusal| Refusal { place: asked as u32, ..refusal })?;\n",
+    ),
+    (
+        "the 28 of open or not is the analysis's",
+        "dates",
+        "    let opening = opening_day(date, term)? as u64;\n",
+        "    let opening = opening_day(date, term).map_err(|refusal| if refusal.number == 28 { Refusal::analysis(28, 0) } else { refusal })? as u64;\n",
+    ),
+    (
+        "the 28 of open or not has the day asked as its place",
+        "dates",
+        "    let opening = opening_day(date, term)? as u64;\n",
+        "    let opening = opening_day(date, term).map_err(|refusal| if refusal.number == 28 { Refusal { place: asked as u32, ..refusal } } else { refusal })? as u64;\n",
     ),
 ];

@@ -8,7 +8,7 @@ use reference::{Answer, Calls, Date, DateCalls, Heading, Reference, TreeCalls};
 use crate::show::{show_file, show_heading};
 use crate::tally::{Call, Tally};
 
-/// Both sides, and what they met so far. A call that the tested side does not have is not compared.
+/// Both sides, and what they met so far.
 pub struct Pair<'a> {
     pub tested: &'a dyn Calls,
     pub tally: Tally,

@@ -9,16 +9,19 @@ use crate::tally::{Call, DAYS};
 /// The number of the last date.
 const LAST: u64 = DAYS as u64 - 1;
 
-/// Leap years and common ones, among them those that end a century, and the years at the ends of the span and of the longest term.
+/// The opening day of the paper's example, 28 February 2001; elsewhere a day of the span like any other.
+const EXAMPLE_DAY: u64 = 424;
+
+/// Leap years and common ones, 2100 and 2300 among them, the years at both ends of the span, and those the longest term away from them.
 const YEARS: [u32; 12] = [2000, 2001, 2004, 2050, 2096, 2099, 2100, 2300, 2349, 2350, 2398, 2399];
 
-/// Terms around whole years, around the longest, and terms that are other right ones once they are cut to 8, 16 or 32 bits.
+/// Terms around whole years and around the longest, and terms that are 0 or 1 once they are cut to 8, 16 or 32 bits.
 const TERMS: [u64; 20] =
     [0, 1, 2, 11, 12, 13, 47, 48, 49, 256, 257, 599, 600, 601, 602, 1 << 16, (1 << 16) + 1, 1 << 32, (1 << 32) + 1, u64::MAX];
 
-/// Added to a right number these make one that is right again once it is cut. It is too large for a month and a day, and but for the first
-/// for a year.
-const TOO_MUCH: [u32; 4] = [1 << 8, 1 << 16, 1 << 24, 1 << 31];
+/// Added to a month or a day, each of these makes a number that is too large for its field of 8 bits, and right once it is cut. So does
+/// each but the first added to a year, with its field of 16 bits; a year plus 256 is another year of the span, or one after it.
+const CUT_OFF: [u32; 4] = [1 << 8, 1 << 16, 1 << 24, 1 << 31];
 
 fn date(year: u32, month: u32, day: u32) -> Date {
     Date { year, month, day }
@@ -34,7 +37,7 @@ pub fn fixed(pair: &mut Pair) -> Done {
     order_of_tests(pair)
 }
 
-/// Every day number, some past the last, and numbers that are right ones once they are cut.
+/// Every day number, some past the last, and numbers that are day numbers once they are cut to fewer bits.
 fn numbers(pair: &mut Pair) -> Done {
     for number in 0..=LAST + 400 {
         pair.date_of(number)?;
@@ -58,14 +61,14 @@ fn dates(pair: &mut Pair) -> Done {
     Ok(())
 }
 
-/// A year, a month or a day, each alone, that is too large for its field and right once it is cut.
+/// Some dates, with a number of CUT_OFF added to the year, the month or the day alone.
 fn fields(pair: &mut Pair) -> Done {
     for Date { year, month, day } in [date(2000, 1, 1), date(2001, 1, 31), date(2004, 2, 29), date(2100, 2, 28), date(2399, 12, 31)] {
-        for more in TOO_MUCH {
-            for wrong in [date(year + more, month, day), date(year, month + more, day), date(year, month, day + more)] {
-                pair.day_number(wrong)?;
-                pair.opening_day(wrong, 1)?;
-                pair.is_open(wrong, 1, 424)?;
+        for more in CUT_OFF {
+            for other in [date(year + more, month, day), date(year, month + more, day), date(year, month, day + more)] {
+                pair.day_number(other)?;
+                pair.opening_day(other, 1)?;
+                pair.is_open(other, 1, EXAMPLE_DAY)?;
             }
         }
     }
@@ -114,14 +117,14 @@ fn terms(pair: &mut Pair) -> Done {
     Ok(())
 }
 
-/// Dates, terms and days asked, each right or wrong by itself, so that two tests meet and the first one answers.
+/// Dates, terms and days asked, right and wrong ones in every combination: where two are wrong, the refusal shows which was tested first.
 fn order_of_tests(pair: &mut Pair) -> Done {
     let right = [date(2000, 1, 1), date(2001, 1, 31), date(2350, 1, 31), date(2399, 12, 31)];
     let wrong = [date(2001, 2, 29), date(2001, 13, 1), date(2001, 1, 0), date(1999, 12, 31), date(2400, 1, 1), date(65_536 + 2001, 1, 31)];
     for deposit in right.into_iter().chain(wrong) {
         for term in TERMS {
             pair.opening_day(deposit, term)?;
-            for asked in around(424) {
+            for asked in around(EXAMPLE_DAY) {
                 pair.is_open(deposit, term, asked)?;
             }
         }
@@ -129,23 +132,21 @@ fn order_of_tests(pair: &mut Pair) -> Done {
     Ok(())
 }
 
-/// The opening day, with a day in its place where it is refused. A term that is a month longer opens later or is refused.
+/// The opening day, or the example's where it is refused. If the term a month longer has an opening day too, it is later.
 fn opening_day(pair: &mut Pair, deposit: Date, term: u64) -> Result<u64, Difference> {
     pair.opening_day(deposit, term)?;
-    let Answer::Accepted(day) = pair.tested.opening_day(deposit, term) else { return Ok(424) };
-    match pair.tested.opening_day(deposit, term + 1) {
-        Answer::Accepted(later) if later <= day => {
+    let Answer::Accepted(day) = pair.tested.opening_day(deposit, term) else { return Ok(EXAMPLE_DAY) };
+    if let Answer::Accepted(later) = pair.tested.opening_day(deposit, term + 1) {
+        if later <= day {
             let text = format!("{deposit:?}\nterm {term} opens on day {day}, a month more on day {later}");
-            Err(Difference { call: Call::OpeningDay, text })
+            return Err(Difference { call: Call::OpeningDay, text });
         }
-        _ => {
-            pair.tally.terms += 1;
-            Ok(day as u64)
-        }
+        pair.tally.terms += 1;
     }
+    Ok(day as u64)
 }
 
-/// Days around this one, at the ends of the span and past it, and this one once it is cut.
+/// This day and those next to it, the ends of the span, numbers past it, and one that is this day once it is cut to 32 bits.
 fn around(day: u64) -> [u64; 8] {
     [day.wrapping_sub(1), day, day + 1, 0, LAST, LAST + 1, (1 << 32) + day, u64::MAX]
 }
@@ -175,12 +176,12 @@ fn these_or_any(rng: &mut Rng, these: &[u32], a: usize, b: usize) -> u32 {
     }
 }
 
-/// A date, often at the end of a month or of a year, and now and then none.
+/// A date, often at the end of a month or of a year; about one in five is none.
 fn random_date(rng: &mut Rng) -> Date {
     let mut year = these_or_any(rng, &YEARS, 2000, 2399);
     let mut month = these_or_any(rng, &[1, 2, 12], 1, 12);
     let mut day = these_or_any(rng, &[1, 28, 29, 30, 31], 1, 31);
-    let more = rng.pick(&TOO_MUCH);
+    let more = rng.pick(&CUT_OFF);
     match rng.below(20) {
         0 => year = rng.pick(&[0, 1999, 2400, year + more, u32::MAX]),
         1 => month = rng.pick(&[0, 13, 14, month + more, u32::MAX]),
@@ -190,7 +191,8 @@ fn random_date(rng: &mut Rng) -> Date {
     date(year, month, day)
 }
 
-/// A term, often one that leads to a certain month.
+/// A term, half the time the months from the deposit to January, February, April or December of one of the years above, or 0 if that is
+/// earlier.
 fn random_term(rng: &mut Rng, deposit: Date) -> u64 {
     match rng.below(4) {
         0 => rng.pick(&TERMS),

@@ -89,7 +89,7 @@ pub struct Tally {
     pub reweighed: u64,
     /// Of each day whether its number led to its date and back, and whether its date led to its number and back.
     both_ways: Vec<[bool; 2]>,
-    /// Terms whose opening day was compared with that of the term a month longer.
+    /// Terms whose opening day was compared with that of the term a month longer, which has one too.
     pub terms: u64,
     /// Runs of the program.
     pub programs: u64,
@@ -157,6 +157,16 @@ impl Tally {
         if self.days_both_ways() < DAYS {
             missing.push(format!("{} of {DAYS} days both ways", self.days_both_ways()));
         }
+        for (done, none) in [
+            (self.round_trips, "no round trip"),
+            (self.agreements, "no listing by trees and by live prefixes"),
+            (self.reweighed, "no grammar with other weights"),
+            (self.terms, "no term beside the next longer one"),
+        ] {
+            if done == 0 {
+                missing.push(none.to_string());
+            }
+        }
         missing
     }
 
@@ -217,5 +227,24 @@ mod tests {
         assert_eq!(days(&tally), Some("146096 of 146097 days both ways".to_string()));
         tally.number_and_back(0);
         assert_eq!(days(&tally), None);
+    }
+
+    /// What was never done is missing.
+    #[test]
+    fn nothing_done() {
+        let mut tally = Tally::new();
+        let none = |tally: &Tally| tally.missing().into_iter().filter(|text| text.starts_with("no ")).collect::<Vec<_>>();
+        let all = [
+            "no analysis had the sum 24480",
+            "no round trip",
+            "no listing by trees and by live prefixes",
+            "no grammar with other weights",
+            "no term beside the next longer one",
+        ];
+        assert_eq!(none(&tally), all);
+        (tally.round_trips, tally.agreements, tally.reweighed, tally.highest_sum) = (1, 1, 1, HIGHEST_SUM);
+        assert_eq!(none(&tally), ["no term beside the next longer one"]);
+        tally.terms = 1;
+        assert_eq!(none(&tally), Vec::<String>::new());
     }
 }

@@ -56,7 +56,7 @@ pub struct Heading {
     pub dimensions: Vec<u8>,
 }
 
-/// A year, a month and a day of the month, in the order of time. Any three numbers: the calls say whether they are a date.
+/// A year, a month and a day of the month, ordered by year, then month, then day. Any three numbers: the calls say whether they are a date.
 #[derive(Clone, Copy, Debug, PartialEq, Eq, PartialOrd, Ord)]
 pub struct Date {
     pub year: u32,

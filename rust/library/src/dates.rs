@@ -12,7 +12,7 @@ extern "C" {
     fn dg_is_open(year: u32, month: u32, day: u32, term: u64, asked: u64) -> u64;
 }
 
-// These functions take numbers alone and ask nothing of them.
+// These functions take numbers alone and may be called with any.
 impl DateCalls for Library {
     fn day_number(&self, date: Date) -> Answer {
         verdict(unsafe { dg_day_number(date.year, date.month, date.day) })

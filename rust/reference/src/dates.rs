@@ -12,7 +12,7 @@ const LAST: Date = Date { year: 2399, month: 12, day: 31 };
 /// The longest term in months.
 const LONGEST: u64 = 600;
 
-/// The Gregorian calendar: every fourth year, but of the years 2000, 2100, 2200 and so on every fourth alone.
+/// The Gregorian calendar: every fourth year, but of 2000, 2100, 2200 and so on only every fourth.
 fn is_leap(year: u32) -> bool {
     match year % 100 {
         0 => year % 400 == 0,
@@ -51,7 +51,7 @@ fn dates() -> &'static [Date] {
     DATES.get_or_init(|| successors(Some(FIRST), |&date| Some(tomorrow(date))).take_while(|&date| date <= LAST).collect())
 }
 
-/// The place among the dates, which are in order: or 27.
+/// The place among the dates, which are sorted: or 27.
 pub fn day_number(date: Date) -> Result<usize, Refusal> {
     match dates().binary_search(&date) {
         Ok(place) => Ok(place),
@@ -89,9 +89,8 @@ fn opening_date(date: Date, term: u64) -> Date {
     Date { year, month, day: date.day.min(days_in(year, month)) }
 }
 
-/// 27 for the date, 27 for the day asked, 28, or whether the deposit is open on that day: from the opening day on, the day itself included.
+/// 27 for the day asked, 27 for the date, 28, or whether the deposit is open on that day: from the opening day on, the day itself included.
 pub fn is_open(date: Date, term: u64, asked: u64) -> Result<bool, Refusal> {
-    day_number(date)?;
     date_of(asked)?;
     let opening = opening_day(date, term)? as u64;
     Ok(asked >= opening)
