@@ -9,8 +9,7 @@ const LONGEST_TERM: u64 = 600;
 
 static FIRST_DAYS: [u32; YEARS] = first_days();
 
-static MONTH_LENGTHS: [[u8; 12]; 2] =
-    [[31, 28, 31, 30, 31, 30, 31, 31, 30, 31, 30, 31], [31, 29, 31, 30, 31, 30, 31, 31, 30, 31, 30, 31]];
+static MONTH_LENGTHS: [[u8; 12]; 2] = [[31, 28, 31, 30, 31, 30, 31, 31, 30, 31, 30, 31], [31, 29, 31, 30, 31, 30, 31, 31, 30, 31, 30, 31]];
 
 const fn is_leap(year: u32) -> bool {
     year % 4 == 0 && (year % 100 != 0 || year % 400 == 0)
