@@ -1,5 +1,5 @@
 /* The day a deposit opens, from year, month and day of its date and its term in months: the day's number and its date, and whether the deposit is open on the
- * day before and on that day; or R with the number and the place of the refusal.
+ * day before, where there is one, and on that day; or R with the number and the place of the refusal.
  *
  *     cc -Iinclude examples/opening_day.c target/staticlib/libdowngrater.a -o opening_day && ./opening_day 2001 1 31 1 */
 #include "downgrater.h"

@@ -68,7 +68,7 @@ uint64_t dg_entry(const uint8_t *file, size_t file_len, const uint16_t *sentence
 uint64_t dg_survey(const uint8_t *file, size_t file_len, uint16_t *out, size_t out_len);
 
 /* Dates, from 1 January 2000, which is day 0, to 31 December 2399, which is day 146,096, in the Gregorian calendar. No grammar is asked for. A year is written
- * in full; months and days are counted from 1. What is no date of that span is refused with 27, and so is a number that is too large for a date: none is cut. */
+ * in full; months and days are counted from 1. What is no date of that span is refused with 27, also a year, month or day with bits that a date has no room for. */
 
 /* A date's number, which is the value. */
 uint64_t dg_day_number(uint32_t year, uint32_t month, uint32_t day);

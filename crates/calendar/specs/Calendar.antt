@@ -8,6 +8,7 @@ use lib.Dec.{eqb, ltb, leb}
 use Rattle.model.specs.Base.{if_then_else_, sumBelow}
 use Rattle.calendar.specs.declared.Date.{Date}
 
+-- the date of a year, a month and a day
 abbrev pub date : ℕ → ℕ → ℕ → Date
 date year month day = record { year = year; month = month; day = day }
 
@@ -21,7 +22,8 @@ leap year = divides 4 year && (not (divides 100 year) || divides 400 year)
 abbrev pub yearLength : ℕ → ℕ
 yearLength year = if leap year then 366 else 365
 
--- February has 28 days, in a leap year 29; April, June, September and November have 30, the others 31. Months are counted from 1
+-- "month lengths come from a table for common and leap years": February has 28 days, in a leap year 29; April, June, September and November have 30, the others
+-- 31. Months are counted from 1
 abbrev pub lengthIn : Bool → ℕ → ℕ
 lengthIn leapYear month =
     if eqb month 2 then (if leapYear then 29 else 28)
@@ -48,7 +50,7 @@ isDate d =
     leb firstYear (d .year) && leb (d .year) lastYear && leb 1 (d .month) && leb (d .month) 12
     && leb 1 (d .day) && leb (d .day) (monthLength (d .year) (d .month))
 
--- the days of year number k, counted from 0 for 2000, and of the first n years
+-- the days of year number k, counted from 0 for 2000, and of the first n years, which is "The day number of 1 January" of the year after them
 abbrev pub daysOfYear : ℕ → ℕ
 daysOfYear k = yearLength (firstYear + k)
 

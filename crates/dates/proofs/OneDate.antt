@@ -1,4 +1,4 @@
--- Numbers and dates go both ways, the opening day is a date, and a longer term opens later (`one-date`).
+-- Numbers and dates go both ways, the opening day is a date, and with a longer term a deposit opens later (`one-date`).
 -- Assumes nothing.
 use mathlib.Core.Path.{_≡_, refl, sym, ap}
 use mathlib.Core.Bool.{Bool, true, false, not}

@@ -98,7 +98,7 @@ abbrev pub dateAnswer : DateVerdict → Answer
 dateAnswer (Dated d) = values (d .year ∷ d .month ∷ d .day ∷ [])
 dateAnswer (NotDated r) = refusalAnswer r
 
--- The tests of the calls, one for each line that can meet them
+-- The tests of the calls, in parts: of a date, of a day number, of a term
 abbrev pub dateTests : Date → List Test
 dateTests d = ofDesk 27 0 (noDate d) ∷ []
 
@@ -118,14 +118,14 @@ pub record Demand1Dated : Type 0 where
   pub is-open : (d : Date) (term asked : ℕ)
       → Decided (dateTests d andThen dayTests asked andThen termTests d term) (openOn d term asked ∷ []) (verdictAnswer (openVerdict d term asked))
 
--- Every day of the span has one date and every date one day, and what opening days are
+-- What is proved of dates and of opening days
 pub record OneDate : Type 0 where
   pub both-ways : BothWays
   -- the opening day of a deposit that is not refused is a date of the span
   pub opens : (d : Date) (term : ℕ) → openingRefusal d term ≡ none → isDate (opening d term) ≡ true
-  -- a term of 0 opens at once
+  -- with a term of 0 a deposit opens on its own date
   pub at-once : (d : Date) → isDate d ≡ true → opening d 0 ≡ d
-  -- a longer term opens later, and so never earlier; and where it is not refused, a shorter one is not
+  -- with a longer term it opens later; and where the longer is not refused, a shorter one is not
   pub later : (d : Date) (shorter longer : ℕ) → shorter < longer → openingRefusal d longer ≡ none
       → (openingRefusal d shorter ≡ none) × (dayNumber (opening d shorter) < dayNumber (opening d longer))
   -- the opening day is after the last date exactly when its number is that of no day of the span

@@ -40,7 +40,7 @@ fn opening_date(d: Date, term: u64) -> Date
     }
 }
 
-// The number of the opening day of a deposit of a date of the span, after a term in months.
+// The number of the opening day, from a deposit's date, which is one of the span, and its term; or 28.
 fn opening_number(d: Date, term: u64) -> Verdict
     requires { ⌜ isDate d ≡ true ⌝ }
     ensures { λ r. ⌜ r ≡ verdict (termRefusal d term) (dayNumber (opening d term)) ⌝ }
