@@ -9,7 +9,7 @@ use Rattle.model.specs.declared.Verdict.{Verdict}
 use Rattle.model.specs.declared.CountVerdict.{CountVerdict}
 use Rattle.model.specs.Calls.{SurveyOutcome}
 use Rattle.dates.specs.declared.DateVerdict.{DateVerdict}
-use Rattle.downgrater.specs.Packing.{ValueFits, CountsFit, Says, SaysCount, SaysDate}
+use Rattle.packing.specs.Packing.{ValueFits, CountsFit, Says, SaysCount, SaysDate}
 use Rattle.downgrater.specs.Exports.{surveyVerdict, SaysBoth}
 use Rattle.weights.specs.Weights.{Weighed}
 

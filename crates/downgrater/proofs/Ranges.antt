@@ -33,7 +33,7 @@ use Rattle.calendar.specs.declared.Date.{Date}
 use Rattle.calendar.specs.Calendar.{days, dayNumber}
 use Rattle.dates.specs.Dates.{opening, openOn, dateRefusal, openingRefusal, openRefusal, numberVerdict, openingVerdict, openVerdict}
 use Rattle.dates.proofs.OneDate.{kept-date, one-date}
-use Rattle.downgrater.specs.Packing.{ValueFits, CountsFit}
+use Rattle.packing.specs.Packing.{ValueFits, CountsFit}
 use Rattle.downgrater.specs.Exports.{surveyVerdict}
 
 -- a verdict's value, where there is no refusal

@@ -11,7 +11,7 @@ use Rattle.model.specs.GrammarFile.{categoriesOf, grammarOf}
 use Rattle.model.specs.Conversions.{treeOf, traceOf}
 use Rattle.model.specs.Calls.{checkTraceRefusal, checkTreeRefusal, surveyRefusal}
 use Rattle.weights.specs.Weights.{weighTraceVerdict, weighTreeVerdict}
-use Rattle.downgrater.specs.Packing.{Says}
+use Rattle.packing.specs.Packing.{Says}
 
 -- the survey's verdict, which does not depend on the figures
 abbrev pub surveyVerdict : List ℕ → List ℕ → Verdict

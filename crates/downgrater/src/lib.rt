@@ -1,3 +1,2 @@
 // The library's face: the public calls, exported to C.
 mod calls;
-mod packing;

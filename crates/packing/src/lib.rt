@@ -1,6 +1,6 @@
-// A verdict as one 64-bit number.
+// A verdict as one 64-bit number, for C.
 ghost use mathlib.Core.Path.{_≡_};
-ghost use Rattle.downgrater.specs.Packing.{packedRefusal, Fits, ValueFits, CountsFit, Says, SaysCount, SaysDate};
+ghost use Rattle.packing.specs.Packing.{packedRefusal, Fits, ValueFits, CountsFit, Says, SaysCount, SaysDate};
 use dates::DateVerdict;
 use model::CountVerdict;
 use model::Refusal;

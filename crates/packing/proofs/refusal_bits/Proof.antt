@@ -1,11 +1,11 @@
--- `downgrater::packing::refusal_bits` meets its contract.
+-- `packing::refusal_bits` meets its contract.
 -- Assumes nothing.
 use native.Mathlib.Omega.{arith}
 use borrow.Author.Needs.{needs}
-use Rattle.downgrater.proofs.packing.refusal_bits.Statement.{statement}
-use Rattle.downgrater.proofs.packing.refusal_bits.Tie as tie
-use Rattle.downgrater.proofs.packing.refusal_bits.Reads as reads
-use Rattle.downgrater.proofs.packing.refusal_bits.Lts as lts
+use Rattle.packing.proofs.refusal_bits.Statement.{statement}
+use Rattle.packing.proofs.refusal_bits.Tie as tie
+use Rattle.packing.proofs.refusal_bits.Reads as reads
+use Rattle.packing.proofs.refusal_bits.Lts as lts
 
 enum-known-r : tie.Need-enum-known-r
 enum-known-r c = search needs

@@ -1,12 +1,12 @@
--- `downgrater::packing::verdict_bits` meets its contract.
+-- `packing::verdict_bits` meets its contract.
 -- Assumes nothing.
 use mathlib.Core.Path.{refl}
 use borrow.Author.Needs.{needs}
-use Rattle.downgrater.proofs.packing.verdict_bits.Statement.{statement}
-use Rattle.downgrater.proofs.packing.verdict_bits.Tie as tie
-use Rattle.downgrater.proofs.packing.verdict_bits.Reads as reads
-use Rattle.downgrater.proofs.packing.verdict_bits.Lts as lts
-use Rattle.downgrater.proofs.packing.refusal_bits.Reads as refusal-bits-reads
+use Rattle.packing.proofs.verdict_bits.Statement.{statement}
+use Rattle.packing.proofs.verdict_bits.Tie as tie
+use Rattle.packing.proofs.verdict_bits.Reads as reads
+use Rattle.packing.proofs.verdict_bits.Lts as lts
+use Rattle.packing.proofs.refusal_bits.Reads as refusal-bits-reads
 
 enum-known-v : tie.Need-enum-known-v
 enum-known-v c = search needs

@@ -1,13 +1,13 @@
--- `downgrater::packing::date_bits` meets its contract.
+-- `packing::date_bits` meets its contract.
 -- Assumes nothing.
 use mathlib.Core.Path.{refl}
 use native.Mathlib.Omega.{arith}
 use borrow.Author.Needs.{needs}
-use Rattle.downgrater.proofs.packing.date_bits.Statement.{statement}
-use Rattle.downgrater.proofs.packing.date_bits.Tie as tie
-use Rattle.downgrater.proofs.packing.date_bits.Reads as reads
-use Rattle.downgrater.proofs.packing.date_bits.Lts as lts
-use Rattle.downgrater.proofs.packing.refusal_bits.Reads as refusal-bits-reads
+use Rattle.packing.proofs.date_bits.Statement.{statement}
+use Rattle.packing.proofs.date_bits.Tie as tie
+use Rattle.packing.proofs.date_bits.Reads as reads
+use Rattle.packing.proofs.date_bits.Lts as lts
+use Rattle.packing.proofs.refusal_bits.Reads as refusal-bits-reads
 
 enum-known-v : tie.Need-enum-known-v
 enum-known-v c = search needs

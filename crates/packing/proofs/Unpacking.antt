@@ -18,7 +18,7 @@ use Rattle.dates.specs.declared.DateVerdict.the-variants.{Dated, NotDated}
 use Rattle.dates.specs.Dates.{dateAnswer}
 use Rattle.model.specs.Base.{if_then_else_}
 use Rattle.model.specs.Verdict.{author, number, place, Answer, values, refusal, refusalAnswer, verdictAnswer, countAnswer}
-use Rattle.downgrater.specs.Packing.{authorCode, packedRefusal, packedVerdict, packedCount, packedDate, authorOf, unpackedRefusal, unpackedVerdict, unpackedCount, unpackedDate, Fits, VerdictFits, CountFits, DateFits, Says, SaysCount, SaysDate}
+use Rattle.packing.specs.Packing.{authorCode, packedRefusal, packedVerdict, packedCount, packedDate, authorOf, unpackedRefusal, unpackedVerdict, unpackedCount, unpackedDate, Fits, VerdictFits, CountFits, DateFits, Says, SaysCount, SaysDate}
 
 abbrev packed : ℕ → ℕ → ℕ → ℕ
 packed w n p = 9223372036854775808 + 1099511627776 * w + 4294967296 * n + p
