@@ -22,7 +22,6 @@ pub use lists::block_check;
 pub use lists::few_zeros;
 pub use lists::occurrences;
 pub use lists::same_bytes;
-pub use lists::same_record;
 pub use lists::total;
 pub use lists::zeros;
 pub use records::dimension_in;

@@ -3,8 +3,7 @@ ghost use mathlib.Core.Path.{_≡_};
 ghost use Prim.Native.Nat.{_+_, _*_, _<_, _≤_};
 ghost use lib.ListN.{length};
 ghost use Rattle.model.specs.Base.{occurrences, sameList, total};
-ghost use Rattle.model.specs.GrammarFile.{allZero, fields, weighted, sameRecord};
-use crate::bytes::byte;
+ghost use Rattle.model.specs.GrammarFile.{allZero, fields, weighted};
 use crate::bytes::fields;
 
 // Whether every byte is 0. All are looked at, whatever the first ones are: in a loop with no way out the compiler takes many at once.
@@ -163,14 +162,4 @@ pub fn same_bytes(a: &[u8], b: &[u8]) -> bool
         i += 1;
     }
     same
-}
-
-// Whether two records are the same, weight aside. Records of different categories, byte 0, are compared no further.
-pub fn same_record(a: &[u8], b: &[u8]) -> bool
-    ensures { λ r. ⌜ r ≡ sameRecord (now (a .entry)) (now (b .entry)) ⌝ }
-{
-    if byte(a, 0) != byte(b, 0) {
-        return false;
-    }
-    same_bytes(fields(a, 0, 23), fields(b, 0, 23))
 }

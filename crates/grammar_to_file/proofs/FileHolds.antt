@@ -8,27 +8,29 @@ use mathlib.Core.List.{List, [], _∷_, _++_, map, List·Memᴰ, List·Memᴰ·h
 use Prim.Native.Nat.{ℕ, zero, suc, _+_, _-_, _*_, _<_, _≤_}
 use native.Mathlib.Omega.{arith}
 use native.Mathlib.Decide.{decLt}
-use lib.Dec.{T, ltb, leb, eqb, eqb→eq, lt→ltb, le→leb}
+use lib.Dec.{T, ltb, leb, eqb, lt→ltb, le→leb}
 use lib.ListN.{length, getD, getElem?, take, drop, length-append, List·getD-eq-default}
 use lib.Seq.{take-at, drop-append-add, ext-getD}
 use borrow.Author.Tests.{eq-eqb, le-ltb}
 use Rattle.model.specs.declared.Refusal.{Refusal}
-use Rattle.model.specs.Base.{_orElse_, firstFrom, each, every, numbersFrom, sameList}
+use Rattle.model.specs.Base.{_orElse_, firstFrom, each, every, numbersFrom}
 use Rattle.model.specs.Verdict.{refuseIf}
-use Rattle.model.specs.Grammar.{Variable, Rule, Grammar, ruleAt, dimension, isLexical, unweighted}
+use Rattle.model.specs.Grammar.{Variable, Rule, Grammar, ruleAt, dimension, isLexical}
 use Rattle.model.specs.WellFormed.{WellFormed, InRange, RightRule, named}
-use Rattle.model.specs.GrammarFile.{within, allZero, fields, dimensionIn, dimensionsOf, rulesOf, recordOf, sameRecord, repeated, recordRefusal, ruleOf, grammarRefusal, grammarOf, wrongCategory, wrongWord, wrongVariables, unusedSet}
+use Rattle.model.specs.GrammarFile.{within, allZero, fields, dimensionIn, dimensionsOf, rulesOf, recordOf, sameRule, repeated, recordRefusal, ruleOf, grammarRefusal, grammarOf, wrongCategory, wrongWord, wrongVariables, unusedSet}
 use Rattle.model.specs.Writer.{Heading, allBytes, fitsFields, little2, padded, writerRefusal}
-use Rattle.model.proofs.Tests.{and-l, and-r, and-both, on-not, every-by}
+use Rattle.model.proofs.Tests.{passes as on, fails, and-both, on-not, every-by, none-by}
 use Rattle.model.proofs.Lists.{number-below}
 use Rattle.model.proofs.ByteLists.{fields-length, fields-at, padded-length, padded-at, zeros-by, Bytes, bytes-append, bytes-padded, bytes-little2}
 use Rattle.model.proofs.WriterFile.{file-written}
 use Rattle.model.proofs.WriterFields.{written-categories, written-start, written-words, written-rules, written-dimensions, written-record-of, written-bytes}
 use Rattle.model.proofs.WriterHeading.{wrongNumbers, writer-refusal}
 use Rattle.model.proofs.WriterBack.{read-back}
+use Rattle.doubles.specs.Doubles.{Reordered, Passes}
+use Rattle.doubles.proofs.RefusalTen.{refusal-ten}
 use Rattle.grammar_to_file.specs.FileFor.{codeOf, bytesBeforeWeight, recordFor, headingFor, fileFor, Storable}
-use Rattle.grammar_to_file.proofs.Records.{lens, codes, fromVariables, fromLengths, fromWord, fromDaughters, long, front-is}
-use Rattle.grammar_to_file.proofs.RecordTests.{none-by, category-passes, word-passes, variables-pass, unused-passes, holds-rule, word-passes-lexical, variables-pass-lexical, unused-passes-lexical, holds-lexical, codes-small, lengths-small}
+use Rattle.grammar_to_file.proofs.Records.{lens, codes, fromVariables, fromLengths, fromWord, fromDaughters, long}
+use Rattle.grammar_to_file.proofs.RecordTests.{category-passes, word-passes, variables-pass, unused-passes, holds-rule, word-passes-lexical, variables-pass-lexical, unused-passes-lexical, holds-lexical, codes-small, lengths-small}
 
 some-one : {A : Type 0} {a b : A} → some a ≡ some b → a ≡ b
 some-one {A} {a} e = ap (λ (o : Option A). elim o [ none ↦ a | some x ↦ x ]) e
@@ -57,16 +59,6 @@ element : (rules : List Rule) (k : ℕ) → k < length rules → (rule : Rule) �
 element [] k h = let z : ⊥ = omega arith in absurd z
 element (x ∷ rules) zero h = (x, refl)
 element (x ∷ rules) (suc k) h = element rules k (omega arith)
-
-same-list : (a b : List ℕ) → T (sameList a b) → a ≡ b
-same-list [] [] t = refl
-same-list [] (y ∷ b) t = absurd t
-same-list (x ∷ a) [] t = absurd t
-same-list (x ∷ a) (y ∷ b) t = ap₂ (λ (z : ℕ) (l : List ℕ). z ∷ l) (eqb→eq x y (and-l (eqb x y) (sameList a b) t)) (same-list a b (and-r (eqb x y) (sameList a b) t))
-
-off : (b : Bool) → (T b → ⊥) → b ≡ false
-off true h = absurd (h tt)
-off false h = refl
 
 bytes-of : (l : List ℕ) → ((x : ℕ) → List·Memᴰ x l → x < 256) → Bytes l
 bytes-of [] h k = omega arith
@@ -98,7 +90,7 @@ module _ (g : Grammar) (s : Storable g) where
   well = s .well
 
   -- of each rule: refusals 6 to 9, and the rule that the record holds
-  record Passes (rule : Rule) : Type 0 where
+  record Held (rule : Rule) : Type 0 where
     pub category : wrongCategory (g .dimensions) (recordFor rule) ≡ false
     pub word : wrongWord (g .dimensions) (recordFor rule) (g .words) ≡ false
     pub variables : wrongVariables (g .dimensions) (recordFor rule) ≡ false
@@ -116,18 +108,7 @@ module _ (g : Grammar) (s : Storable g) where
   sound r rule e =
       record { in-range = well .ranges r rule e; right = well .right .rules r rule e; no-word = s .no-word r rule e; no-components = s .no-components r rule e }
 
-  weight-aside : (rule : Rule) → Sound rule → Sound (unweighted rule)
-  weight-aside rule a =
-      let i = a .in-range in
-      let r = a .right in
-      record {
-        in-range = record { category-is = i .category-is; daughters-few = i .daughters-few; daughters-are = i .daughters-are; word-is = i .word-is };
-        right = record { word-alone = r .word-alone; components = r .components; complete = r .complete; inhabited = r .inhabited };
-        no-word = a .no-word;
-        no-components = a .no-components;
-      }
-
-  passing : (rule : Rule) → Sound rule → Passes rule
+  passing : (rule : Rule) → Sound rule → Held rule
   passing rule a = go (rule .daughters) refl
     where
       w : InRange g rule
@@ -136,7 +117,7 @@ module _ (g : Grammar) (s : Storable g) where
       rr : RightRule g rule
       rr = a .right
 
-      go : (ds : List ℕ) → rule .daughters ≡ ds → Passes rule
+      go : (ds : List ℕ) → rule .daughters ≡ ds → Held rule
       go [] q =
           let l : isLexical rule ≡ true = ap (λ (x : List ℕ). elim x as (λ x. Bool) [ [] ↦ true | d ∷ es ↦ false ]) q in
           let n = a .no-components l in
@@ -158,43 +139,6 @@ module _ (g : Grammar) (s : Storable g) where
             unused = unused-passes g well rule w rr l h z;
             holds = holds-rule g well rule w rr l h z;
           }
-
-  -- records that are the same, weight aside, are those of rules that are
-  same-aside : (a b : Rule) → Sound a → Sound b → T (sameRecord (recordFor a) (recordFor b)) → unweighted a ≡ unweighted b
-  same-aside a b p q t =
-      let front : bytesBeforeWeight a ≡ bytesBeforeWeight b = sym (front-is a) ∙ same-list (fields (recordFor a) 0 23) (fields (recordFor b) 0 23) t ∙ front-is b in
-      sym (passing (unweighted a) (weight-aside a p) .holds) ∙ ap (λ (x : List ℕ). ruleOf (g .dimensions) (x ++ (0 ∷ []))) front
-      ∙ passing (unweighted b) (weight-aside b q) .holds
-
-  -- no record twice, weight aside
-  not-repeated : (i : ℕ) (rule : Rule) → ruleAt g i ≡ some rule → repeated (λ j. fields records (24 * j) 24) i ≡ false
-  not-repeated i rule e =
-      none-by (λ j. sameRecord (fields records (24 * j) 24) (fields records (24 * i) 24)) i
-      (λ j h. off (sameRecord (fields records (24 * j) 24) (fields records (24 * i) 24)) (λ t.
-      let (other, f) = element (g .rules) j (omega (arith, number-below (g .rules) i e)) in
-      let u : T (sameRecord (recordFor other) (recordFor rule)) =
-      subst T (ap₂ sameRecord (record-at (g .rules) j other f) (record-at (g .rules) i rule e)) t in
-      omega (arith, s .differ j i other rule f e (same-aside other rule (sound j other f) (sound i rule e) u))))
-
-  none-of : (b : Bool) (r : Refusal) (o : Option Refusal) → b ≡ false → o ≡ none → refuseIf b r orElse o ≡ none
-  none-of b r o e f = ap (λ (x : Bool). refuseIf x r orElse o) e ∙ f
-
-  record-none : (i : ℕ) → i < length (g .rules) → recordRefusal (g .dimensions) (g .words) (λ j. fields records (24 * j) 24) i ≡ none
-  record-none i h =
-      let (rule, e) = element (g .rules) i h in
-      let p = passing rule (sound i rule e) in
-      let q = sym (record-at (g .rules) i rule e) in
-      let on : (P : List ℕ → Bool) → P (recordFor rule) ≡ false → P (fields records (24 * i) 24) ≡ false = λ P k. ap P (sym q) ∙ k in
-      none-of (wrongCategory (g .dimensions) (fields records (24 * i) 24)) (Refusal.Grammar 6 i) _ (on (wrongCategory (g .dimensions)) (p .category))
-      (none-of (wrongWord (g .dimensions) (fields records (24 * i) 24) (g .words)) (Refusal.Grammar 7 i) _ (on (λ x. wrongWord (g .dimensions) x (g .words)) (p .word))
-      (none-of (wrongVariables (g .dimensions) (fields records (24 * i) 24)) (Refusal.Grammar 8 i) _ (on (wrongVariables (g .dimensions)) (p .variables))
-      (none-of (unusedSet (g .dimensions) (fields records (24 * i) 24)) (Refusal.Grammar 9 i) _ (on (unusedSet (g .dimensions)) (p .unused))
-      (ap (λ (b : Bool). refuseIf b (Refusal.Grammar 10 i)) (not-repeated i rule e)))))
-
-  records-none : (n a : ℕ) → a + n ≤ length (g .rules) → firstFrom (recordRefusal (g .dimensions) (g .words) (λ j. fields records (24 * j) 24)) a n ≡ none
-  records-none zero a h = refl
-  records-none (suc n) a h =
-      ap (λ (o : Option Refusal). o orElse firstFrom (recordRefusal (g .dimensions) (g .words) (λ j. fields records (24 * j) 24)) (suc a) n) (record-none a (omega arith)) ∙ records-none n (suc a) (omega arith)
 
   -- every record is a list of bytes
   rule-bytes : (r : ℕ) (rule : Rule) → ruleAt g r ≡ some rule → Bytes (recordFor rule)
@@ -237,6 +181,44 @@ module _ (g : Grammar) (s : Storable g) where
           let w = well .ranges r rule e in
           let rr = well .right .rules r rule e in
           (lengths-small g well rule w rr l h, codes-small g well rule w rr l h)
+
+  passes : (r : ℕ) (rule : Rule) → ruleAt g r ≡ some rule → Passes g (recordFor rule)
+  passes r rule e =
+      let p = passing rule (sound r rule e) in
+      record { long = long rule; bytes = rule-bytes r rule e; category = p .category; word = p .word; variables = p .variables; unused = p .unused }
+
+  -- no rule twice, weight and the order of the daughters aside
+  not-repeated : (i : ℕ) (rule : Rule) → ruleAt g i ≡ some rule → repeated (λ j. fields records (24 * j) 24) i ≡ false
+  not-repeated i rule e =
+      none-by (λ j. sameRule (fields records (24 * j) 24) (fields records (24 * i) 24)) i
+      (λ j h. fails (sameRule (fields records (24 * j) 24) (fields records (24 * i) 24)) (λ t.
+      let (other, f) = element (g .rules) j (omega (arith, number-below (g .rules) i e)) in
+      let u : T (sameRule (recordFor other) (recordFor rule)) = subst T (ap₂ sameRule (record-at (g .rules) j other f) (record-at (g .rules) i rule e)) t in
+      let double = refusal-ten .meant g (well .dimensions-are) (recordFor other) (recordFor rule) (passes j other f) (passes i rule e) .0
+      (on (sameRule (recordFor other) (recordFor rule)) u) in
+      let same : Reordered other rule = subst (λ (x : Rule). Reordered x rule) (passing other (sound j other f) .holds)
+      (subst (λ (x : Rule). Reordered (ruleOf (g .dimensions) (recordFor other)) x) (passing rule (sound i rule e) .holds) double) in
+      omega (arith, s .differ j i other rule f e same)))
+
+  none-of : (b : Bool) (r : Refusal) (o : Option Refusal) → b ≡ false → o ≡ none → refuseIf b r orElse o ≡ none
+  none-of b r o e f = ap (λ (x : Bool). refuseIf x r orElse o) e ∙ f
+
+  record-none : (i : ℕ) → i < length (g .rules) → recordRefusal (g .dimensions) (g .words) (λ j. fields records (24 * j) 24) i ≡ none
+  record-none i h =
+      let (rule, e) = element (g .rules) i h in
+      let p = passing rule (sound i rule e) in
+      let q = sym (record-at (g .rules) i rule e) in
+      let on : (P : List ℕ → Bool) → P (recordFor rule) ≡ false → P (fields records (24 * i) 24) ≡ false = λ P k. ap P (sym q) ∙ k in
+      none-of (wrongCategory (g .dimensions) (fields records (24 * i) 24)) (Refusal.Grammar 6 i) _ (on (wrongCategory (g .dimensions)) (p .category))
+      (none-of (wrongWord (g .dimensions) (fields records (24 * i) 24) (g .words)) (Refusal.Grammar 7 i) _ (on (λ x. wrongWord (g .dimensions) x (g .words)) (p .word))
+      (none-of (wrongVariables (g .dimensions) (fields records (24 * i) 24)) (Refusal.Grammar 8 i) _ (on (wrongVariables (g .dimensions)) (p .variables))
+      (none-of (unusedSet (g .dimensions) (fields records (24 * i) 24)) (Refusal.Grammar 9 i) _ (on (unusedSet (g .dimensions)) (p .unused))
+      (ap (λ (b : Bool). refuseIf b (Refusal.Grammar 10 i)) (not-repeated i rule e)))))
+
+  records-none : (n a : ℕ) → a + n ≤ length (g .rules) → firstFrom (recordRefusal (g .dimensions) (g .words) (λ j. fields records (24 * j) 24)) a n ≡ none
+  records-none zero a h = refl
+  records-none (suc n) a h =
+      ap (λ (o : Option Refusal). o orElse firstFrom (recordRefusal (g .dimensions) (g .words) (λ j. fields records (24 * j) 24)) (suc a) n) (record-none a (omega arith)) ∙ records-none n (suc a) (omega arith)
 
   record-bytes : Bytes records
   record-bytes = bytes-each (g .rules) (λ rule m. let (k, e) = number-in (g .rules) rule m in rule-bytes k rule e)

@@ -15,26 +15,13 @@ use Rattle.model.specs.Base.{if_then_else_, numbersFrom, anyBelow, allBelow, oc
 use Rattle.model.specs.Grammar.{Variable, Rule, Grammar, dimension, isLexical, variable, emptyWord}
 use Rattle.model.specs.WellFormed.{Perm, same, more, swap, chain, daughterVariables, named, RightRule, InRange, WellFormed}
 use Rattle.model.specs.GrammarFile.{allZero, fields, field, hasDaughters, wordOf, dimensionIn, lengthsOf, variables, wrongCategory, wrongWord, eachOnce, wrongVariables, unusedBytes, unusedSet, decoded, sequences, ruleOf}
-use Rattle.model.proofs.Tests.{and-both, on-not, every-both}
+use Rattle.model.proofs.Tests.{and-both, or-off, on-not, every-both, all-by, none-by}
 use Rattle.model.proofs.Lists.{map-append, map-in, map-out, mem-left, mem-right, mem-getD, numbers-in}
 use Rattle.model.proofs.Perm.{perm-map, perm-length, perm-mem}
 use Rattle.model.proofs.Once.{Once, vars-once, vars-length}
 use Rattle.model.proofs.Variables.{Distinct, vars-out, decode-code}
 use Rattle.grammar_to_file.specs.FileFor.{codeOf, recordFor}
 use Rattle.grammar_to_file.proofs.Records.{at-daughter, daughters-are, word-is, lengths-are, variables-are, past-daughters, past-lengths, past-variables, word-zero, lexical-rest, at-weight}
-
--- tests below a number
-pub all-by : (test : ℕ → Bool) (n : ℕ) → ((k : ℕ) → k < n → T (test k)) → T (allBelow test n)
-all-by test zero h = tt
-all-by test (suc n) h = and-both (allBelow test n) (test n) (all-by test n (λ k l. h k (omega arith))) (h n (omega arith))
-
-or-off : (a b : Bool) → a ≡ false → b ≡ false → a || b ≡ false
-or-off true b e f = e
-or-off false b e f = f
-
-pub none-by : (test : ℕ → Bool) (n : ℕ) → ((k : ℕ) → k < n → test k ≡ false) → anyBelow test n ≡ false
-none-by test zero h = refl
-none-by test (suc n) h = or-off (anyBelow test n) (test n) (none-by test n (λ k l. h k (omega arith))) (h n (omega arith))
 
 -- how often a number is in a list
 occurrences-perm : (x : ℕ) {l m : List ℕ} → Perm l m → occurrences x l ≡ occurrences x m

@@ -56,10 +56,6 @@ module _ (rule : Rule) where
   pub long : length e ≡ 24
   long = omega (arith, length-append (bytesBeforeWeight rule) (rule .weight ∷ []), front-long)
 
-  -- bytes 0 to 22
-  pub front-is : fields e 0 23 ≡ bytesBeforeWeight rule
-  front-is = take-at (bytesBeforeWeight rule) (rule .weight ∷ []) 23 front-long
-
   from-2 : (p j : ℕ) → p ≡ 2 + j → p < 23 → getD e p 0 ≡ getD fromDaughters j 0
   from-2 p j q h =
       List·getD-append (bytesBeforeWeight rule) (rule .weight ∷ []) 0 p (omega (arith, front-long))

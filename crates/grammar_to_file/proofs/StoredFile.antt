@@ -2,19 +2,19 @@
 -- Assumes nothing.
 use mathlib.Core.Path.{_≡_, refl, ap, ap₂, sym, subst, _∙_}
 use mathlib.Core.Bool.{Bool, true, false}
-use mathlib.Core.Option.{none, some}
+use mathlib.Core.Option.{none}
 use mathlib.Core.List.{List, [], _∷_, _++_, map}
 use Prim.Native.Nat.{ℕ, _+_, _-_, _*_, _<_, zero, suc, _≤_}
 use native.Mathlib.Omega.{arith}
 use native.Mathlib.Decide.{decLt}
-use lib.Dec.{T, eqb, eqb-refl}
+use lib.Dec.{T}
 use lib.ListN.{length, getD, List·getD-eq-default}
 use borrow.Author.Tests.{lt-ltb, le-ltb}
-use Rattle.model.specs.Base.{if_then_else_, sameList, each, numbersFrom}
-use Rattle.model.specs.Grammar.{Rule, Grammar, ruleAt, isLexical, unweighted}
-use Rattle.model.specs.GrammarFile.{allZero, fields, field, daughtersOf, wordOf, dimensionIn, dimensionsOf, wordsOf, rulesOf, recordPlace, recordOf, lengthsOf, variables, sequences, sameRecord, ruleOf, grammarRefusal, grammarOf, categoriesOf, startOf}
+use Rattle.model.specs.Base.{if_then_else_, each, numbersFrom}
+use Rattle.model.specs.Grammar.{Rule, Grammar, isLexical}
+use Rattle.model.specs.GrammarFile.{allZero, fields, field, daughtersOf, wordOf, dimensionIn, dimensionsOf, wordsOf, rulesOf, recordPlace, recordOf, lengthsOf, variables, sequences, ruleOf, grammarRefusal, grammarOf, categoriesOf, startOf}
 use Rattle.model.specs.Writer.{allBytes, padded, headingOf, fileOf}
-use Rattle.model.proofs.Tests.{and-both, not-both, any-none}
+use Rattle.model.proofs.Tests.{not-both}
 use Rattle.model.proofs.ByteLists.{zero-field, bytes-at, bytes-fields, padded-length, padded-at, fields-length, fields-at}
 use Rattle.model.proofs.FileTests.{passed}
 use Rattle.model.proofs.FromFile.{rule-is, rule-passed, record-tested, dimensions-in, dimensions-length}
@@ -22,13 +22,9 @@ use Rattle.model.proofs.RuleFromRecord.{daughters-length}
 use Rattle.model.proofs.WellFormed.{accepted-well, rules-length}
 use lib.Seq.{ext-getD}
 use Rattle.model.proofs.WriterBack.{written-again}
-use Rattle.grammar_to_file.specs.FileFor.{bytesBeforeWeight, recordFor, headingFor, fileFor, Storable}
-use Rattle.grammar_to_file.proofs.Records.{front-is}
+use Rattle.doubles.proofs.RefusalTen.{refusal-ten}
+use Rattle.grammar_to_file.specs.FileFor.{recordFor, headingFor, fileFor, Storable}
 use Rattle.grammar_to_file.proofs.RecordAgain.{record-again, zero-split, zeros}
-
-list-same : (a : List ℕ) → T (sameList a a)
-list-same [] = tt
-list-same (x ∷ a) = and-both (eqb x x) (sameList a a) (eqb-refl x) (list-same a)
 
 module _ (file : List ℕ) (bytes : T (allBytes file)) (accepted : grammarRefusal file ≡ none) where
   abbrev g : Grammar
@@ -39,34 +35,6 @@ module _ (file : List ℕ) (bytes : T (allBytes file)) (accepted : grammarRefusa
 
   pub again : (r : ℕ) → r < rulesOf file → recordFor (ruleOf dimensions (recordOf file r)) ≡ recordOf file r
   again r h = record-again g (recordOf file r) (record-tested file accepted r h) (dimensions-in file accepted) (rule-passed file accepted r h .unused) (bytes-fields file (recordPlace r) 24 (bytes-at file bytes))
-
-  front-again : (r : ℕ) → r < rulesOf file → bytesBeforeWeight (ruleOf dimensions (recordOf file r)) ≡ fields (recordOf file r) 0 23
-  front-again r h = sym (front-is (ruleOf dimensions (recordOf file r))) ∙ ap (λ (x : List ℕ). fields x 0 23) (again r h)
-
-  -- no rule twice, weight aside
-  apart : (i j : ℕ) → i < j → j < rulesOf file → unweighted (ruleOf dimensions (recordOf file i)) ≡ unweighted (ruleOf dimensions (recordOf file j)) → ⊥
-  apart i j h k e =
-      let a = fields (recordOf file i) 0 23 in
-      let same : a ≡ fields (recordOf file j) 0 23 = sym (front-again i (omega arith)) ∙ ap bytesBeforeWeight e ∙ front-again j k in
-      let t : T (sameRecord (recordOf file i) (recordOf file j)) = subst (λ (x : List ℕ). T (sameList a x)) same (list-same a) in
-      subst T (any-none (λ j′. sameRecord (recordOf file j′) (recordOf file j)) j (rule-passed file accepted j k .single) i h) t
-
-  differ : (r s : ℕ) (a b : Rule) → ruleAt g r ≡ some a → ruleAt g s ≡ some b → unweighted a ≡ unweighted b → r ≡ s
-  differ r s a b e f q = go (decLt r s) (decLt s r)
-    where
-      x : (r < rulesOf file) × (ruleOf dimensions (recordOf file r) ≡ a)
-      x = rule-is file r a e
-
-      y : (s < rulesOf file) × (ruleOf dimensions (recordOf file s) ≡ b)
-      y = rule-is file s b f
-
-      same : unweighted (ruleOf dimensions (recordOf file r)) ≡ unweighted (ruleOf dimensions (recordOf file s))
-      same = ap unweighted (x .1) ∙ q ∙ sym (ap unweighted (y .1))
-
-      go : Dec (r < s) → Dec (s < r) → r ≡ s
-      go (yes h) k = absurd (apart r s h (y .0) same)
-      go (no h) (yes k) = absurd (apart s r k (x .0) (sym same))
-      go (no h) (no k) = omega arith
 
   -- no word where there are daughters, no components where there are none
   some-daughter : (r : ℕ) → r < rulesOf file → isLexical (ruleOf dimensions (recordOf file r)) ≡ false → 0 < field (recordOf file r) 1
@@ -110,7 +78,7 @@ module _ (file : List ℕ) (bytes : T (allBytes file)) (accepted : grammarRefusa
             let l′ : isLexical (ruleOf dimensions (recordOf file r)) ≡ true = ap isLexical (x .1) ∙ l in
             ap (λ (z : Rule). z .components) (sym (x .1))
             ∙ ap (λ (t : Bool). if t then sequences (lengthsOf dimensions (recordOf file r)) (fields (recordOf file r) 11 12) else []) (le-ltb 0 (field (recordOf file r) 1) (omega (arith, no-daughter r (x .0) l′)));
-        differ = differ;
+        differ = refusal-ten .no-doubles file bytes accepted;
         weights = λ r rule e.
             let x = rule-is file r rule e in
             let b = bytes-fields file (recordPlace r) 24 (bytes-at file bytes) 23 in

@@ -16,16 +16,12 @@ use Rattle.model.specs.Counting.{live, complete, listing, effort}
 use Rattle.model.specs.LivePrefixes.{InOrder}
 use Rattle.model.proofs.Listing.{listing-lists}
 use Rattle.model.proofs.Lists.{mem-getD}
-use Rattle.model.proofs.Order.{before-irrefl, or-cases}
+use Rattle.model.proofs.Order.{before-irrefl}
 use Rattle.model.proofs.Search.{keep-short}
-use Rattle.model.proofs.Tests.{passes, and-l, and-r}
+use Rattle.model.proofs.Tests.{passes, fails, and-l, and-r, or-cases}
 use Rattle.listing.specs.declared.stream.Followed.{Followed}
 use Rattle.listing.specs.declared.stream.Followed.the-variants.{Next, Last, Over}
 use Rattle.listing.specs.Stream.{upToFirst, liveAfter, lookedAt, entriesAfter, Follows, Streams}
-
-pub is-false : (b : Bool) → (T b → ⊥) → b ≡ false
-is-false true f = absurd (f tt)
-is-false false f = refl
 
 -- of two lists only one goes before the other
 before-asym : (p q : List ℕ) → T (before p q) → T (before q p) → ⊥
@@ -50,11 +46,11 @@ keep-whole f (x ∷ l) h =
 pub drop-after : (l : List (List ℕ)) → InOrder l → (m : ℕ) → m < length l → keep (before (getD l m [])) l ≡ drop (suc m) l
 drop-after [] o m h = let z : ⊥ = omega arith in absurd z
 drop-after (p ∷ l) o zero h =
-    ap (λ (b : Bool). if b then p ∷ keep (before p) l else keep (before p) l) (is-false (before p p) (before-irrefl p)) ∙ keep-whole (before p) l (o .0)
+    ap (λ (b : Bool). if b then p ∷ keep (before p) l else keep (before p) l) (fails (before p p) (before-irrefl p)) ∙ keep-whole (before p) l (o .0)
 drop-after (p ∷ l) o (suc m) h =
     let q = getD l m [] in
     let k : m < length l = omega arith in
-    ap (λ (b : Bool). if b then p ∷ keep (before q) l else keep (before q) l) (is-false (before q p) (λ t. before-asym q p t (o .0 q (mem-getD l [] m k))))
+    ap (λ (b : Bool). if b then p ∷ keep (before q) l else keep (before q) l) (fails (before q p) (λ t. before-asym q p t (o .0 q (mem-getD l [] m k))))
     ∙ drop-after l (o .1) m k
 
 module _ (g : Grammar) (sentence : List ℕ) (n : ℕ) where

@@ -11,19 +11,7 @@ use Rattle.model.specs.Base.{each, numbersFrom}
 use Rattle.model.specs.Step.{before}
 use Rattle.model.specs.LivePrefixes.{InOrder}
 use Rattle.model.proofs.Lists.{each-out, map-out, numbers-out}
-use Rattle.model.proofs.Tests.{and-r, and-both}
-
-or-left : (a b : Bool) → T a → T (a || b)
-or-left true b t = tt
-or-left false b t = absurd t
-
-or-right : (a b : Bool) → T b → T (a || b)
-or-right true b t = tt
-or-right false b t = t
-
-pub or-cases : (a b : Bool) → T (a || b) → T a ⊎ T b
-or-cases true b t = inl tt
-or-cases false b t = inr t
+use Rattle.model.proofs.Tests.{and-r, and-both, or-left, or-right, or-cases}
 
 pub before-tail : (r : ℕ) (p q : List ℕ) → T (before p q) → T (before (r ∷ p) (r ∷ q))
 before-tail r p q t = or-right (ltb r r) (eqb r r && before p q) (and-both (eqb r r) (before p q) (eqb-refl r) t)

@@ -8,11 +8,11 @@ use mathlib.Core.List.{List, [], _∷_, _++_}
 use Prim.Native.Nat.{ℕ, zero, suc, _+_, _-_, _<_, _≤_}
 use native.Mathlib.Omega.{arith}
 use native.Mathlib.Decide.{ℕ-discrete}
-use lib.Dec.{T, leb, leb→le}
+use lib.Dec.{T, leb, eqb, leb→le, eqb→eq, eqb-refl}
 use lib.ListN.{length, getD}
 use Rattle.model.specs.declared.Refusal.{Refusal}
 use Rattle.model.specs.Verdict.{refuseIf}
-use Rattle.model.specs.Base.{if_then_else_, allBelow, firstFrom, every, anyBelow, _orElse_}
+use Rattle.model.specs.Base.{if_then_else_, allBelow, firstFrom, every, anyBelow, sameList, _orElse_}
 use Rattle.model.specs.GrammarFile.{within}
 
 pub none-some : {A B : Type 0} {a : A} → some a ≡ none → B
@@ -71,6 +71,18 @@ pub or-r : (a b : Bool) → a || b ≡ false → b ≡ false
 or-r true b e = let z : _≡_ {A = ℕ} 0 1 = cc in absurd (omega arith)
 or-r false b e = e
 
+pub or-left : (a b : Bool) → T a → T (a || b)
+or-left true b t = tt
+or-left false b t = absurd t
+
+pub or-right : (a b : Bool) → T b → T (a || b)
+or-right true b t = tt
+or-right false b t = t
+
+pub or-cases : (a b : Bool) → T (a || b) → T a ⊎ T b
+or-cases true b t = inl tt
+or-cases false b t = inr t
+
 pub and-false : (a b : Bool) → a && b ≡ false → (a ≡ false) ⊎ (b ≡ false)
 and-false true b e = inr e
 and-false false b e = inl refl
@@ -106,6 +118,34 @@ and-both false b t u = absurd t
 pub both-true : (a b : Bool) → a && b ≡ true → (a ≡ true) × (b ≡ true)
 both-true true b e = (refl, e)
 both-true false b e = let z : _≡_ {A = ℕ} 0 1 = cc in absurd (omega arith)
+
+-- tests below a number, number by number
+pub all-by : (test : ℕ → Bool) (n : ℕ) → ((k : ℕ) → k < n → T (test k)) → T (allBelow test n)
+all-by test zero h = tt
+all-by test (suc n) h = and-both (allBelow test n) (test n) (all-by test n (λ k l. h k (omega arith))) (h n (omega arith))
+
+pub or-off : (a b : Bool) → a ≡ false → b ≡ false → a || b ≡ false
+or-off true b e f = e
+or-off false b e f = f
+
+pub none-by : (test : ℕ → Bool) (n : ℕ) → ((k : ℕ) → k < n → test k ≡ false) → anyBelow test n ≡ false
+none-by test zero h = refl
+none-by test (suc n) h = or-off (anyBelow test n) (test n) (none-by test n (λ k l. h k (omega arith))) (h n (omega arith))
+
+pub fails : (b : Bool) → (T b → ⊥) → b ≡ false
+fails true h = absurd (h tt)
+fails false h = refl
+
+-- two lists compared
+pub list-same : (a : List ℕ) → T (sameList a a)
+list-same [] = tt
+list-same (x ∷ a) = and-both (eqb x x) (sameList a a) (eqb-refl x) (list-same a)
+
+pub same-list : (a b : List ℕ) → T (sameList a b) → a ≡ b
+same-list [] [] t = refl
+same-list [] (y ∷ b) t = absurd t
+same-list (x ∷ a) [] t = absurd t
+same-list (x ∷ a) (y ∷ b) t = ap₂ (λ (z : ℕ) (l : List ℕ). z ∷ l) (eqb→eq x y (and-l (eqb x y) (sameList a b) t)) (same-list a b (and-r (eqb x y) (sameList a b) t))
 
 -- tests that pass for the same
 pub same-test : (a b : Bool) → (T a → T b) → (T b → T a) → a ≡ b

@@ -13,7 +13,7 @@ use lib.ListN.{length, getD}
 use Rattle.model.specs.declared.Refusal.{Refusal}
 use Rattle.model.specs.Base.{if_then_else_, _orElse_, firstFrom, every}
 use Rattle.model.specs.Verdict.{refuseIf}
-use Rattle.model.specs.GrammarFile.{within, allZero, fields, blocks, byteOf, twoBytes, fourBytes, checkOf, categoriesOf, startOf, wordsOf, rulesOf, dimensionsOf, dimensionIn, blocksFor, recordsIn, recordOf, wrongCategory, wrongWord, wrongVariables, unusedSet, sameRecord, recordRefusal, ruleRefusal, wrongLength, wrongCheck, wrongBlock, wrongHeading, wrongBlocks, wrongCount, wrongRest, grammarRefusal}
+use Rattle.model.specs.GrammarFile.{within, allZero, fields, blocks, byteOf, twoBytes, fourBytes, checkOf, categoriesOf, startOf, wordsOf, rulesOf, dimensionsOf, dimensionIn, blocksFor, recordsIn, recordOf, wrongCategory, wrongWord, wrongVariables, unusedSet, sameRule, recordRefusal, ruleRefusal, wrongLength, wrongCheck, wrongBlock, wrongHeading, wrongBlocks, wrongCount, wrongRest, grammarRefusal}
 use Rattle.model.specs.Writer.{Heading, allBytes, fitsFields, headingBlock, fileOf}
 use Rattle.model.proofs.Tests.{any-same, first-same, no-first, skip, on-not, or-none}
 use Rattle.model.proofs.FileTests.{records-last, RightHeading, right-heading}
@@ -34,7 +34,7 @@ fromHeading file =
 pub record-same : (dimensions : List ℕ) (words : ℕ) (f g : ℕ → List ℕ) (i : ℕ) → ((k : ℕ) → k ≤ i → f k ≡ g k)
     → recordRefusal dimensions words f i ≡ recordRefusal dimensions words g i
 record-same dimensions words f g i same =
-    let again = any-same (λ j. sameRecord (f j) (f i)) (λ j. sameRecord (g j) (g i)) i (λ k h. ap₂ sameRecord (same k (omega arith)) (same i (omega arith))) in
+    let again = any-same (λ j. sameRule (f j) (f i)) (λ j. sameRule (g j) (g i)) i (λ k h. ap₂ sameRule (same k (omega arith)) (same i (omega arith))) in
     ap₂ (λ (e : List ℕ) (b : Bool).
     refuseIf (wrongCategory dimensions e) (Refusal.Grammar 6 i)
     orElse refuseIf (wrongWord dimensions e words) (Refusal.Grammar 7 i)

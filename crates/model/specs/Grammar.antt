@@ -58,9 +58,5 @@ lexical category word = record { category = category; daughters = []; word = wor
 abbrev pub nonlexical : ℕ → List ℕ → List (List Variable) → Rule
 nonlexical category daughters components = record { category = category; daughters = daughters; word = 0; components = components; weight = 0 }
 
--- the rule, weight aside: two rules "differ only in weight" (document 02, paper 1) when this is the same of both
-abbrev pub unweighted : Rule → Rule
-unweighted r = record { category = r .category; daughters = r .daughters; word = r .word; components = r .components; weight = 0 }
-
 abbrev pub isLexical : Rule → Bool
 isLexical r = elim (r .daughters) [ [] ↦ true | d ∷ ds ↦ false ]

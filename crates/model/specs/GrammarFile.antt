@@ -1,5 +1,5 @@
 -- The grammar file: its fields, what the reader refuses, and the grammar that a file holds (document 01, "The grammar file", and refusals 1 to 10; the
--- weight of a rule is document 02's, paper 1).
+-- weight of a rule and the order of its daughters in refusal 10 are document 02's, papers 1 and 4).
 -- A file is the list of its bytes.
 -- Assumes nothing.
 use Prim.Native.Nat.{ℕ, suc, _+_, _-_, _*_, _/_, _%_}
@@ -9,7 +9,7 @@ use mathlib.Core.Option.{Option}
 use lib.Dec.{ltb, leb, eqb}
 use lib.ListN.{length, getD, take, drop}
 use Rattle.model.specs.declared.Refusal.{Refusal}
-use Rattle.model.specs.Base.{if_then_else_, _orElse_, firstFrom, every, numbersFrom, sameList, anyBelow, allBelow, occurrences, total}
+use Rattle.model.specs.Base.{if_then_else_, _orElse_, firstFrom, every, anyOf, numbersFrom, sameList, anyBelow, allBelow, occurrences, total}
 use Rattle.model.specs.Verdict.{refuseIf}
 use Rattle.model.specs.Grammar.{Variable, Rule, Grammar, emptyWord, variable}
 
@@ -149,8 +149,46 @@ module _ (dimensions e : List ℕ) where
 abbrev pub sameRecord : List ℕ → List ℕ → Bool
 sameRecord a b = sameList (fields a 0 23) (fields b 0 23)
 
+-- "Refusal 10 now also meets a rule that equals an earlier one once its daughters are reordered and its variables renumbered to match, weight aside."
+-- (document 02, paper 4). An order of the daughters is a list of positions: entry j is the position that daughter j comes to. It has an entry for each of the
+-- three daughter positions of a record; a position without a daughter stays.
+
+-- the orders of n daughters, but for the one that they have
+abbrev pub otherOrders : ℕ → List (List ℕ)
+otherOrders n =
+    if eqb n 2 then (1 ∷ 0 ∷ 2 ∷ []) ∷ []
+    else if eqb n 3 then (0 ∷ 2 ∷ 1 ∷ []) ∷ (1 ∷ 0 ∷ 2 ∷ []) ∷ (1 ∷ 2 ∷ 0 ∷ []) ∷ (2 ∷ 0 ∷ 1 ∷ []) ∷ (2 ∷ 1 ∷ 0 ∷ []) ∷ []
+    else []
+
+-- "its variables renumbered to match": a variable names the position that its daughter comes to, and the component that it named
+abbrev pub renumbered : List ℕ → ℕ → ℕ
+renumbered order v = 4 * getD order (v / 4) 0 + v % 4
+
+-- what no order changes is the same of two records: category, daughter count, word and component lengths
+abbrev pub sameFrame : List ℕ → List ℕ → Bool
+sameFrame earlier e = sameList (fields earlier 0 2) (fields e 0 2) && sameList (fields earlier 5 6) (fields e 5 6)
+
+-- each daughter of record e is the earlier record's daughter at the position that it comes to
+abbrev pub sameDaughters : List ℕ → List ℕ → List ℕ → Bool
+sameDaughters earlier e order = allBelow (λ j. eqb (field e (2 + j)) (field earlier (2 + getD order j 0))) 3
+
+-- the variables of record e, as many as its component lengths count, are renumbered those of the earlier record
+abbrev pub sameVariables : List ℕ → List ℕ → List ℕ → Bool
+sameVariables earlier e order = allBelow (λ k. eqb (renumbered order (field e (11 + k))) (field earlier (11 + k))) (total (fields e 7 4))
+
+abbrev pub sameInOrder : List ℕ → List ℕ → List ℕ → Bool
+sameInOrder earlier e order = sameDaughters earlier e order && sameVariables earlier e order
+
+-- record e equals an earlier one once its daughters are reordered
+abbrev pub sameReordered : List ℕ → List ℕ → Bool
+sameReordered earlier e = sameFrame earlier e && anyOf (sameInOrder earlier e) (otherOrders (field e 1))
+
+-- what refusal 10 tests of two records; what it means of their rules is said and proved in the crate `doubles`
+abbrev pub sameRule : List ℕ → List ℕ → Bool
+sameRule earlier e = sameRecord earlier e || sameReordered earlier e
+
 abbrev pub repeated : (ℕ → List ℕ) → ℕ → Bool
-repeated recordAt i = anyBelow (λ j. sameRecord (recordAt j) (recordAt i)) i
+repeated recordAt i = anyBelow (λ j. sameRule (recordAt j) (recordAt i)) i
 
 -- "Per rule, place its number": refusals 6 to 10 of record i, in a grammar with these dimensions, words and records
 abbrev pub recordRefusal : List ℕ → ℕ → (ℕ → List ℕ) → ℕ → Option Refusal

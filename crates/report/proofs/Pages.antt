@@ -18,8 +18,9 @@ use Rattle.model.proofs.Order.{before-irrefl}
 use Rattle.listing.specs.declared.stream.Followed.{Followed}
 use Rattle.listing.specs.Stream.{entriesAfter, Follows}
 use Rattle.listing.proofs.Following.{kept-by}
-use Rattle.listing.proofs.Streamed.{is-false, keep-whole, looked-few}
+use Rattle.listing.proofs.Streamed.{keep-whole, looked-few}
 use Rattle.model.proofs.Digits.{before-trans}
+use Rattle.model.proofs.Tests.{fails}
 use Rattle.report.specs.declared.page.Line.{Line}
 use Rattle.report.specs.declared.page.Page.{Page}
 use Rattle.report.specs.Text.{Put}
@@ -39,14 +40,14 @@ after-first (x ∷ l) o list p rest e = go (before list x) refl (λ f. after-fir
     here : T (before list x) → x ≡ p → keep (before list) l ≡ rest → keep (before p) (x ∷ l) ≡ rest
     here t same others =
         ap (λ (q : List ℕ). keep (before q) (x ∷ l)) (sym same)
-        ∙ kept-by (before x) x l false (is-false (before x x) (before-irrefl x))
+        ∙ kept-by (before x) x l false (fails (before x x) (before-irrefl x))
         ∙ keep-whole (before x) l (o .0)
         ∙ sym (keep-whole (before list) l (λ q m. before-trans list x q t (o .0 q m)))
         ∙ others
 
     -- p comes later, so that x does not come after p
     later : List·Memᴰ p l → keep (before p) l ≡ rest → keep (before p) (x ∷ l) ≡ rest
-    later m g = kept-by (before p) x l false (is-false (before p x) (λ t. before-irrefl p (before-trans p x p t (o .0 p m)))) ∙ g
+    later m g = kept-by (before p) x l false (fails (before p x) (λ t. before-irrefl p (before-trans p x p t (o .0 p m)))) ∙ g
 
     member : (l : List (List ℕ)) → keep (before list) l ≡ p ∷ rest → List·Memᴰ p l
     member [] f = let z : _≡_ {A = ℕ} 0 1 = cc in absurd (omega arith)

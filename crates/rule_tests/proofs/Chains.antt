@@ -1,4 +1,5 @@
--- Records in chains by their hashes: how the tables grow by one record, and that a record is equal to an earlier one exactly when it is equal to one in its chain.
+-- Records in chains by their hashes: how the tables grow by one record, and that a record holds the rule of an earlier one exactly when it holds that of one in
+-- its chain.
 -- Assumes nothing.
 use mathlib.Core.Path.{_≡_, refl, sym, ap, _∙_}
 use mathlib.Core.Bool.{Bool, true, false}
@@ -10,7 +11,7 @@ use borrow.Author.Tests.{eq-eqb, ne-eqb}
 use lib.ListN.{length, getD, set, length-set, replicate, getD-replicate}
 use lib.Seq.{getD-set-same, getD-set-other}
 use Rattle.model.specs.Base.{anyBelow}
-use Rattle.model.specs.GrammarFile.{sameRecord, repeated}
+use Rattle.model.specs.GrammarFile.{sameRule, repeated}
 use Rattle.grammar.proofs.Below.{any-hit, any-less}
 use Rattle.rule_tests.specs.Chains.{hashOf, latest, Chained, hashAt, InChain}
 use Rattle.rule_tests.proofs.Hashes.{same-hash}
@@ -99,7 +100,7 @@ chain-none hash chain = record { few = omega arith; before = λ r l. absurd (ome
 -- a record e compared with others
 module _ (recordAt : ℕ → List ℕ) (e : List ℕ) where
   abbrev equal : ℕ → Bool
-  equal j = sameRecord (recordAt j) e
+  equal j = sameRule (recordAt j) e
 
   -- of the records below n, those below v are left to compare; v is 0, or one more than the number of a record with e's hash
   pub record Left (n v : ℕ) : Type 0 where
@@ -137,7 +138,7 @@ module _ {recordAt : ℕ → List ℕ} {r : ℕ} {chain e : List ℕ} {first : �
       (left-latest recordAt e r r (omega arith) refl)
 
   all : repeated recordAt r ≡ anyBelow (equal recordAt e) first
-  all = ap (λ (x : List ℕ). anyBelow (λ j. sameRecord (recordAt j) x) r) (sym (w .within .is)) ∙ at-first .left
+  all = ap (λ (x : List ℕ). anyBelow (λ j. sameRule (recordAt j) x) r) (sym (w .within .is)) ∙ at-first .left
 
   pub walk-start : Left recordAt e first first
   walk-start = record { below = omega arith; same = at-first .same; left = refl }
@@ -149,10 +150,10 @@ module _ {recordAt : ℕ → List ℕ} {r : ℕ} {chain e : List ℕ} {first : �
     pub walk-few : v ≤ 256
     walk-few = omega (arith, l .below, at-first .below, w .within .chained .few)
 
-    pub walk-hit : 0 < v → sameRecord (recordAt (v - 1)) e ≡ true → repeated recordAt r ≡ true
+    pub walk-hit : 0 < v → sameRule (recordAt (v - 1)) e ≡ true → repeated recordAt r ≡ true
     walk-hit p f = all ∙ l .left ∙ any-hit (equal recordAt e) (v - 1) v (omega arith) f
 
-    pub walk-on : {n : ℕ} → 0 < v → sameRecord (recordAt (v - 1)) e ≡ false → n ≡ getD chain (v - 1) 0 → (n < v) × Left recordAt e first n
+    pub walk-on : {n : ℕ} → 0 < v → sameRule (recordAt (v - 1)) e ≡ false → n ≡ getD chain (v - 1) 0 → (n < v) × Left recordAt e first n
     walk-on {n} p f g =
         let s : v ≡ suc (v - 1) = omega arith in
         let next : n ≡ latest (hashAt recordAt) (hashOf e) (v - 1)

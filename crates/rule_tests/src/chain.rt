@@ -1,4 +1,4 @@
-// Refusal 10 by hashes: the earlier records that may be equal to a record are those with the same hash, and a chain leads from each to the one before.
+// Refusal 10 by hashes: the earlier records that may hold the same rule as a record are those with the same hash, and a chain leads from each to the one before.
 ghost use mathlib.Core.Path.{_≡_};
 ghost use Prim.Native.Nat.{_+_, _<_};
 ghost use lib.ListN.{getD, set};
@@ -7,8 +7,8 @@ ghost use Rattle.rule_tests.specs.Chains.{hashSum, hashOf, InChain};
 ghost use Rattle.rule_tests.specs.Layout.{recordIn};
 use crate::layout::Layout;
 use crate::layout::record_in;
+use doubles::same_rule;
 use grammar::byte;
-use grammar::same_record;
 use model::RuleNumber;
 
 // Byte i of a record, as a wider number.
@@ -53,7 +53,7 @@ fn earlier(chain: &[u16; 256], r: RuleNumber) -> u16
     chain[r.0 as usize]
 }
 
-// Refusal 10: the record of rule r, which is e, is equal to an earlier one, weight aside. It is compared with those of its chain.
+// Refusal 10: rule r, whose record is e, is an earlier one, its weight and the order of its daughters aside. It is compared with those of its chain.
 pub fn repeated_rule(
     bytes: &[u8],
     layout: Layout,
@@ -67,7 +67,7 @@ pub fn repeated_rule(
     let mut next = earlier(chain, r);
     while 0 < next {
         let j = next - 1;
-        if same_record(record_in(bytes, layout, RuleNumber(j)), e) {
+        if same_rule(record_in(bytes, layout, RuleNumber(j)), e) {
             return true;
         }
         next = earlier(chain, RuleNumber(j));

@@ -4,7 +4,7 @@ use mathlib.Core.Path.{sym, ap, _∙_}
 use mathlib.Core.List.{List}
 use Prim.Native.Nat.{ℕ}
 use native.Mathlib.Omega.{arith}
-use Rattle.model.specs.GrammarFile.{sameRecord}
+use Rattle.model.specs.GrammarFile.{sameRule}
 use Rattle.rule_tests.specs.Layout.{recordIn}
 use Rattle.rule_tests.proofs.Chains.{Left, walk, walk-start, walk-end, walk-few, walk-hit, walk-on}
 use borrow.Author.Needs.{needs}
@@ -31,15 +31,15 @@ sub-j c = search needs
 record-in-requires : tie.Need-record-in-requires Inv-loop μ-loop
 record-in-requires c κs = search needs
 
-same-record-requires : tie.Need-same-record-requires Inv-loop μ-loop
-same-record-requires c κs = search needs
+same-rule-requires : tie.Need-same-rule-requires Inv-loop μ-loop
+same-rule-requires c κs = search needs
 
 returns : tie.Need-returns Inv-loop μ-loop
 returns c =
     let t = c .before .before .before .before in
     let s = t .before .before .before .before in
     let w = walk (s .pre) (t .before .earlier .ensures) in
-    let found = ap (λ (x : List ℕ). sameRecord x (s .args .e .now)) (sym (c .before .before .record-in .ensures)) ∙ sym (c .before .same-record .ensures) ∙ c .if1 .taken in
+    let found = ap (λ (x : List ℕ). sameRule x (s .args .e .now)) (sym (c .before .before .record-in .ensures)) ∙ sym (c .before .same-rule .ensures) ∙ c .if1 .taken in
     sym (walk-hit w (t .loop .inv) (omega arith) found)
 
 earlier-requires-2 : tie.Need-earlier-requires-2 Inv-loop μ-loop
@@ -54,7 +54,7 @@ loop-less c =
     let t = c .before .before .before .before .before in
     let s = t .before .before .before .before in
     let w = walk (s .pre) (t .before .earlier .ensures) in
-    let other = ap (λ (x : List ℕ). sameRecord x (s .args .e .now)) (sym (c .before .before .before .record-in .ensures)) ∙ sym (c .before .before .same-record .ensures) ∙ c .before .if1 .left in
+    let other = ap (λ (x : List ℕ). sameRule x (s .args .e .now)) (sym (c .before .before .before .record-in .ensures)) ∙ sym (c .before .before .same-rule .ensures) ∙ c .before .if1 .left in
     walk-on w (t .loop .inv) (omega arith) other (c .earlier2 .ensures) .0
 
 loop-again : tie.Need-loop-again Inv-loop μ-loop
@@ -62,7 +62,7 @@ loop-again c =
     let t = c .before .before .before .before .before in
     let s = t .before .before .before .before in
     let w = walk (s .pre) (t .before .earlier .ensures) in
-    let other = ap (λ (x : List ℕ). sameRecord x (s .args .e .now)) (sym (c .before .before .before .record-in .ensures)) ∙ sym (c .before .before .same-record .ensures) ∙ c .before .if1 .left in
+    let other = ap (λ (x : List ℕ). sameRule x (s .args .e .now)) (sym (c .before .before .before .record-in .ensures)) ∙ sym (c .before .before .same-rule .ensures) ∙ c .before .if1 .left in
     walk-on w (t .loop .inv) (omega arith) other (c .earlier2 .ensures) .1
 
 returns-2 : tie.Need-returns-2 Inv-loop μ-loop
@@ -82,7 +82,7 @@ repeated-rule-spec =
     loop-holds
     sub-j
     record-in-requires
-    same-record-requires
+    same-rule-requires
     returns
     earlier-requires-2
     loop-less

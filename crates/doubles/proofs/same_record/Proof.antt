@@ -1,12 +1,12 @@
--- `grammar::same_record` meets its contract.
+-- `doubles::same_record` meets its contract.
 -- Assumes nothing.
 use mathlib.Core.Path.{sym, ap₂, _∙_}
 use Rattle.model.specs.Base.{sameList}
 use Rattle.grammar.proofs.Walks.{differ-at}
 use native.Mathlib.Omega.{arith}
 use borrow.Author.Needs.{needs}
-use Rattle.grammar.proofs.lists.same_record.Statement.{statement}
-use Rattle.grammar.proofs.lists.same_record.Tie as tie
+use Rattle.doubles.proofs.same_record.Statement.{statement}
+use Rattle.doubles.proofs.same_record.Tie as tie
 
 byte-requires : tie.Need-byte-requires
 byte-requires c κs = search needs
@@ -17,7 +17,7 @@ byte-requires-2 c κs = search needs
 returns : tie.Need-returns
 returns c =
     let a = c .before .before .before .before .before .args in
-    sym (differ-at 23 (a .a .now) (a .b .now) 0 (omega arith) (λ e. c .if1 .taken (c .before .before .byte .ensures ∙ e ∙ sym (c .before .byte2 .ensures))))
+    sym (differ-at 23 (a .earlier .now) (a .e .now) 0 (omega arith) (λ e. c .if1 .taken (c .before .before .byte .ensures ∙ e ∙ sym (c .before .byte2 .ensures))))
 
 fields-requires : tie.Need-fields-requires
 fields-requires c κs = search needs

@@ -1,21 +1,25 @@
--- Grammar files from before the weights (document 02, paper 1): "All files accepted before have weight 0 and keep their verdicts." Paper 1 changes refusals 9
--- and 10 and gives rules a weight; every other definition is as it was. So what a call answered before is its definition over the refusals of then
--- (`grammarRefusalBefore`) and over rules without weights (`grammarBefore`).
+-- Grammar files from before the weights: "All files accepted before have weight 0 and keep their verdicts." (document 02, paper 1); "An older file with such a
+-- double loses the verdicts that paper 1 left it." (paper 4). Paper 1 changes refusals 9 and 10 and gives rules a weight, paper 4 changes refusal 10; every other
+-- definition is as it was. So what a call answered before is its definition over the refusals of then (`grammarRefusalBefore`) and over rules without weights
+-- (`grammarBefore`).
 -- Assumes nothing.
 use mathlib.Core.Path.{_≡_}
-use Prim.Native.Nat.{ℕ, _+_, _-_, _*_, _%_}
+use mathlib.Core.Logic.{_⊎_}
+use Prim.Native.Nat.{ℕ, _+_, _-_, _*_, _%_, _<_}
 use mathlib.Core.Bool.{Bool, not}
 use mathlib.Core.List.{List, [], _∷_, _++_, map}
 use mathlib.Core.Option.{Option, none, some}
-use lib.Dec.{ltb, eqb}
+use lib.Dec.{T, ltb, eqb}
 use lib.ListN.{length}
 use Rattle.model.specs.declared.Refusal.{Refusal}
 use Rattle.model.specs.declared.Verdict.{Verdict}
+use Rattle.model.specs.declared.Verdict.the-variants.{Refused}
+use Rattle.model.specs.declared.CountVerdict.the-variants.{NotCounted}
 use Rattle.model.specs.Base.{if_then_else_, _orElse_, firstFrom, numbersFrom, sameList, anyBelow}
 use Rattle.model.specs.Verdict.{refuseIf, verdict, countVerdict}
 use Rattle.model.specs.Grammar.{Rule, Grammar, ruleAt}
 use Rattle.model.specs.GrammarFile.{allZero, fields, field, daughtersOf, hasDaughters, wordOf, lengthsOf, sequences, dimensionIn, variables, blocks, categoriesOf, startOf, rulesOf, wordsOf, dimensionsOf, recordOf, wrongCategory, wrongWord, wrongVariables, wrongLength, wrongCheck, wrongBlock, wrongHeading, wrongBlocks, wrongCount, wrongRest, grammarRefusal, grammarOf}
-use Rattle.model.specs.Writer.{Heading, headingBlock, fileOf}
+use Rattle.model.specs.Writer.{Heading, allBytes, padded, headingBlock, fileOf}
 use Rattle.model.specs.Trace.{sentenceRefusal, traceRefusal}
 use Rattle.model.specs.Tree.{treeRefusal}
 use Rattle.model.specs.Conversions.{treeOf, traceOf}
@@ -23,7 +27,8 @@ use Rattle.model.specs.Counting.{limitsRefusal, effortRefusal, entryRefusal, co
 use Rattle.model.specs.Survey.{Surveyed}
 use Rattle.model.specs.Program.{sentenceIn, limitIn, programLimit, printed, program}
 use Rattle.model.specs.Demands.{_⇔_}
-use Rattle.weights.specs.Weights.{weightSum}
+use Rattle.doubles.specs.Doubles.{DoubleAt}
+use Rattle.weights.specs.Weights.{weightSum, weighTraceVerdict, weighTreeVerdict}
 use Rattle.model.specs.Calls.{written, roomRefusal, readVerdict, writeVerdict, writeOutput, checkTraceVerdict, checkTreeVerdict, traceToTreeVerdict, traceToTreeOutput, treeToTraceVerdict, treeToTraceOutput, countCall, entryVerdict, entryOutput, SurveyOutcome}
 
 -- refusal 9 as document 01 has it: byte 23 is one of the unused bytes
@@ -83,8 +88,15 @@ grammarBefore file =
       rules = map (λ i. ruleBefore (dimensionsOf file) (recordOf file i)) (numbersFrom 0 (rulesOf file));
     }
 
--- Of a file that was accepted before: it is accepted, its rules have weight 0, and every call answers and writes what it did, by what was refused before and
--- by the grammar as it was read before.
+-- the writer's tests, where those of its file give `refused`
+abbrev pub writerTests : Heading → List ℕ → Option Refusal → Option Refusal
+writerTests h records refused =
+    refuseIf (not (eqb (length (h .dimensions)) 64)) (Refusal.Grammar 4 0)
+    orElse refuseIf (ltb 256 (h .rules)) (Refusal.Grammar 4 0)
+    orElse refuseIf (wrongHeading (headingBlock h)) (Refusal.Grammar 4 0)
+    orElse refuseIf (not (eqb (length records) (24 * h .rules))) (Refusal.Grammar 5 0)
+    orElse refused
+
 module _ (file : List ℕ) where
   abbrev refused : Option Refusal
   refused = grammarRefusalBefore file
@@ -99,18 +111,14 @@ module _ (file : List ℕ) where
     pub verdict-is : answer ≡ verdict (refused orElse roomRefusal out) (categoriesOf file)
     pub output-is : after ≡ written (refused orElse roomRefusal out) figures out
 
+  -- it is accepted, its rules have weight 0, and every call answers and writes what it did, by what was refused before and by the grammar as it was read before
   pub record Kept : Type 0 where
     pub accepted : grammarRefusal file ≡ none
     pub weights-zero : (r : ℕ) (rule : Rule) → ruleAt (grammarOf file) r ≡ some rule → rule .weight ≡ 0
     pub sums-zero : (list : List ℕ) → weightSum (grammarOf file) list ≡ 0
     pub reader : readVerdict file ≡ verdict refused (rulesOf file)
     pub writer : (h : Heading) (records out : List ℕ) → fileOf h records ≡ file
-        → let own = refuseIf (not (eqb (length (h .dimensions)) 64)) (Refusal.Grammar 4 0)
-        orElse refuseIf (ltb 256 (h .rules)) (Refusal.Grammar 4 0)
-        orElse refuseIf (wrongHeading (headingBlock h)) (Refusal.Grammar 4 0)
-        orElse refuseIf (not (eqb (length records) (24 * h .rules))) (Refusal.Grammar 5 0)
-        orElse refused in
-        let o = own orElse refuseIf (ltb (length out) (length file)) (Refusal.Desk 23 0) in
+        → let o = writerTests h records refused orElse refuseIf (ltb (length out) (length file)) (Refusal.Desk 23 0) in
         (writeVerdict h records out ≡ verdict o (length file)) × (writeOutput h records out ≡ written o file out)
     pub trace-checker : (sentence trace : List ℕ)
         → checkTraceVerdict file sentence trace ≡ verdict (refused orElse sentenceRefusal g sentence orElse traceRefusal g sentence trace) (length trace)
@@ -140,5 +148,45 @@ module _ (file : List ℕ) where
         orElse sentenceRefusal g sentence orElse effortRefusal g sentence n programLimit in
         program file sentenceFile ≡ printed o ((count g sentence n ∷ effort g sentence n ∷ []) ∷ listing g sentence n)
 
-abbrev pub OldFilesKept : Type 0
-OldFilesKept = (file : List ℕ) → grammarRefusalBefore file ≡ none → Kept file
+  -- every call that is given the file is refused by 10 at rule i, and writes nothing; the writer that is given what makes it, where no test of its own comes first
+  pub record Lost (i : ℕ) : Type 0 where
+    pub refused-now : grammarRefusal file ≡ some (Refusal.Grammar 10 i)
+    pub reader : readVerdict file ≡ Refused (Refusal.Grammar 10 i)
+    pub writer : (h : Heading) (records out : List ℕ) → fileOf h records ≡ file
+        → (writeVerdict h records out ≡ verdict (writerTests h records (some (Refusal.Grammar 10 i))) 0) × (writeOutput h records out ≡ out)
+    pub trace-checker : (sentence trace : List ℕ) → checkTraceVerdict file sentence trace ≡ Refused (Refusal.Grammar 10 i)
+    pub tree-checker : (sentence tree : List ℕ) → checkTreeVerdict file sentence tree ≡ Refused (Refusal.Grammar 10 i)
+    pub trace-to-tree : (sentence trace out : List ℕ)
+        → (traceToTreeVerdict file sentence trace out ≡ Refused (Refusal.Grammar 10 i)) × (traceToTreeOutput file sentence trace out ≡ out)
+    pub tree-to-trace : (sentence tree out : List ℕ)
+        → (treeToTraceVerdict file sentence tree out ≡ Refused (Refusal.Grammar 10 i)) × (treeToTraceOutput file sentence tree out ≡ out)
+    pub counted : (sentence : List ℕ) (n limit : ℕ) → countCall file sentence n limit ≡ NotCounted (Refusal.Grammar 10 i)
+    pub entered : (sentence : List ℕ) (n limit m : ℕ) (out : List ℕ)
+        → (entryVerdict file sentence n limit m out ≡ Refused (Refusal.Grammar 10 i)) × (entryOutput file sentence n limit m out ≡ out)
+    pub surveyed : (out : List ℕ) (answer : Verdict) (after : List ℕ)
+        → SurveyOutcome file out answer after → (answer ≡ Refused (Refusal.Grammar 10 i)) × (after ≡ out)
+    pub trace-weighed : (sentence trace : List ℕ) → weighTraceVerdict file sentence trace ≡ Refused (Refusal.Grammar 10 i)
+    pub tree-weighed : (sentence tree : List ℕ) → weighTreeVerdict file sentence tree ≡ Refused (Refusal.Grammar 10 i)
+    pub program-prints : (sentenceFile : List ℕ) → program file sentenceFile ≡ printed (some (Refusal.Grammar 10 i)) []
+
+  -- no rule is an earlier one with its daughters in some order
+  abbrev pub WithoutDoubles : Type 0
+  WithoutDoubles = (k : ℕ) → DoubleAt g k → ⊥
+
+  -- rule i is the first that is
+  pub record FirstDouble (i : ℕ) : Type 0 where
+    pub double : DoubleAt g i
+    pub first : (k : ℕ) → k < i → DoubleAt g k → ⊥
+
+-- of every file of bytes that was accepted before
+pub record OldFiles : Type 0 where
+  pub kept : (file : List ℕ) → T (allBytes file) → grammarRefusalBefore file ≡ none → WithoutDoubles file → Kept file
+  pub lost : (file : List ℕ) → T (allBytes file) → grammarRefusalBefore file ≡ none → (i : ℕ) → FirstDouble file i → Lost file i
+  -- there is no third kind
+  pub either : (file : List ℕ) → T (allBytes file) → grammarRefusalBefore file ≡ none → WithoutDoubles file ⊎ ((i : ℕ) × FirstDouble file i)
+
+-- an older file with such a double: S(xy) from S, S and S(yx) from S, S, and the word 0
+abbrev pub shuffledFile : List ℕ
+shuffledFile =
+    fileOf (record { categories = 1; start = 0; words = 1; rules = 3; dimensions = padded 64 (1 ∷ []) })
+    (padded 24 (0 ∷ 2 ∷ 0 ∷ 0 ∷ 0 ∷ 0 ∷ 0 ∷ 2 ∷ 0 ∷ 0 ∷ 0 ∷ 0 ∷ 4 ∷ []) ++ padded 24 (0 ∷ 2 ∷ 0 ∷ 0 ∷ 0 ∷ 0 ∷ 0 ∷ 2 ∷ 0 ∷ 0 ∷ 0 ∷ 4 ∷ 0 ∷ []) ++ padded 24 [])

@@ -1,0 +1,7 @@
+-- The examples hold, by computation.
+-- Assumes nothing.
+use mathlib.Core.Path.{refl}
+use Rattle.doubles.specs.Examples.{Examples}
+
+pub examples-hold : Examples
+examples-hold = record { exchanged = refl; turned = refl; turned-back = refl; not-renumbered = refl; other-string = refl; own-components = refl }

@@ -1,0 +1,148 @@
+// Whether a rule is an earlier one, its weight and the order of its daughters aside: what refusal 10 tests of two records (document 01; document 02, papers 1
+// and 4). What it means of the rules is in specs/.
+ghost use mathlib.Core.Path.{_≡_};
+ghost use Rattle.model.specs.Base.{anyOf};
+ghost use Rattle.model.specs.GrammarFile.{sameRecord, renumbered, sameFrame, sameDaughters, sameVariables, sameInOrder, otherOrders, sameReordered, sameRule};
+ghost use lib.ListN.{getD};
+ghost use Rattle.doubles.specs.Order.{positions};
+use grammar::byte;
+use grammar::fields;
+use grammar::same_bytes;
+use grammar::total;
+
+// An order of the daughters: the positions that the first, the second and the third come to.
+struct Order {
+    first: u8,
+    second: u8,
+    third: u8,
+}
+
+// Whether two records are the same, weight aside. Records of different categories, byte 0, are compared no further.
+fn same_record(earlier: &[u8], e: &[u8]) -> bool
+    ensures { λ r. ⌜ r ≡ sameRecord (now (earlier .entry)) (now (e .entry)) ⌝ }
+{
+    if byte(earlier, 0) != byte(e, 0) {
+        return false;
+    }
+    same_bytes(fields(earlier, 0, 23), fields(e, 0, 23))
+}
+
+// The position that the daughter at position j comes to.
+fn position(order: Order, j: u8) -> u8
+    ensures { λ r. ⌜ r ≡ getD (positions order) j 0 ⌝ }
+{
+    if j == 0 {
+        return order.first;
+    }
+    if j == 1 {
+        return order.second;
+    }
+    if j == 2 {
+        return order.third;
+    }
+    0
+}
+
+// A variable, renumbered to match the order.
+fn renumbered(order: Order, v: u8) -> u16
+    ensures { λ r. ⌜ r ≡ renumbered (positions order) v ⌝ }
+{
+    4 * (position(order, v / 4) as u16) + (v % 4) as u16
+}
+
+// Whether two records are the same in what no order of the daughters changes.
+fn same_frame(earlier: &[u8], e: &[u8]) -> bool
+    ensures { λ r. ⌜ r ≡ sameFrame (now (earlier .entry)) (now (e .entry)) ⌝ }
+{
+    if !same_bytes(fields(earlier, 0, 2), fields(e, 0, 2)) {
+        return false;
+    }
+    same_bytes(fields(earlier, 5, 6), fields(e, 5, 6))
+}
+
+// Whether the daughters of record e, in this order, are those of the earlier record.
+fn same_daughters(earlier: &[u8], e: &[u8], order: Order) -> bool
+    ensures { λ r. ⌜ r ≡ sameDaughters (now (earlier .entry)) (now (e .entry)) (positions order) ⌝ }
+{
+    if byte(e, 2) != byte(earlier, 2 + order.first as usize) {
+        return false;
+    }
+    if byte(e, 3) != byte(earlier, 2 + order.second as usize) {
+        return false;
+    }
+    byte(e, 4) == byte(earlier, 2 + order.third as usize)
+}
+
+// Whether the variables of record e, renumbered to match this order, are those of the earlier record.
+fn same_variables(earlier: &[u8], e: &[u8], order: Order) -> bool
+    ensures { λ r. ⌜ r ≡ sameVariables (now (earlier .entry)) (now (e .entry)) (positions order) ⌝ }
+{
+    let n = total(fields(e, 7, 4)) as usize;
+    let mut k: usize = 0;
+    while k < n {
+        if renumbered(order, byte(e, 11 + k)) != byte(earlier, 11 + k) as u16 {
+            return false;
+        }
+        k += 1;
+    }
+    true
+}
+
+// Whether record e, with its daughters in this order, is the earlier record, where they are the same in what no order changes.
+fn same_in_order(earlier: &[u8], e: &[u8], order: Order) -> bool
+    ensures { λ r. ⌜ r ≡ sameInOrder (now (earlier .entry)) (now (e .entry)) (positions order) ⌝ }
+{
+    if !same_daughters(earlier, e, order) {
+        return false;
+    }
+    same_variables(earlier, e, order)
+}
+
+// The same of some other order of three daughters.
+fn same_of_three(earlier: &[u8], e: &[u8]) -> bool
+    ensures { λ r. ⌜ r ≡ anyOf (sameInOrder (now (earlier .entry)) (now (e .entry))) (otherOrders 3) ⌝ }
+{
+    if same_in_order(earlier, e, Order { first: 0, second: 2, third: 1 }) {
+        return true;
+    }
+    if same_in_order(earlier, e, Order { first: 1, second: 0, third: 2 }) {
+        return true;
+    }
+    if same_in_order(earlier, e, Order { first: 1, second: 2, third: 0 }) {
+        return true;
+    }
+    if same_in_order(earlier, e, Order { first: 2, second: 0, third: 1 }) {
+        return true;
+    }
+    same_in_order(earlier, e, Order { first: 2, second: 1, third: 0 })
+}
+
+// Whether record e equals the earlier one once its daughters are reordered.
+fn same_reordered(earlier: &[u8], e: &[u8]) -> bool
+    ensures { λ r. ⌜ r ≡ sameReordered (now (earlier .entry)) (now (e .entry)) ⌝ }
+{
+    let n = byte(e, 1);
+    if n < 2 {
+        return false;
+    }
+    if !same_frame(earlier, e) {
+        return false;
+    }
+    if n == 2 {
+        return same_in_order(earlier, e, Order { first: 1, second: 0, third: 2 });
+    }
+    if n == 3 {
+        return same_of_three(earlier, e);
+    }
+    false
+}
+
+// Refusal 10 of two records: record e equals the earlier one, weight aside, as it is or once its daughters are reordered.
+pub fn same_rule(earlier: &[u8], e: &[u8]) -> bool
+    ensures { λ r. ⌜ r ≡ sameRule (now (earlier .entry)) (now (e .entry)) ⌝ }
+{
+    if same_record(earlier, e) {
+        return true;
+    }
+    same_reordered(earlier, e)
+}

@@ -1,0 +1,4 @@
+pub mod Before
+pub mod Kept
+pub mod Lost
+pub mod OldFiles
