@@ -1,7 +1,7 @@
 #!/usr/bin/env python3
 """Writes the grammar files of crates/worked_examples/data: the copy grammar, without weights and with,
-the pair grammar, one with categories that have no tree, and one damaged file for each refusal 1 to 10,
-of 9 and 10 two.
+the pair grammar, one with categories that have no tree, one with rules that differ although their daughters
+are the same in some order, and one damaged file for each refusal 1 to 10, of 9 two, of 10 four.
 
 Usage: tools/example_grammars.py (at the repository's root)
 """
@@ -58,6 +58,16 @@ BARREN = [
     record(2, [0, 1], components=[[(0, 0), (1, 0)]]),
     record(3, [0], components=[[(0, 0)]]),
 ]
+# no two of these are one rule in two orders of its daughters: S has the strings of A and B in two orders, P has its components exchanged or other daughters
+OTHER_ORDERS = [
+    record(S, [A, B], components=[[(0, 0), (1, 0)]]),
+    record(S, [B, A], components=[[(0, 0), (1, 0)]]),
+    record(P, [A, B], components=[[(0, 0)], [(1, 0)]]),
+    record(P, [A, B], components=[[(1, 0)], [(0, 0)]]),
+    record(P, [A, A], components=[[(0, 0)], [(1, 0)]]),
+]
+# rule 1 of the copy grammar with its daughters in the order second, third, first
+SHUFFLED = record(P, [P, A, A], components=[[(2, 0), (0, 0)], [(1, 0), (0, 1)]], weight=9)
 
 
 def copy(records=COPY):
@@ -96,6 +106,7 @@ FILES = {
     "weighted": copy(weighted(COPY, [1, 2, 4, 8, 16, 32, 64])),
     "pair": blocks([1], S, 1, PAIR),
     "barren": blocks([1, 1, 1, 1], 0, 1, BARREN),
+    "other_orders": blocks([1, 2, 1, 1], S, 1, OTHER_ORDERS),
     "wrong_length": copy()[:1] + [copy()[1][:511]],
     "wrong_check": wrong_check(),
     "wrong_kind": set_byte(1, 2, 1),
@@ -109,6 +120,8 @@ FILES = {
     "rest_of_block": set_byte(1, 507, 1),
     "repeated_rule": copy(COPY + [COPY[5]]),
     "repeated_but_for_weight": copy(COPY + weighted([COPY[5]], [255])),
+    "shuffled_rule": copy(COPY + [SHUFFLED]),
+    "exchanged_daughters": blocks([1], S, 1, [PAIR[0], record(S, [S, S], components=[[(1, 0), (0, 0)]]), PAIR[1]]),
 }
 
 folder = "crates/worked_examples/data"

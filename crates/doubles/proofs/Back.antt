@@ -25,7 +25,7 @@ module _ (f h : Variable → Variable) where
       ap₂ (λ (x : List Variable) (xs : List (List Variable)). x ∷ xs) (undo c (λ v m. e v (mem-left (named cs) m))) (undo-all cs (λ v m. e v (mem-right c m)))
 
 module _ (earlier rule : Rule) (few : length (earlier .daughters) ≤ 3)
-  (in-range : (v : Variable) → List·Memᴰ v (named (rule .components)) → v .daughter < length (rule .daughters)) (r : Reordered earlier rule) where
+    (in-range : (v : Variable) → List·Memᴰ v (named (rule .components)) → v .daughter < length (rule .daughters)) (r : Reordered earlier rule) where
   abbrev n : ℕ
   n = length (earlier .daughters)
 

@@ -5,4 +5,4 @@ use Prim.Native.Nat.{ℕ}
 use Rattle.doubles.specs.declared.Order.{Order}
 
 abbrev pub positions : Order → List ℕ
-positions order = order .first ∷ order .second ∷ order .third ∷ []
+positions order = order .0 ∷ order .1 ∷ order .2 ∷ []

@@ -11,11 +11,7 @@ use grammar::same_bytes;
 use grammar::total;
 
 // An order of the daughters: the positions that the first, the second and the third come to.
-struct Order {
-    first: u8,
-    second: u8,
-    third: u8,
-}
+struct Order(u8, u8, u8);
 
 // Whether two records are the same, weight aside. Records of different categories, byte 0, are compared no further.
 fn same_record(earlier: &[u8], e: &[u8]) -> bool
@@ -32,13 +28,13 @@ fn position(order: Order, j: u8) -> u8
     ensures { λ r. ⌜ r ≡ getD (positions order) j 0 ⌝ }
 {
     if j == 0 {
-        return order.first;
+        return order.0;
     }
     if j == 1 {
-        return order.second;
+        return order.1;
     }
     if j == 2 {
-        return order.third;
+        return order.2;
     }
     0
 }
@@ -64,13 +60,13 @@ fn same_frame(earlier: &[u8], e: &[u8]) -> bool
 fn same_daughters(earlier: &[u8], e: &[u8], order: Order) -> bool
     ensures { λ r. ⌜ r ≡ sameDaughters (now (earlier .entry)) (now (e .entry)) (positions order) ⌝ }
 {
-    if byte(e, 2) != byte(earlier, 2 + order.first as usize) {
+    if byte(e, 2) != byte(earlier, 2 + order.0 as usize) {
         return false;
     }
-    if byte(e, 3) != byte(earlier, 2 + order.second as usize) {
+    if byte(e, 3) != byte(earlier, 2 + order.1 as usize) {
         return false;
     }
-    byte(e, 4) == byte(earlier, 2 + order.third as usize)
+    byte(e, 4) == byte(earlier, 2 + order.2 as usize)
 }
 
 // Whether the variables of record e, renumbered to match this order, are those of the earlier record.
@@ -102,19 +98,19 @@ fn same_in_order(earlier: &[u8], e: &[u8], order: Order) -> bool
 fn same_of_three(earlier: &[u8], e: &[u8]) -> bool
     ensures { λ r. ⌜ r ≡ anyOf (sameInOrder (now (earlier .entry)) (now (e .entry))) (otherOrders 3) ⌝ }
 {
-    if same_in_order(earlier, e, Order { first: 0, second: 2, third: 1 }) {
+    if same_in_order(earlier, e, Order(0, 2, 1)) {
         return true;
     }
-    if same_in_order(earlier, e, Order { first: 1, second: 0, third: 2 }) {
+    if same_in_order(earlier, e, Order(1, 0, 2)) {
         return true;
     }
-    if same_in_order(earlier, e, Order { first: 1, second: 2, third: 0 }) {
+    if same_in_order(earlier, e, Order(1, 2, 0)) {
         return true;
     }
-    if same_in_order(earlier, e, Order { first: 2, second: 0, third: 1 }) {
+    if same_in_order(earlier, e, Order(2, 0, 1)) {
         return true;
     }
-    same_in_order(earlier, e, Order { first: 2, second: 1, third: 0 })
+    same_in_order(earlier, e, Order(2, 1, 0))
 }
 
 // Whether record e equals the earlier one once its daughters are reordered.
@@ -129,7 +125,7 @@ fn same_reordered(earlier: &[u8], e: &[u8]) -> bool
         return false;
     }
     if n == 2 {
-        return same_in_order(earlier, e, Order { first: 1, second: 0, third: 2 });
+        return same_in_order(earlier, e, Order(1, 0, 2));
     }
     if n == 3 {
         return same_of_three(earlier, e);

@@ -26,6 +26,10 @@ fn main() {
     let weighted = &weighted_file[0..w];
     title(b"the copy grammar with weights written again");
     writing::run(weighted);
+    let mut shuffled_file = [0u8; 1024];
+    let s = load(b"shuffled_rule", &mut shuffled_file);
+    title(b"the copy grammar with a rule twice, in two orders of its daughters, written again");
+    writing::run(&shuffled_file[0..s]);
     title(b"trace checker");
     traces::run(copy);
     title(b"trees");

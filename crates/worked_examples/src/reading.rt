@@ -1,4 +1,4 @@
-// The reader's verdict of three files that it accepts, and of one for each refusal 1 to 10 (of 9 and 10 two).
+// The reader's verdict of four files that it accepts, and of one for each refusal 1 to 10 (of 9 two, of 10 four).
 use crate::show::load;
 use crate::show::print_verdict;
 use libc::STDOUT_FILENO;
@@ -31,12 +31,15 @@ fn wrong_rules() {
     show(b"rest_of_block");
     show(b"repeated_rule");
     show(b"repeated_but_for_weight");
+    show(b"shuffled_rule");
+    show(b"exchanged_daughters");
 }
 
 pub fn run() {
     show(b"copy");
     show(b"weighted");
     show(b"pair");
+    show(b"other_orders");
     wrong_blocks();
     wrong_rules();
     show(b"no_such_file");

@@ -1,6 +1,7 @@
-// A grammar, written again from its fields: says whether the file comes out the same.
+// A grammar, written again from its fields: says whether the file comes out the same, or the refusal.
 ghost use Prim.Native.Nat.{_<_};
 ghost use lib.ListN.{length};
+use crate::show::print_verdict;
 use crate::show::title;
 use model::RuleNumber;
 use model::Verdict;
@@ -17,41 +18,43 @@ fn gather(file: &[u8], records: &mut [u8])
     }
 }
 
-// Whether the file's heading and these records make the file again.
-fn same_again(file: &[u8], records: &[u8]) -> bool {
-    let mut out = [0u8; 7168];
-    let v = writer::write_grammar(
+// The writer's verdict for the file's heading and these records.
+fn write(file: &[u8], records: &[u8], out: &mut [u8]) -> Verdict {
+    writer::write_grammar(
         grammar::categories(file),
         grammar::start(file).0,
         grammar::words(file),
         grammar::rules(file),
         grammar::fields(file, 16, 64),
         records,
-        &mut out,
-    );
+        out,
+    )
+}
+
+// Whether the n bytes that the writer wrote are the file.
+fn is_same(file: &[u8], out: &[u8], n: u64) -> bool {
+    grammar::same_bytes(file, grammar::fields(out, 0, n as usize))
+}
+
+fn show(file: &[u8], records: &[u8]) {
+    let mut out = [0u8; 7168];
+    let v = write(file, records, &mut out);
     let Verdict::Accepted(n) = v else {
-        return false;
+        print_verdict(v);
+        return;
     };
-    if 7168 < n {
-        return false;
-    }
-    grammar::same_bytes(file, &out[0..n as usize])
-}
-
-fn rewritten(file: &[u8]) -> bool {
-    let mut records = [0u8; 6144];
-    gather(file, &mut records);
-    let used = 24 * (grammar::rules(file) as usize);
-    if 6144 < used {
-        return false;
-    }
-    same_again(file, &records[0..used])
-}
-
-pub fn run(file: &[u8]) {
-    if rewritten(file) {
+    if is_same(file, &out, n) {
         title(b"same");
     } else {
         title(b"other");
     }
+}
+
+pub fn run(file: &[u8]) {
+    let mut records = [0u8; 6144];
+    gather(file, &mut records);
+    show(
+        file,
+        grammar::fields(&records, 0, 24 * (grammar::rules(file) as usize)),
+    );
 }
