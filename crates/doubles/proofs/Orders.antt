@@ -116,29 +116,29 @@ of-two x y (first a) (third b) = let z : ⊥ = omega arith in absurd z
 of-two x y (second a) (third b) = let z : ⊥ = omega arith in absurd z
 
 -- each permutation of n positions is among the orders of n daughters
-pub tried : (n : ℕ) (order : List ℕ) → n ≤ 3 → Perm order (numbersFrom 0 n) → List·Memᴰ (extended n order) (orders n)
-tried zero [] three p = List·Memᴰ·head refl
-tried (suc zero) (x ∷ []) three p = List·Memᴰ·head (λ i. (e i) ∷ 1 ∷ 2 ∷ [])
+pub is-among : (n : ℕ) (order : List ℕ) → n ≤ 3 → Perm order (numbersFrom 0 n) → List·Memᴰ (extended n order) (orders n)
+is-among zero [] three p = List·Memᴰ·head refl
+is-among (suc zero) (x ∷ []) three p = List·Memᴰ·head (λ i. (e i) ∷ 1 ∷ 2 ∷ [])
   where
     e : x ≡ 0
     e = omega (arith, order-low 1 (x ∷ []) p 0 (omega arith))
-tried (suc (suc zero)) (x ∷ y ∷ []) three p =
+is-among (suc (suc zero)) (x ∷ y ∷ []) three p =
     of-two x y (at-of 0 x y 2 (mem-left (2 ∷ []) (order-has 2 (x ∷ y ∷ []) p 0 (omega arith))))
     (at-of 1 x y 2 (mem-left (2 ∷ []) (order-has 2 (x ∷ y ∷ []) p 1 (omega arith))))
-tried (suc (suc (suc zero))) (x ∷ y ∷ z ∷ []) three p =
+is-among (suc (suc (suc zero))) (x ∷ y ∷ z ∷ []) three p =
     of-three x y z (at-of 0 x y z (order-has 3 (x ∷ y ∷ z ∷ []) p 0 (omega arith)))
     (at-of 1 x y z (order-has 3 (x ∷ y ∷ z ∷ []) p 1 (omega arith))) (at-of 2 x y z (order-has 3 (x ∷ y ∷ z ∷ []) p 2 (omega arith)))
-tried zero (x ∷ l) three p = let z : ⊥ = omega (arith, order-length 0 (x ∷ l) p) in absurd z
-tried (suc zero) [] three p = let z : ⊥ = omega (arith, order-length 1 [] p) in absurd z
-tried (suc zero) (x ∷ y ∷ l) three p = let z : ⊥ = omega (arith, order-length 1 (x ∷ y ∷ l) p) in absurd z
-tried (suc (suc zero)) [] three p = let z : ⊥ = omega (arith, order-length 2 [] p) in absurd z
-tried (suc (suc zero)) (x ∷ []) three p = let z : ⊥ = omega (arith, order-length 2 (x ∷ []) p) in absurd z
-tried (suc (suc zero)) (x ∷ y ∷ z ∷ l) three p = let z : ⊥ = omega (arith, order-length 2 (x ∷ y ∷ z ∷ l) p) in absurd z
-tried (suc (suc (suc zero))) [] three p = let z : ⊥ = omega (arith, order-length 3 [] p) in absurd z
-tried (suc (suc (suc zero))) (x ∷ []) three p = let z : ⊥ = omega (arith, order-length 3 (x ∷ []) p) in absurd z
-tried (suc (suc (suc zero))) (x ∷ y ∷ []) three p = let z : ⊥ = omega (arith, order-length 3 (x ∷ y ∷ []) p) in absurd z
-tried (suc (suc (suc zero))) (x ∷ y ∷ z ∷ w ∷ l) three p = let z : ⊥ = omega (arith, order-length 3 (x ∷ y ∷ z ∷ w ∷ l) p) in absurd z
-tried (suc (suc (suc (suc n)))) order three p = let z : ⊥ = omega arith in absurd z
+is-among zero (x ∷ l) three p = let z : ⊥ = omega (arith, order-length 0 (x ∷ l) p) in absurd z
+is-among (suc zero) [] three p = let z : ⊥ = omega (arith, order-length 1 [] p) in absurd z
+is-among (suc zero) (x ∷ y ∷ l) three p = let z : ⊥ = omega (arith, order-length 1 (x ∷ y ∷ l) p) in absurd z
+is-among (suc (suc zero)) [] three p = let z : ⊥ = omega (arith, order-length 2 [] p) in absurd z
+is-among (suc (suc zero)) (x ∷ []) three p = let z : ⊥ = omega (arith, order-length 2 (x ∷ []) p) in absurd z
+is-among (suc (suc zero)) (x ∷ y ∷ z ∷ l) three p = let z : ⊥ = omega (arith, order-length 2 (x ∷ y ∷ z ∷ l) p) in absurd z
+is-among (suc (suc (suc zero))) [] three p = let z : ⊥ = omega (arith, order-length 3 [] p) in absurd z
+is-among (suc (suc (suc zero))) (x ∷ []) three p = let z : ⊥ = omega (arith, order-length 3 (x ∷ []) p) in absurd z
+is-among (suc (suc (suc zero))) (x ∷ y ∷ []) three p = let z : ⊥ = omega (arith, order-length 3 (x ∷ y ∷ []) p) in absurd z
+is-among (suc (suc (suc zero))) (x ∷ y ∷ z ∷ w ∷ l) three p = let z : ⊥ = omega (arith, order-length 3 (x ∷ y ∷ z ∷ w ∷ l) p) in absurd z
+is-among (suc (suc (suc (suc n)))) order three p = let z : ⊥ = omega arith in absurd z
 
 -- what holds of each order
 one-of : (P : List ℕ → Type 0) {o x : List ℕ} {os : List (List ℕ)} → P x → (List·Memᴰ o os → P o) → List·Memᴰ o (x ∷ os) → P o
@@ -173,7 +173,7 @@ module _ (P : ℕ → List ℕ → Type 0) where
   by-orders stay two a b c d e (suc (suc (suc (suc n)))) three m = let z : ⊥ = omega arith in absurd z
 
 -- each of the orders is a permutation of n positions
-pub record Tried (n : ℕ) (o : List ℕ) : Type 0 where
+pub record Permutation (n : ℕ) (o : List ℕ) : Type 0 where
   pub order : List ℕ
   pub is-order : Perm order (numbersFrom 0 n)
   pub is : o ≡ extended n order
@@ -185,9 +185,9 @@ stays (suc (suc zero)) h = refl
 stays (suc (suc (suc zero))) h = refl
 stays (suc (suc (suc (suc n)))) h = let z : ⊥ = omega arith in absurd z
 
-pub untried : (n : ℕ) {o : List ℕ} → n ≤ 3 → List·Memᴰ o (orders n) → Tried n o
-untried =
-    by-orders Tried
+pub is-permutation : (n : ℕ) {o : List ℕ} → n ≤ 3 → List·Memᴰ o (orders n) → Permutation n o
+is-permutation =
+    by-orders Permutation
     (λ n h. record { order = numbersFrom 0 n; is-order = same refl; is = stays n h })
     (record { order = 1 ∷ 0 ∷ []; is-order = swap 1 0; is = refl })
     (record { order = 0 ∷ 2 ∷ 1 ∷ []; is-order = more 0 (swap 2 1); is = refl })
@@ -202,19 +202,19 @@ undoes o back j = eqb (getD back (getD o j 0) 0) j && eqb (getD o (getD back j 0
 
 record Undone (n : ℕ) (o : List ℕ) : Type 0 where
   back : List ℕ
-  is-tried : List·Memᴰ back (orders n)
+  is-one : List·Memᴰ back (orders n)
   undone : T (allBelow (undoes o back) 3)
 
 undone-by : (n : ℕ) {o : List ℕ} → n ≤ 3 → List·Memᴰ o (orders n) → Undone n o
 undone-by =
     by-orders Undone
-    (λ n h. record { back = unmoved; is-tried = List·Memᴰ·head refl; undone = tt })
-    (record { back = 1 ∷ 0 ∷ 2 ∷ []; is-tried = nth 2 1 (omega arith); undone = tt })
-    (record { back = 0 ∷ 2 ∷ 1 ∷ []; is-tried = nth 3 1 (omega arith); undone = tt })
-    (record { back = 1 ∷ 0 ∷ 2 ∷ []; is-tried = nth 3 2 (omega arith); undone = tt })
-    (record { back = 2 ∷ 0 ∷ 1 ∷ []; is-tried = nth 3 4 (omega arith); undone = tt })
-    (record { back = 1 ∷ 2 ∷ 0 ∷ []; is-tried = nth 3 3 (omega arith); undone = tt })
-    (record { back = 2 ∷ 1 ∷ 0 ∷ []; is-tried = nth 3 5 (omega arith); undone = tt })
+    (λ n h. record { back = unmoved; is-one = List·Memᴰ·head refl; undone = tt })
+    (record { back = 1 ∷ 0 ∷ 2 ∷ []; is-one = nth 2 1 (omega arith); undone = tt })
+    (record { back = 0 ∷ 2 ∷ 1 ∷ []; is-one = nth 3 1 (omega arith); undone = tt })
+    (record { back = 1 ∷ 0 ∷ 2 ∷ []; is-one = nth 3 2 (omega arith); undone = tt })
+    (record { back = 2 ∷ 0 ∷ 1 ∷ []; is-one = nth 3 4 (omega arith); undone = tt })
+    (record { back = 1 ∷ 2 ∷ 0 ∷ []; is-one = nth 3 3 (omega arith); undone = tt })
+    (record { back = 2 ∷ 1 ∷ 0 ∷ []; is-one = nth 3 5 (omega arith); undone = tt })
 
 -- a permutation of n positions, undone
 pub record Inverse (n : ℕ) (order : List ℕ) : Type 0 where
@@ -225,8 +225,8 @@ pub record Inverse (n : ℕ) (order : List ℕ) : Type 0 where
 
 pub inverse : (n : ℕ) (order : List ℕ) → n ≤ 3 → Perm order (numbersFrom 0 n) → Inverse n order
 inverse n order three perm =
-    let u = undone-by n three (tried n order three perm) in
-    let t = untried n three (u .is-tried) in
+    let u = undone-by n three (is-among n order three perm) in
+    let t = is-permutation n three (u .is-one) in
     let o = extended n order in
     let b = extended n (t .order) in
     let both : (j : ℕ) → j < n → T (undoes o b j) = λ j h. subst (λ (l : List ℕ). T (undoes o l j)) (t .is) (all-true (undoes o (u .back)) 3 (u .undone) j (omega arith)) in

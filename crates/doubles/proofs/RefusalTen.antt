@@ -3,7 +3,7 @@
 use mathlib.Core.Path.{_≡_, refl, sym, subst, _∙_}
 use mathlib.Core.Logic.{_⊎_, inl, inr}
 use mathlib.Core.Bool.{Bool, true, false, _||_}
-use mathlib.Core.List.{List, [], _∷_, List·Memᴰ, List·Memᴰ·head, List·Memᴰ·tail, List·Memᴰ·cases-cons}
+use mathlib.Core.List.{List, [], List·Memᴰ, List·Memᴰ·head, List·Memᴰ·tail, List·Memᴰ·cases-cons}
 use mathlib.Core.Option.{none}
 use Prim.Native.Nat.{ℕ, zero, suc, _<_, _≤_}
 use native.Mathlib.Omega.{arith}
@@ -16,19 +16,18 @@ use Rattle.model.specs.Grammar.{Rule, Variable, Grammar}
 use Rattle.model.specs.WellFormed.{RightRule, named}
 use Rattle.model.specs.GrammarFile.{field, otherOrders, sameRecord, sameFrame, sameInOrder, sameReordered, sameRule, repeated, grammarOf, grammarRefusal, rulesOf, recordOf, recordPlace}
 use Rattle.model.specs.Writer.{allBytes}
-use Rattle.model.specs.Demands.{_⇔_}
 use Rattle.model.proofs.Tests.{passes as on, and-both, or-left, or-right, or-cases, not-both}
-use Rattle.model.proofs.ByteLists.{bytes-at, bytes-fields}
+use Rattle.model.proofs.ByteLists.{bytes-at, all-fields}
 use Rattle.model.proofs.Digits.{Compared, compared, less, same, more}
 use Rattle.model.proofs.Perm.{perm-mem}
 use Rattle.model.proofs.Variables.{vars-out}
-use Rattle.model.proofs.RuleFromRecord.{Tested, DimensionsIn, daughters-length, rule-right, rule-in-range}
+use Rattle.model.proofs.RuleFromRecord.{Tested, DimensionsIn, daughters-length, not-lexical, rule-right, rule-in-range}
 use Rattle.model.proofs.FromFile.{ruleRead, rule-is, rule-passed, record-tested, dimensions-in}
 use Rattle.grammar.proofs.Below.{any-hit}
-use Rattle.doubles.specs.Doubles.{Reordered, Passes, Double, NoDoubles, RefusalTen}
-use Rattle.doubles.proofs.Orders.{unmoved, orders, extended, tried, untried}
-use Rattle.doubles.proofs.Shape.{Shape, shape, not-lexical}
-use Rattle.doubles.proofs.Agreement.{Agrees, Found, found, any-in, in-order, same-agrees, reordered, is-order, rules-agree, frame, whole}
+use Rattle.doubles.specs.Doubles.{Reordered, Passes, Double, EarlierDouble, NoDoubles, RefusalTen}
+use Rattle.doubles.proofs.Orders.{unmoved, orders, extended, is-among, is-permutation}
+use Rattle.doubles.proofs.Shape.{Shape, shape}
+use Rattle.doubles.proofs.Agreement.{Agrees, found, any-in, in-order, same-agrees, reordered, is-order, rules-agree, frame, whole}
 use Rattle.doubles.proofs.Back.{reordered-back}
 
 module _ (g : Grammar) (in-range : DimensionsIn g) (earlier e : List ℕ) (px : Passes g earlier) (pe : Passes g e) where
@@ -43,7 +42,7 @@ module _ (g : Grammar) (in-range : DimensionsIn g) (earlier e : List ℕ) (px : 
 
   by-order : (o : List ℕ) → List·Memᴰ o (orders (field earlier 1)) → Agrees earlier e o → Double g earlier e
   by-order o m h =
-      let t = untried (field earlier 1) (sx .few) m in
+      let t = is-permutation (field earlier 1) (sx .few) m in
       reordered d earlier e sx se (t .order) (t .is-order) (subst (Agrees earlier e) (t .is) h)
 
   tells : T (sameRecord earlier e) ⊎ T (sameReordered earlier e) → Double g earlier e
@@ -52,14 +51,14 @@ module _ (g : Grammar) (in-range : DimensionsIn g) (earlier e : List ℕ) (px : 
       let f = found earlier e t in
       by-order (f .order) (subst (λ (k : ℕ). List·Memᴰ (f .order) (orders k)) (sym (f .agreed .many)) (List·Memᴰ·tail (f .among))) (f .agreed)
 
-  told : Double g earlier e → T (sameRule earlier e)
-  told r = go (List·Memᴰ·cases-cons (tried (field earlier 1) (r .order) (sx .few) (is-order d earlier e sx se (px .bytes) (pe .bytes) r)))
+  told : T (allBytes earlier) → T (allBytes e) → Double g earlier e → T (sameRule earlier e)
+  told bx be r = go (List·Memᴰ·cases-cons (is-among (field earlier 1) (r .order) (sx .few) (is-order d earlier e sx se (bytes-at earlier bx) (bytes-at e be) r)))
     where
       o : List ℕ
       o = extended (field earlier 1) (r .order)
 
       h : Agrees earlier e o
-      h = rules-agree d earlier e sx se (px .bytes) (pe .bytes) r
+      h = rules-agree d earlier e sx se (bytes-at earlier bx) (bytes-at e be) r
 
       go : (o ≡ unmoved) ⊎ List·Memᴰ o (otherOrders (field earlier 1)) → T (sameRule earlier e)
       go (inl u) = or-left (sameRecord earlier e) (sameReordered earlier e) (whole d earlier e sx se o h u)
@@ -68,8 +67,8 @@ module _ (g : Grammar) (in-range : DimensionsIn g) (earlier e : List ℕ) (px : 
           (and-both (sameFrame earlier e) (anyOf (sameInOrder earlier e) (otherOrders (field e 1))) (frame d earlier e sx se o h)
           (any-in (sameInOrder earlier e) (subst (λ (k : ℕ). List·Memᴰ o (otherOrders k)) (h .many) m) (in-order earlier e o h)))
 
-  meant : (sameRule earlier e ≡ true) ⇔ Double g earlier e
-  meant = (λ q. tells (or-cases (sameRecord earlier e) (sameReordered earlier e) (subst T (sym q) tt)), λ r. on (sameRule earlier e) (told r))
+  meant : (sameRule earlier e ≡ true → Double g earlier e) × (T (allBytes earlier) → T (allBytes e) → Double g earlier e → sameRule earlier e ≡ true)
+  meant = (λ q. tells (or-cases (sameRecord earlier e) (sameReordered earlier e) (subst T (sym q) tt)), λ bx be r. on (sameRule earlier e) (told bx be r))
 
 below-out : (test : ℕ → Bool) (n : ℕ) → anyBelow test n ≡ true → (j : ℕ) × (j < n) × (test j ≡ true)
 below-out test zero e = not-both (sym e)
@@ -79,15 +78,19 @@ below-out test (suc n) e = go (anyBelow test n) refl e (λ f. below-out test n f
     go true f u ih = let (j, h, v) = ih f in (j, omega arith, v)
     go false f u ih = (n, omega arith, u)
 
-met : (g : Grammar) → DimensionsIn g → (recordAt : ℕ → List ℕ) (i : ℕ) → ((k : ℕ) → k ≤ i → Passes g (recordAt k))
-    → (repeated recordAt i ≡ true) ⇔ ((j : ℕ) × (j < i) × Double g (recordAt j) (recordAt i))
-met g in-range recordAt i passes =
-    let test : ℕ → Bool = λ j. sameRule (recordAt j) (recordAt i) in
-    let of : (j : ℕ) → j < i → (test j ≡ true) ⇔ Double g (recordAt j) (recordAt i) =
-    λ j h. meant g in-range (recordAt j) (recordAt i) (passes j (omega arith)) (passes i (omega arith)) in (
-      λ q. let (j, h, s) = below-out test i q in (j, h, of j h .0 s),
-      λ w. any-hit test (w .0) i (w .1) (of (w .0) (w .1) .1 (w .2)),
-    )
+module _ (g : Grammar) (in-range : DimensionsIn g) (recordAt : ℕ → List ℕ) (i : ℕ) (passes : (k : ℕ) → k ≤ i → Passes g (recordAt k)) where
+  abbrev test : ℕ → Bool
+  test j = sameRule (recordAt j) (recordAt i)
+
+  found-earlier : repeated recordAt i ≡ true → EarlierDouble g recordAt i
+  found-earlier q =
+      let (j, h, s) = below-out test i q in
+      (j, h, meant g in-range (recordAt j) (recordAt i) (passes j (omega arith)) (passes i (omega arith)) .0 s)
+
+  is-repeated : ((k : ℕ) → k ≤ i → T (allBytes (recordAt k))) → EarlierDouble g recordAt i → repeated recordAt i ≡ true
+  is-repeated bytes w =
+      let (j, h, r) = w in
+      any-hit test j i h (meant g in-range (recordAt j) (recordAt i) (passes j (omega arith)) (passes i (omega arith)) .1 (bytes j (omega arith)) (bytes i (omega arith)) r)
 
 module _ (file : List ℕ) (bytes : T (allBytes file)) (accepted : grammarRefusal file ≡ none) where
   record-passes : (i : ℕ) → i < rulesOf file → Passes (grammarOf file) (recordOf file i)
@@ -95,7 +98,6 @@ module _ (file : List ℕ) (bytes : T (allBytes file)) (accepted : grammarRefusa
       let p = rule-passed file accepted i h in
       record {
         long = record-tested file accepted i h .long;
-        bytes = bytes-fields file (recordPlace i) 24 (bytes-at file bytes);
         category = p .category;
         word = p .word;
         variables = p .variables;
@@ -105,8 +107,9 @@ module _ (file : List ℕ) (bytes : T (allBytes file)) (accepted : grammarRefusa
   -- no rule is an earlier one with its daughters in some order
   no-earlier : (i j : ℕ) → i < rulesOf file → j < i → Reordered (ruleRead file j) (ruleRead file i) → ⊥
   no-earlier i j h l r =
-      let m = met (grammarOf file) (dimensions-in file accepted) (recordOf file) i (λ k le. record-passes k (omega arith)) in
-      not-both (sym (m .1 (j, l, r)) ∙ rule-passed file accepted i h .single)
+      let again = is-repeated (grammarOf file) (dimensions-in file accepted) (recordOf file) i (λ k le. record-passes k (omega arith))
+      (λ k le. all-fields file (recordPlace k) 24 bytes) (j, l, r) in
+      not-both (sym again ∙ rule-passed file accepted i h .single)
 
   -- a rule's variables are of its daughters
   of-daughters : (i : ℕ) → i < rulesOf file → (v : Variable) → List·Memᴰ v (named (ruleRead file i .components)) → v .daughter < length (ruleRead file i .daughters)
@@ -123,8 +126,7 @@ module _ (file : List ℕ) (bytes : T (allBytes file)) (accepted : grammarRefusa
 
       go : Dec (0 < field (recordOf file i) 1) → v .daughter < length (ruleRead file i .daughters)
       go (yes l) =
-          let e = not-lexical (ruleRead file i .daughters) (omega (arith, daughters-length (grammarOf file) (recordOf file i) t)) in
-          let p = vars-out (grammarOf file) 0 (ruleRead file i .daughters) v (perm-mem (right .complete e) m) in
+          let p = vars-out (grammarOf file) 0 (ruleRead file i .daughters) v (perm-mem (right .complete (not-lexical (grammarOf file) (recordOf file i) t l)) m) in
           omega (arith, p .daughter-is, p .in-range)
       go (no l) = nothing (rw (le-ltb 0 (field (recordOf file i) 1) (omega arith)) at m)
 
@@ -143,4 +145,4 @@ module _ (file : List ℕ) (bytes : T (allBytes file)) (accepted : grammarRefusa
       go hr hs w (more l) = absurd (no-earlier r s hr l (reordered-back (ruleRead file r) (ruleRead file s) (few r hr) (of-daughters s hs) w))
 
 pub refusal-ten : RefusalTen
-refusal-ten = record { meant = meant; met = met; no-doubles = no-doubles }
+refusal-ten = record { meant = meant; met = λ g in-range recordAt i passes. (found-earlier g in-range recordAt i passes, is-repeated g in-range recordAt i passes); no-doubles = no-doubles }

@@ -1,6 +1,6 @@
 -- What 6 to 9 say of the bytes of a record that none of them meets: which of them are in use, and that all others are 0.
 -- Assumes nothing.
-use mathlib.Core.Path.{_≡_, refl, sym, ap, subst, _∙_}
+use mathlib.Core.Path.{_≡_, refl, sym, subst, _∙_}
 use mathlib.Core.Bool.{true, false}
 use mathlib.Core.List.{List, [], _∷_, _++_, map, List·Memᴰ}
 use Prim.Native.Nat.{ℕ, _+_, _-_, _/_, _<_, _≤_}
@@ -19,7 +19,7 @@ use Rattle.model.proofs.Lists.{mem-getD, map-in}
 use Rattle.model.proofs.Perm.{perm-mem}
 use Rattle.model.proofs.Variables.{vars-out}
 use Rattle.model.proofs.ByteLists.{fields-length, fields-at, zero-field}
-use Rattle.model.proofs.RuleFromRecord.{Tested, DimensionsIn, three, category-in, daughters-length, twelve as variables-twelve, lengths-total, named-are, rule-right}
+use Rattle.model.proofs.RuleFromRecord.{Tested, DimensionsIn, three, category-in, daughters-length, not-lexical, twelve as variables-twelve, lengths-total, named-are, rule-right}
 use Rattle.doubles.specs.Doubles.{Passes}
 use Rattle.doubles.proofs.Sequences.{total-front}
 
@@ -45,11 +45,6 @@ pub record Shape (dimensions e : List ℕ) : Type 0 where
 -- byte p of a part that is 0
 zero-in : (e : List ℕ) (i n p : ℕ) → T (allZero (fields e i n)) → i ≤ p → p < i + n → field e p ≡ 0
 zero-in e i n p t lo hi = zero-field e i n t p (p - i) (omega arith) (omega arith)
-
--- a rule with daughters is not lexical
-pub not-lexical : (ds : List ℕ) → 0 < length ds → (elim ds [ [] ↦ true | x ∷ xs ↦ false ]) ≡ false
-not-lexical [] h = let z : ⊥ = omega arith in absurd z
-not-lexical (x ∷ ds) h = refl
 
 module _ (g : Grammar) (dimensions-in : DimensionsIn g) (e : List ℕ) (passes : Passes g e) where
   abbrev d : List ℕ
@@ -119,7 +114,7 @@ module _ (g : Grammar) (dimensions-in : DimensionsIn g) (e : List ℕ) (passes :
     where
       range : (k : ℕ) → k < variables d e → field e (11 + k) / 4 < n
       range k h =
-          let l : isLexical (ruleOf d e) ≡ false = not-lexical (daughtersOf e) (omega (arith, daughters-length g e tested)) in
+          let l : isLexical (ruleOf d e) ≡ false = not-lexical g e tested some in
           let vs = fields e 11 (variables d e) in
           let long : length vs ≡ variables d e = fields-length e 11 (variables d e) (omega (arith, passes .long, variables-twelve g e tested dimensions-in)) in
           let i : List·Memᴰ (decoded (getD vs k 0)) (map decoded vs) = map-in decoded (mem-getD vs 0 k (omega arith)) in

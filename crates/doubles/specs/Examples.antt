@@ -2,7 +2,7 @@
 -- daughter of the earlier rule, y of its second, z of its third.
 -- Assumes nothing.
 use mathlib.Core.Path.{_≡_}
-use mathlib.Core.Bool.{Bool, true, false}
+use mathlib.Core.Bool.{true, false}
 use mathlib.Core.List.{List, [], _∷_, _++_}
 use Prim.Native.Nat.{ℕ}
 use lib.ListN.{length}
@@ -18,9 +18,9 @@ pub record Examples : Type 0 where
   -- S(xy) and S(yx) from S, S, with different weights
   pub exchanged : sameRule (ruleOfS (0 ∷ 0 ∷ []) (2 ∷ []) (0 ∷ 4 ∷ []) 0) (ruleOfS (0 ∷ 0 ∷ []) (2 ∷ []) (4 ∷ 0 ∷ []) 7) ≡ true
   -- S(xyz) from A, B, C, and the same from B, C, A and from C, A, B
-  pub turned : sameRule (ruleOfS (1 ∷ 2 ∷ 3 ∷ []) (3 ∷ []) (0 ∷ 4 ∷ 8 ∷ []) 0) (ruleOfS (2 ∷ 3 ∷ 1 ∷ []) (3 ∷ []) (8 ∷ 0 ∷ 4 ∷ []) 0) ≡ true
-  pub turned-back : sameRule (ruleOfS (1 ∷ 2 ∷ 3 ∷ []) (3 ∷ []) (0 ∷ 4 ∷ 8 ∷ []) 0) (ruleOfS (3 ∷ 1 ∷ 2 ∷ []) (3 ∷ []) (4 ∷ 8 ∷ 0 ∷ []) 0) ≡ true
-  -- the daughters reordered, and the variables not renumbered: S(xyz) from B, C, A
+  pub cycled : sameRule (ruleOfS (1 ∷ 2 ∷ 3 ∷ []) (3 ∷ []) (0 ∷ 4 ∷ 8 ∷ []) 0) (ruleOfS (2 ∷ 3 ∷ 1 ∷ []) (3 ∷ []) (8 ∷ 0 ∷ 4 ∷ []) 0) ≡ true
+  pub cycled-back : sameRule (ruleOfS (1 ∷ 2 ∷ 3 ∷ []) (3 ∷ []) (0 ∷ 4 ∷ 8 ∷ []) 0) (ruleOfS (3 ∷ 1 ∷ 2 ∷ []) (3 ∷ []) (4 ∷ 8 ∷ 0 ∷ []) 0) ≡ true
+  -- the daughters reordered, and the variables not renumbered: S(yzx) from B, C, A
   pub not-renumbered : sameRule (ruleOfS (1 ∷ 2 ∷ 3 ∷ []) (3 ∷ []) (0 ∷ 4 ∷ 8 ∷ []) 0) (ruleOfS (2 ∷ 3 ∷ 1 ∷ []) (3 ∷ []) (0 ∷ 4 ∷ 8 ∷ []) 0) ≡ false
   -- the variables of different daughters exchanged: S(xy) and S(yx) from A, B
   pub other-string : sameRule (ruleOfS (1 ∷ 2 ∷ []) (2 ∷ []) (0 ∷ 4 ∷ []) 0) (ruleOfS (1 ∷ 2 ∷ []) (2 ∷ []) (4 ∷ 0 ∷ []) 0) ≡ false

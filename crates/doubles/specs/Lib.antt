@@ -1,3 +1,4 @@
 pub mod Order
+pub mod Components
 pub mod Doubles
 pub mod Examples

@@ -21,7 +21,7 @@ use Rattle.model.proofs.ByteLists.{zero-field}
 use Rattle.model.proofs.Lists.{map-in, mem-getD}
 use Rattle.model.proofs.Perm.{perm-mem}
 use Rattle.model.proofs.Variables.{parts-length, vars-out}
-use Rattle.model.proofs.RuleFromRecord.{Tested, field-length, field-at, daughters-length, twelve, lengths-total, named-are, rule-right}
+use Rattle.model.proofs.RuleFromRecord.{Tested, field-length, field-at, daughters-length, not-lexical, twelve, lengths-total, named-are, rule-right}
 use Rattle.model.proofs.FromFile.{ruleRead, rule-passed, record-tested, dimensions-in, dimensions-four}
 use Rattle.model.proofs.Sums.{sum-same, sum-first, sum-total}
 
@@ -105,13 +105,6 @@ module _ (file : List ℕ) (accepted : grammarRefusal file ≡ none) (r : ℕ) (
   before-lexical h zero b = refl
   before-lexical h (suc k) b = omega (arith, before-lexical h k (omega arith), length-lexical h k (omega arith))
 
-  not-lexical : 0 < n → isLexical rule ≡ false
-  not-lexical h = go (daughtersOf e) (daughters-length (grammarOf file) e tested)
-    where
-      go : (ds : List ℕ) → length ds ≡ n → _≡_ {A = Bool} (elim ds [ [] ↦ true | x ∷ xs ↦ false ]) false
-      go [] k = absurd (omega arith)
-      go (x ∷ ds) k = refl
-
   adds-up : 0 < n → before 4 ≡ variables d e
   adds-up h =
       sym (before-is h 4 (omega arith)) ∙ sum-total (lengthsOf d e) 4 (omega (arith, field-length (grammarOf file) e tested 7 dim (omega (arith, dim-four)), dim-four))
@@ -152,8 +145,8 @@ module _ (file : List ℕ) (accepted : grammarRefusal file ≡ none) (r : ℕ) (
       go : Dec (0 < n) → field e (11 + v) / 4 < n
       go (yes h) =
           let w = dimensions-in file accepted in
-          let m = perm-mem (rule-right (grammarOf file) e tested w .complete (not-lexical h))
-          (subst (λ (l : List Variable). List·Memᴰ (decoded (field e (11 + v))) l) (sym (named-are (grammarOf file) e tested w (not-lexical h))) (named h)) in
+          let m = perm-mem (rule-right (grammarOf file) e tested w .complete (not-lexical (grammarOf file) e tested h))
+          (subst (λ (l : List Variable). List·Memᴰ (decoded (field e (11 + v))) l) (sym (named-are (grammarOf file) e tested w (not-lexical (grammarOf file) e tested h))) (named h)) in
           let p = vars-out (grammarOf file) 0 (daughtersOf e) (decoded (field e (11 + v))) m in
           omega (arith, p .daughter-is, p .in-range, daughters-length (grammarOf file) e tested)
       go (no h) = absurd (omega (arith, before-lexical (omega arith) 4 (omega arith)))

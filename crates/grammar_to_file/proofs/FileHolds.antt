@@ -21,7 +21,7 @@ use Rattle.model.specs.GrammarFile.{within, allZero, fields, dimensionIn, dimen
 use Rattle.model.specs.Writer.{Heading, allBytes, fitsFields, little2, padded, writerRefusal}
 use Rattle.model.proofs.Tests.{passes as on, fails, and-both, on-not, every-by, none-by}
 use Rattle.model.proofs.Lists.{number-below}
-use Rattle.model.proofs.ByteLists.{fields-length, fields-at, padded-length, padded-at, zeros-by, Bytes, bytes-append, bytes-padded, bytes-little2}
+use Rattle.model.proofs.ByteLists.{fields-length, fields-at, padded-length, padded-at, zeros-by, Bytes, all-bytes, bytes-append, bytes-padded, bytes-little2}
 use Rattle.model.proofs.WriterFile.{file-written}
 use Rattle.model.proofs.WriterFields.{written-categories, written-start, written-words, written-rules, written-dimensions, written-record-of, written-bytes}
 use Rattle.model.proofs.WriterHeading.{wrongNumbers, writer-refusal}
@@ -69,9 +69,6 @@ bytes-each : (rules : List Rule) → ((rule : Rule) → List·Memᴰ rule rules 
 bytes-each [] h k = omega arith
 bytes-each (x ∷ rules) h k = bytes-append (recordFor x) (each recordFor rules) (h x (List·Memᴰ·head refl)) (bytes-each rules (λ y m. h y (List·Memᴰ·tail m))) k
 
-all-bytes : (l : List ℕ) → Bytes l → T (allBytes l)
-all-bytes l h = every-by (λ b. ltb b 256) l (λ k m. lt→ltb (getD l k 0) 256 (h k))
-
 number-in : (l : List Rule) (x : Rule) → List·Memᴰ x l → (k : ℕ) × (getElem? l k ≡ some x)
 number-in (y ∷ l) x (List·Memᴰ·head e) = (0, ap some (sym e))
 number-in (y ∷ l) x (List·Memᴰ·tail m) = let (k, e) = number-in l x m in (suc k, e)
@@ -91,10 +88,7 @@ module _ (g : Grammar) (s : Storable g) where
 
   -- of each rule: refusals 6 to 9, and the rule that the record holds
   record Held (rule : Rule) : Type 0 where
-    pub category : wrongCategory (g .dimensions) (recordFor rule) ≡ false
-    pub word : wrongWord (g .dimensions) (recordFor rule) (g .words) ≡ false
-    pub variables : wrongVariables (g .dimensions) (recordFor rule) ≡ false
-    pub unused : unusedSet (g .dimensions) (recordFor rule) ≡ false
+    pub passes : Passes g (recordFor rule)
     pub holds : ruleOf (g .dimensions) (recordFor rule) ≡ rule
 
   -- what `Storable` says of a rule, but for its weight
@@ -122,10 +116,14 @@ module _ (g : Grammar) (s : Storable g) where
           let l : isLexical rule ≡ true = ap (λ (x : List ℕ). elim x as (λ x. Bool) [ [] ↦ true | d ∷ es ↦ false ]) q in
           let n = a .no-components l in
           record {
-            category = category-passes g well rule w rr;
-            word = word-passes-lexical g well rule w rr q n;
-            variables = variables-pass-lexical g well rule w rr q n;
-            unused = unused-passes-lexical g well rule w rr q n;
+            passes =
+                record {
+                  long = long rule;
+                  category = category-passes g well rule w rr;
+                  word = word-passes-lexical g well rule w rr q n;
+                  variables = variables-pass-lexical g well rule w rr q n;
+                  unused = unused-passes-lexical g well rule w rr q n;
+                };
             holds = holds-lexical g well rule w rr q n;
           }
       go (d ∷ ds) q =
@@ -133,12 +131,50 @@ module _ (g : Grammar) (s : Storable g) where
           let h : 0 < length (rule .daughters) = omega (arith, ap length q) in
           let z = a .no-word l in
           record {
-            category = category-passes g well rule w rr;
-            word = word-passes g well rule w rr l h;
-            variables = variables-pass g well rule w rr l h;
-            unused = unused-passes g well rule w rr l h z;
+            passes =
+                record {
+                  long = long rule;
+                  category = category-passes g well rule w rr;
+                  word = word-passes g well rule w rr l h;
+                  variables = variables-pass g well rule w rr l h;
+                  unused = unused-passes g well rule w rr l h z;
+                };
             holds = holds-rule g well rule w rr l h z;
           }
+
+  -- no rule twice, weight and the order of the daughters aside
+  not-repeated : (i : ℕ) (rule : Rule) → ruleAt g i ≡ some rule → repeated (λ j. fields records (24 * j) 24) i ≡ false
+  not-repeated i rule e =
+      none-by (λ j. sameRule (fields records (24 * j) 24) (fields records (24 * i) 24)) i
+      (λ j h. fails (sameRule (fields records (24 * j) 24) (fields records (24 * i) 24)) (λ t.
+      let (other, f) = element (g .rules) j (omega (arith, number-below (g .rules) i e)) in
+      let u : T (sameRule (recordFor other) (recordFor rule)) = subst T (ap₂ sameRule (record-at (g .rules) j other f) (record-at (g .rules) i rule e)) t in
+      let first = passing other (sound j other f) in
+      let second = passing rule (sound i rule e) in
+      let double = refusal-ten .meant g (well .dimensions-are) (recordFor other) (recordFor rule) (first .passes) (second .passes) .0 (on (sameRule (recordFor other) (recordFor rule)) u) in
+      let same : Reordered other rule = subst (λ (x : Rule). Reordered x rule) (first .holds)
+      (subst (λ (x : Rule). Reordered (ruleOf (g .dimensions) (recordFor other)) x) (second .holds) double) in
+      omega (arith, s .differ j i other rule f e same)))
+
+  none-of : (b : Bool) (r : Refusal) (o : Option Refusal) → b ≡ false → o ≡ none → refuseIf b r orElse o ≡ none
+  none-of b r o e f = ap (λ (x : Bool). refuseIf x r orElse o) e ∙ f
+
+  record-none : (i : ℕ) → i < length (g .rules) → recordRefusal (g .dimensions) (g .words) (λ j. fields records (24 * j) 24) i ≡ none
+  record-none i h =
+      let (rule, e) = element (g .rules) i h in
+      let p = passing rule (sound i rule e) .passes in
+      let q = sym (record-at (g .rules) i rule e) in
+      let on : (P : List ℕ → Bool) → P (recordFor rule) ≡ false → P (fields records (24 * i) 24) ≡ false = λ P k. ap P (sym q) ∙ k in
+      none-of (wrongCategory (g .dimensions) (fields records (24 * i) 24)) (Refusal.Grammar 6 i) _ (on (wrongCategory (g .dimensions)) (p .category))
+      (none-of (wrongWord (g .dimensions) (fields records (24 * i) 24) (g .words)) (Refusal.Grammar 7 i) _ (on (λ x. wrongWord (g .dimensions) x (g .words)) (p .word))
+      (none-of (wrongVariables (g .dimensions) (fields records (24 * i) 24)) (Refusal.Grammar 8 i) _ (on (wrongVariables (g .dimensions)) (p .variables))
+      (none-of (unusedSet (g .dimensions) (fields records (24 * i) 24)) (Refusal.Grammar 9 i) _ (on (unusedSet (g .dimensions)) (p .unused))
+      (ap (λ (b : Bool). refuseIf b (Refusal.Grammar 10 i)) (not-repeated i rule e)))))
+
+  records-none : (n a : ℕ) → a + n ≤ length (g .rules) → firstFrom (recordRefusal (g .dimensions) (g .words) (λ j. fields records (24 * j) 24)) a n ≡ none
+  records-none zero a h = refl
+  records-none (suc n) a h =
+      ap (λ (o : Option Refusal). o orElse firstFrom (recordRefusal (g .dimensions) (g .words) (λ j. fields records (24 * j) 24)) (suc a) n) (record-none a (omega arith)) ∙ records-none n (suc a) (omega arith)
 
   -- every record is a list of bytes
   rule-bytes : (r : ℕ) (rule : Rule) → ruleAt g r ≡ some rule → Bytes (recordFor rule)
@@ -181,44 +217,6 @@ module _ (g : Grammar) (s : Storable g) where
           let w = well .ranges r rule e in
           let rr = well .right .rules r rule e in
           (lengths-small g well rule w rr l h, codes-small g well rule w rr l h)
-
-  passes : (r : ℕ) (rule : Rule) → ruleAt g r ≡ some rule → Passes g (recordFor rule)
-  passes r rule e =
-      let p = passing rule (sound r rule e) in
-      record { long = long rule; bytes = rule-bytes r rule e; category = p .category; word = p .word; variables = p .variables; unused = p .unused }
-
-  -- no rule twice, weight and the order of the daughters aside
-  not-repeated : (i : ℕ) (rule : Rule) → ruleAt g i ≡ some rule → repeated (λ j. fields records (24 * j) 24) i ≡ false
-  not-repeated i rule e =
-      none-by (λ j. sameRule (fields records (24 * j) 24) (fields records (24 * i) 24)) i
-      (λ j h. fails (sameRule (fields records (24 * j) 24) (fields records (24 * i) 24)) (λ t.
-      let (other, f) = element (g .rules) j (omega (arith, number-below (g .rules) i e)) in
-      let u : T (sameRule (recordFor other) (recordFor rule)) = subst T (ap₂ sameRule (record-at (g .rules) j other f) (record-at (g .rules) i rule e)) t in
-      let double = refusal-ten .meant g (well .dimensions-are) (recordFor other) (recordFor rule) (passes j other f) (passes i rule e) .0
-      (on (sameRule (recordFor other) (recordFor rule)) u) in
-      let same : Reordered other rule = subst (λ (x : Rule). Reordered x rule) (passing other (sound j other f) .holds)
-      (subst (λ (x : Rule). Reordered (ruleOf (g .dimensions) (recordFor other)) x) (passing rule (sound i rule e) .holds) double) in
-      omega (arith, s .differ j i other rule f e same)))
-
-  none-of : (b : Bool) (r : Refusal) (o : Option Refusal) → b ≡ false → o ≡ none → refuseIf b r orElse o ≡ none
-  none-of b r o e f = ap (λ (x : Bool). refuseIf x r orElse o) e ∙ f
-
-  record-none : (i : ℕ) → i < length (g .rules) → recordRefusal (g .dimensions) (g .words) (λ j. fields records (24 * j) 24) i ≡ none
-  record-none i h =
-      let (rule, e) = element (g .rules) i h in
-      let p = passing rule (sound i rule e) in
-      let q = sym (record-at (g .rules) i rule e) in
-      let on : (P : List ℕ → Bool) → P (recordFor rule) ≡ false → P (fields records (24 * i) 24) ≡ false = λ P k. ap P (sym q) ∙ k in
-      none-of (wrongCategory (g .dimensions) (fields records (24 * i) 24)) (Refusal.Grammar 6 i) _ (on (wrongCategory (g .dimensions)) (p .category))
-      (none-of (wrongWord (g .dimensions) (fields records (24 * i) 24) (g .words)) (Refusal.Grammar 7 i) _ (on (λ x. wrongWord (g .dimensions) x (g .words)) (p .word))
-      (none-of (wrongVariables (g .dimensions) (fields records (24 * i) 24)) (Refusal.Grammar 8 i) _ (on (wrongVariables (g .dimensions)) (p .variables))
-      (none-of (unusedSet (g .dimensions) (fields records (24 * i) 24)) (Refusal.Grammar 9 i) _ (on (unusedSet (g .dimensions)) (p .unused))
-      (ap (λ (b : Bool). refuseIf b (Refusal.Grammar 10 i)) (not-repeated i rule e)))))
-
-  records-none : (n a : ℕ) → a + n ≤ length (g .rules) → firstFrom (recordRefusal (g .dimensions) (g .words) (λ j. fields records (24 * j) 24)) a n ≡ none
-  records-none zero a h = refl
-  records-none (suc n) a h =
-      ap (λ (o : Option Refusal). o orElse firstFrom (recordRefusal (g .dimensions) (g .words) (λ j. fields records (24 * j) 24)) (suc a) n) (record-none a (omega arith)) ∙ records-none n (suc a) (omega arith)
 
   record-bytes : Bytes records
   record-bytes = bytes-each (g .rules) (λ rule m. let (k, e) = number-in (g .rules) rule m in rule-bytes k rule e)

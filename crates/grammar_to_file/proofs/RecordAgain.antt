@@ -16,7 +16,7 @@ use Rattle.model.specs.WellFormed.{named}
 use Rattle.model.specs.GrammarFile.{allZero, fields, field, daughtersOf, hasDaughters, wordOf, dimensionIn, lengthsOf, variables, unusedBytes, unusedSet, decoded, sequences, ruleOf}
 use Rattle.model.proofs.Tests.{not-off, every-left, every-right}
 use Rattle.model.proofs.ByteLists.{zero-field, Bytes, two-again}
-use Rattle.model.proofs.RuleFromRecord.{Tested, DimensionsIn, category-in, three, field-length, field-at, daughters-length, twelve, lengths-total, named-are}
+use Rattle.model.proofs.RuleFromRecord.{Tested, DimensionsIn, category-in, three, field-length, field-at, daughters-length, not-lexical, twelve, lengths-total, named-are}
 use Rattle.grammar_to_file.specs.FileFor.{codeOf, recordFor}
 use Rattle.grammar_to_file.proofs.Records.{long, at-daughter, at-length, at-variable, at-weight, from-5}
 
@@ -100,11 +100,7 @@ module _ (g : Grammar) (e : List ℕ) (tested : Tested g e) (dims : DimensionsIn
       z-a = zero-split (fields e (2 + n) (3 - n)) (fields e 5 2) (zero-split (fields e (2 + n) (3 - n) ++ fields e 5 2) (fields e (7 + m) (4 - m)) z-abc .0) .0
 
       nonlexical : isLexical rule ≡ false
-      nonlexical = go (daughtersOf e) (daughters-length g e tested)
-        where
-          go : (x : List ℕ) → length x ≡ n → _≡_ {A = Bool} (elim x [ [] ↦ true | d ∷ es ↦ false ]) false
-          go [] q = let z : ⊥ = omega arith in absurd z
-          go (y ∷ x) q = refl
+      nonlexical = not-lexical g e tested h
 
       components : rule .components ≡ sequences (lengthsOf dimensions e) (fields e 11 12)
       components = ap (λ (t : Bool). if t then sequences (lengthsOf dimensions e) (fields e 11 12) else []) has

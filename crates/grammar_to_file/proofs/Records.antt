@@ -7,7 +7,7 @@ use native.Mathlib.Omega.{arith}
 use native.Mathlib.Decide.{ℕ-discrete, decLt}
 use lib.Dec.{T}
 use lib.ListN.{length, getD, length-append, length-map, List·getD-append, List·getD-eq-default}
-use lib.Seq.{ext-getD, take-at}
+use lib.Seq.{ext-getD}
 use Rattle.model.specs.Grammar.{Variable, Rule}
 use Rattle.model.specs.WellFormed.{named}
 use Rattle.model.specs.GrammarFile.{allZero, fields, daughtersOf, wordOf}

@@ -42,9 +42,9 @@ abbrev pub fileFor : Grammar → List ℕ
 fileFor g = fileOf (headingFor g) (each recordFor (g .rules))
 
 -- A grammar that a file can hold: all that document 01 says of a grammar, limits included; no two rules that are equal under some order of the daughters,
--- "weight aside" (refusal 10; document 02, paper 4); and "a weight from 0 to 255" (document 02, paper 1). A `Rule` of the definitions has a word and components whatever its kind, where a nonlexical rule
--- of document 01 has no word and a lexical one no components; the file has 0 in the "fields that a rule of its kind lacks". So the word that a nonlexical rule
--- lacks is 0 here, and the components that a lexical rule lacks are none.
+-- "weight aside" (refusal 10; document 02, paper 4); and "a weight from 0 to 255" (document 02, paper 1). A `Rule` of the definitions has a word and components
+-- whatever its kind, where a nonlexical rule of document 01 has no word and a lexical one no components; the file has 0 in the "fields that a rule of its kind
+-- lacks". So the word that a nonlexical rule lacks is 0 here, and the components that a lexical rule lacks are none.
 pub record Storable (g : Grammar) : Type 0 where
   pub well : WellFormed g
   pub differ : NoDoubles g

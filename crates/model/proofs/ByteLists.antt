@@ -6,7 +6,7 @@ use Prim.Native.Nat.{ℕ, zero, suc, _+_, _-_, _*_, _/_, _%_, _<_, _≤_}
 use native.Mathlib.Nat.{mul-le-mul-left}
 use native.Mathlib.Omega.{arith}
 use native.Mathlib.Decide.{decLt}
-use lib.Dec.{T, ltb, eqb, eqb→eq, ltb→lt}
+use lib.Dec.{T, ltb, eqb, eqb→eq, ltb→lt, lt→ltb}
 use lib.ListN.{length, getD, replicate, length-append, length-take, length-drop, length-replicate, List·getD-append, List·getD-eq-default}
 use lib.Seq.{getD-take, getD-drop, getD-append-add, ext-getD}
 use Rattle.model.specs.Base.{each, numbersFrom}
@@ -91,11 +91,11 @@ zeros-at l t k = go (decLt k (length l))
     go (yes h) = sym (eqb→eq 0 (getD l k 0) (every-getD (eqb 0) l t k h))
     go (no h) = List·getD-eq-default l 0 (omega arith)
 
--- every element is a byte, the 0 past the end too
 -- a byte of a part that is all 0
 pub zero-field : (e : List ℕ) (i k : ℕ) → T (allZero (fields e i k)) → (p j : ℕ) → p ≡ i + j → j < k → getD e p 0 ≡ 0
 zero-field e i k t p j q h = ap (λ (x : ℕ). getD e x 0) q ∙ sym (fields-at e i k j h) ∙ zeros-at (fields e i k) t j
 
+-- every element is a byte, the 0 past the end too
 pub bytes-at : (l : List ℕ) → T (allBytes l) → (k : ℕ) → getD l k 0 < 256
 bytes-at l t k = go (decLt k (length l))
   where
@@ -118,6 +118,12 @@ bytes-fields l i n h k = go (decLt k n)
     go : Dec (k < n) → getD (fields l i n) k 0 < 256
     go (yes b) = omega (arith, fields-at l i n k b, h (i + k))
     go (no b) = omega (arith, List·getD-eq-default (fields l i n) 0 {n = k} (simp length-take (omega arith)))
+
+pub all-bytes : (l : List ℕ) → Bytes l → T (allBytes l)
+all-bytes l h = every-by (λ b. ltb b 256) l (λ k m. lt→ltb (getD l k 0) 256 (h k))
+
+pub all-fields : (l : List ℕ) (i n : ℕ) → T (allBytes l) → T (allBytes (fields l i n))
+all-fields l i n t = all-bytes (fields l i n) (bytes-fields l i n (bytes-at l t))
 
 pub bytes-little2 : (n : ℕ) → Bytes (little2 n)
 bytes-little2 n zero = omega arith

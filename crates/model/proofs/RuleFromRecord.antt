@@ -88,6 +88,13 @@ module _ (g : Grammar) (e : List ℕ) (tested : Tested g e) where
       go [] k m = let z : _≡_ {A = ℕ} 0 1 = cc in absurd (omega arith)
       go (d ∷ ds) k m = omega arith
 
+  pub not-lexical : 0 < n → isLexical rule ≡ false
+  not-lexical h = go (daughtersOf e) daughters-length
+    where
+      go : (ds : List ℕ) → length ds ≡ n → (elim ds [ [] ↦ true | d ∷ es ↦ false ]) ≡ false
+      go [] k = let z : ⊥ = omega arith in absurd z
+      go (d ∷ ds) k = refl
+
   -- refusal 7
   abbrev oneString : Bool
   oneString = eqb (getD dimensions (field e 0) 0) 1

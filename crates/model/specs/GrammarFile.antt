@@ -172,7 +172,7 @@ sameFrame earlier e = sameList (fields earlier 0 2) (fields e 0 2) && sameList (
 abbrev pub sameDaughters : List ℕ → List ℕ → List ℕ → Bool
 sameDaughters earlier e order = allBelow (λ j. eqb (field e (2 + j)) (field earlier (2 + getD order j 0))) 3
 
--- the variables of record e, as many as its component lengths count, are renumbered those of the earlier record
+-- the variables of record e, as many as its component lengths count, once renumbered are those of the earlier record
 abbrev pub sameVariables : List ℕ → List ℕ → List ℕ → Bool
 sameVariables earlier e order = allBelow (λ k. eqb (renumbered order (field e (11 + k))) (field earlier (11 + k))) (total (fields e 7 4))
 

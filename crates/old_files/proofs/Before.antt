@@ -14,15 +14,14 @@ use Rattle.model.specs.Verdict.{refuseIf}
 use Rattle.model.specs.Grammar.{Rule, Grammar}
 use Rattle.model.specs.GrammarFile.{within, allZero, fields, field, hasDaughters, dimensionIn, variables, weightOf, blocksFor, startOf, rulesOf, wordsOf, dimensionsOf, recordPlace, recordOf, repeated, unusedBytes, wrongCategory, wrongWord, wrongVariables, wrongLength, wrongCheck, wrongBlock, wrongHeading, wrongBlocks, wrongCount, wrongRest, blocks, ruleRefusal, grammarRefusal, grammarOf}
 use Rattle.model.specs.Writer.{allBytes}
-use Rattle.model.specs.Demands.{_⇔_}
 use Rattle.model.proofs.Tests.{passes as on, fails, no-refusal, not-off, on-not, none-at, every-left, every-right, every-both, every-getD, within-low}
-use Rattle.model.proofs.ByteLists.{fields-length, fields-at, zeros-by, zero-field, bytes-at, bytes-fields}
+use Rattle.model.proofs.ByteLists.{fields-length, fields-at, zeros-by, zero-field, all-fields}
 use Rattle.model.proofs.FileTests.{eight-none, five-none, whole-blocks, record-long, right-heading}
 use Rattle.model.proofs.RuleFromRecord.{Tested, DimensionsIn, twelve}
 use Rattle.model.proofs.FromFile.{ruleRead, rule-read, rule-is}
-use Rattle.doubles.specs.Doubles.{Reordered, Passes, Double, DoubleAt}
+use Rattle.doubles.specs.Doubles.{Reordered, Passes, EarlierDouble, DoubleAt}
 use Rattle.doubles.proofs.RefusalTen.{refusal-ten}
-use Rattle.old_files.specs.OldFiles.{unusedBytesBefore, unusedSetBefore, ruleRefusalBefore, grammarRefusalBefore, ruleBefore, grammarBefore}
+use Rattle.old_files.specs.OldFiles.{unusedBytesBefore, unusedSetBefore, ruleRefusalBefore, fileTests, grammarRefusalBefore, ruleBefore, grammarBefore}
 
 -- where k + 1 bytes from byte i on are 0, the first k are, and the last is
 last-zero : (e : List ℕ) (i n k : ℕ) → n ≡ suc k → i + n ≤ length e → T (allZero (fields e i n)) → T (allZero (fields e i k)) × (getD e (i + k) 0 ≡ 0)
@@ -44,27 +43,15 @@ before-some : {a b c d e f : Option Refusal} (r : Refusal) (rest : Option Refusa
     → a orElse b orElse c orElse d orElse e orElse f orElse some r orElse rest ≡ some r
 before-some r rest p q s t u v = rw (p, q, s, t, u, v)
 
-module _ (file : List ℕ) (bytes : T (allBytes file)) (before : grammarRefusalBefore file ≡ none) where
+module _ (file : List ℕ) (before : grammarRefusalBefore file ≡ none) where
   abbrev d : List ℕ
   d = dimensionsOf file
 
   abbrev e : ℕ → List ℕ
   e i = recordOf file i
 
-  -- the file's tests, where those of its rules give `rules`
-  abbrev pub fileTests : Option Refusal → Option Refusal
-  fileTests rules =
-      refuseIf (wrongLength file) (Refusal.Grammar 1 0)
-      orElse firstFrom (λ k. refuseIf (wrongCheck file k) (Refusal.Grammar 2 k)) 0 (blocks file)
-      orElse firstFrom (λ k. refuseIf (wrongBlock file k) (Refusal.Grammar 3 k)) 0 (blocks file)
-      orElse refuseIf (wrongHeading file) (Refusal.Grammar 4 0)
-      orElse refuseIf (wrongBlocks file) (Refusal.Grammar 5 0)
-      orElse firstFrom (λ k. refuseIf (wrongCount file k) (Refusal.Grammar 5 k)) 1 (blocks file - 1)
-      orElse rules
-      orElse refuseIf (wrongRest file) (Refusal.Grammar 9 (rulesOf file))
-
   record Tests : Type 0 where
-    others : (r : Refusal) → fileTests (some r) ≡ some r
+    others : (r : Refusal) → fileTests file (some r) ≡ some r
     long : length file ≡ 512 * blocksFor (rulesOf file)
     dimensions : DimensionsIn (grammarOf file)
     rules : firstFrom (ruleRefusalBefore file) 0 (rulesOf file) ≡ none
@@ -156,7 +143,6 @@ module _ (file : List ℕ) (bytes : T (allBytes file)) (before : grammarRefusalB
       let t = rule-tests i h .tested in
       record {
         long = t .long;
-        bytes = bytes-fields file (recordPlace i) 24 (bytes-at file bytes);
         category = t .category;
         word = t .word;
         variables = t .variables;
@@ -172,37 +158,36 @@ module _ (file : List ℕ) (bytes : T (allBytes file)) (before : grammarRefusalB
   pub fresh : (i : ℕ) → i < rulesOf file → repeated (recordOf file) i ≡ false → ruleRefusal file i ≡ none
   fresh i h q = tenth i h ∙ ap (λ (b : Bool). refuseIf b (Refusal.Grammar 10 i)) q
 
-  -- and it does just if the rule is an earlier one with its daughters in some order
-  doubles : (i : ℕ) → i < rulesOf file → (repeated (recordOf file) i ≡ true) ⇔ ((j : ℕ) × (j < i) × Double (grammarOf file) (e j) (e i))
-  doubles i h = refusal-ten .met (grammarOf file) (tests .dimensions) (recordOf file) i (λ k l. passes k (omega arith))
+  -- and it does only if the rule is an earlier one with its daughters in some order; of a file of bytes, always then
+  module _ (i : ℕ) (here : i < rulesOf file) where
+    doubles : (repeated (recordOf file) i ≡ true → EarlierDouble (grammarOf file) (recordOf file) i)
+        × (((k : ℕ) → k ≤ i → T (allBytes (e k))) → EarlierDouble (grammarOf file) (recordOf file) i → repeated (recordOf file) i ≡ true)
+    doubles = refusal-ten .met (grammarOf file) (tests .dimensions) (recordOf file) i (λ k l. passes k (omega arith))
 
-  pub a-double : (i : ℕ) → i < rulesOf file → repeated (recordOf file) i ≡ true → DoubleAt (grammarBefore file) i
-  a-double i h q =
-      let (j, l, r) = doubles i h .0 q in
-      subst (λ (g : Grammar). DoubleAt g i) same-grammar
-      (record {
-        number = j;
-        before = l;
-        earlier = ruleRead file j;
-        rule = ruleRead file i;
-        earlier-is = rule-read file j (omega arith);
-        rule-is = rule-read file i h;
-        double = r;
-      })
+    pub a-double : repeated (recordOf file) i ≡ true → DoubleAt (grammarBefore file) i
+    a-double q =
+        let (j, l, r) = doubles .0 q in
+        subst (λ (g : Grammar). DoubleAt g i) same-grammar
+        (record {
+          number = j;
+          before = l;
+          earlier = ruleRead file j;
+          rule = ruleRead file i;
+          earlier-is = rule-read file j (omega arith);
+          rule-is = rule-read file i here;
+          double = r;
+        })
 
-  pub is-repeated : (i : ℕ) → DoubleAt (grammarBefore file) i → (i < rulesOf file) × (repeated (recordOf file) i ≡ true)
-  is-repeated i double =
+    pub not-repeated : (DoubleAt (grammarBefore file) i → ⊥) → repeated (recordOf file) i ≡ false
+    not-repeated absent = fails (repeated (recordOf file) i) (λ t. absent (a-double (on (repeated (recordOf file) i) t)))
+
+  pub is-repeated : T (allBytes file) → (i : ℕ) → DoubleAt (grammarBefore file) i → (i < rulesOf file) × (repeated (recordOf file) i ≡ true)
+  is-repeated bytes i double =
       let w = subst (λ (g : Grammar). DoubleAt g i) (sym same-grammar) double in
       let x = rule-is file (w .number) (w .earlier) (w .earlier-is) in
       let y = rule-is file i (w .rule) (w .rule-is) in
       let r = subst (λ (a : Rule). Reordered a (ruleRead file i)) (sym (x .1)) (subst (Reordered (w .earlier)) (sym (y .1)) (w .double)) in
-      (y .0, doubles i (y .0) .1 (w .number, w .before, r))
-
-  pub not-repeated : (i : ℕ) → i < rulesOf file → (DoubleAt (grammarBefore file) i → ⊥) → repeated (recordOf file) i ≡ false
-  not-repeated i h absent = fails (repeated (recordOf file) i) (λ t. absent (a-double i h (on (repeated (recordOf file) i) t)))
+      (y .0, doubles i (y .0) .1 (λ k l. all-fields file (recordPlace k) 24 bytes) (w .number, w .before, r))
 
   pub refused-at : (i : ℕ) → firstFrom (ruleRefusal file) 0 (rulesOf file) ≡ some (Refusal.Grammar 10 i) → grammarRefusal file ≡ some (Refusal.Grammar 10 i)
-  refused-at i q = ap fileTests q ∙ tests .others (Refusal.Grammar 10 i)
-
-  pub as-before : firstFrom (ruleRefusal file) 0 (rulesOf file) ≡ firstFrom (ruleRefusalBefore file) 0 (rulesOf file) → grammarRefusal file ≡ grammarRefusalBefore file
-  as-before q = ap fileTests q
+  refused-at i q = ap (fileTests file) q ∙ tests .others (Refusal.Grammar 10 i)

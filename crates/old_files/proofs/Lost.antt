@@ -37,7 +37,7 @@ first-met f from (suc n) i {r} lo hi before here =
     go (yes q) ih = ap (λ (o : Option Refusal). o orElse firstFrom f (suc from) n) (ap f q ∙ here)
     go (no q) ih = ap (λ (o : Option Refusal). o orElse firstFrom f (suc from) n) (before from (omega arith) (omega arith)) ∙ ih (omega arith)
 
--- tests of which the last is met: what follows makes no difference
+-- of tests of which the last is met one is the first that is met
 some-met : (a b c d : Option Refusal) (r : Refusal) → (x : Refusal) × (a orElse b orElse c orElse d orElse some r ≡ some x)
 some-met (some x) b c d r = (x, refl)
 some-met none (some x) c d r = (x, refl)
@@ -54,22 +54,23 @@ module _ (h : Heading) (records : List ℕ) (r : Refusal) where
       some-met (refuseIf (not (eqb (length (h .dimensions)) 64)) (Refusal.Grammar 4 0)) (refuseIf (ltb 256 (h .rules)) (Refusal.Grammar 4 0))
       (refuseIf (wrongHeading (headingBlock h)) (Refusal.Grammar 4 0)) (refuseIf (not (eqb (length records) (24 * h .rules))) (Refusal.Grammar 5 0)) r
 
+  -- what follows makes no difference
   refused-anyhow : (rest : Option Refusal) (n : ℕ) → verdict (tests orElse rest) n ≡ verdict tests 0
   refused-anyhow rest n = ap (λ (o : Option Refusal). verdict (o orElse rest) n) (met .1) ∙ sym (ap (λ (o : Option Refusal). verdict o 0) (met .1))
 
   nothing-written : (rest : Option Refusal) (list out : List ℕ) → written (tests orElse rest) list out ≡ out
   nothing-written rest list out = ap (λ (o : Option Refusal). written (o orElse rest) list out) (met .1)
 
-module _ (file : List ℕ) (bytes : T (allBytes file)) (before : grammarRefusalBefore file ≡ none) (i : ℕ) (double : FirstDouble file i) where
+module _ (file : List ℕ) (before : grammarRefusalBefore file ≡ none) (bytes : T (allBytes file)) (i : ℕ) (double : FirstDouble file i) where
   refused : grammarRefusal file ≡ some (Refusal.Grammar 10 i)
   refused =
-      let (here, again) = is-repeated file bytes before i (double .double) in
-      refused-at file bytes before i
+      let (here, again) = is-repeated file before bytes i (double .double) in
+      refused-at file before i
       (first-met (ruleRefusal file) 0 (rulesOf file) i (omega arith) (omega arith)
-      (λ k lo hi. fresh file bytes before k (omega arith) (not-repeated file bytes before k (omega arith) (double .first k hi)))
-      (tenth file bytes before i here ∙ ap (λ (b : Bool). refuseIf b (Refusal.Grammar 10 i)) again))
+      (λ k lo hi. fresh file before k (omega arith) (not-repeated file before k (omega arith) (double .first k hi)))
+      (tenth file before i here ∙ ap (λ (b : Bool). refuseIf b (Refusal.Grammar 10 i)) again))
 
-  -- what depends on the file by its refusal and its grammar
+  -- what depends on the refusal of the file
   refused-by : {A : Type 0} (f : Option Refusal → A) → f (grammarRefusal file) ≡ f (some (Refusal.Grammar 10 i))
   refused-by f = ap f refused
 

@@ -56,16 +56,20 @@ ruleRefusalBefore file i =
     orElse refuseIf (unusedSetBefore (dimensionsOf file) (recordOf file i)) (Refusal.Grammar 9 i)
     orElse refuseIf (repeatedBefore (recordOf file) i) (Refusal.Grammar 10 i)
 
-abbrev pub grammarRefusalBefore : List ℕ → Option Refusal
-grammarRefusalBefore file =
+-- the tests of a file, where those of its rules give `rules`
+abbrev pub fileTests : List ℕ → Option Refusal → Option Refusal
+fileTests file rules =
     refuseIf (wrongLength file) (Refusal.Grammar 1 0)
     orElse firstFrom (λ k. refuseIf (wrongCheck file k) (Refusal.Grammar 2 k)) 0 (blocks file)
     orElse firstFrom (λ k. refuseIf (wrongBlock file k) (Refusal.Grammar 3 k)) 0 (blocks file)
     orElse refuseIf (wrongHeading file) (Refusal.Grammar 4 0)
     orElse refuseIf (wrongBlocks file) (Refusal.Grammar 5 0)
     orElse firstFrom (λ k. refuseIf (wrongCount file k) (Refusal.Grammar 5 k)) 1 (blocks file - 1)
-    orElse firstFrom (ruleRefusalBefore file) 0 (rulesOf file)
+    orElse rules
     orElse refuseIf (wrongRest file) (Refusal.Grammar 9 (rulesOf file))
+
+abbrev pub grammarRefusalBefore : List ℕ → Option Refusal
+grammarRefusalBefore file = fileTests file (firstFrom (ruleRefusalBefore file) 0 (rulesOf file))
 
 -- the rule that a record held, which had no weight
 abbrev pub ruleBefore : List ℕ → List ℕ → Rule
@@ -111,11 +115,14 @@ module _ (file : List ℕ) where
     pub verdict-is : answer ≡ verdict (refused orElse roomRefusal out) (categoriesOf file)
     pub output-is : after ≡ written (refused orElse roomRefusal out) figures out
 
-  -- it is accepted, its rules have weight 0, and every call answers and writes what it did, by what was refused before and by the grammar as it was read before
-  pub record Kept : Type 0 where
-    pub accepted : grammarRefusal file ≡ none
+  -- "have weight 0"
+  pub record Weightless : Type 0 where
     pub weights-zero : (r : ℕ) (rule : Rule) → ruleAt (grammarOf file) r ≡ some rule → rule .weight ≡ 0
     pub sums-zero : (list : List ℕ) → weightSum (grammarOf file) list ≡ 0
+
+  -- "keep their verdicts": it is accepted, and every call answers and writes what it did, by what was refused before and by the grammar as it was read before
+  pub record Kept : Type 0 where
+    pub accepted : grammarRefusal file ≡ none
     pub reader : readVerdict file ≡ verdict refused (rulesOf file)
     pub writer : (h : Heading) (records out : List ℕ) → fileOf h records ≡ file
         → let o = writerTests h records refused orElse refuseIf (ltb (length out) (length file)) (Refusal.Desk 23 0) in
@@ -148,7 +155,8 @@ module _ (file : List ℕ) where
         orElse sentenceRefusal g sentence orElse effortRefusal g sentence n programLimit in
         program file sentenceFile ≡ printed o ((count g sentence n ∷ effort g sentence n ∷ []) ∷ listing g sentence n)
 
-  -- every call that is given the file is refused by 10 at rule i, and writes nothing; the writer that is given what makes it, where no test of its own comes first
+  -- every call that is given the file is refused by 10 at rule i, and writes nothing; the writer, given what makes the file, is refused by a test of its own or by
+  -- 10 at rule i
   pub record Lost (i : ℕ) : Type 0 where
     pub refused-now : grammarRefusal file ≡ some (Refusal.Grammar 10 i)
     pub reader : readVerdict file ≡ Refused (Refusal.Grammar 10 i)
@@ -178,12 +186,13 @@ module _ (file : List ℕ) where
     pub double : DoubleAt g i
     pub first : (k : ℕ) → k < i → DoubleAt g k → ⊥
 
--- of every file of bytes that was accepted before
+-- of every file that was accepted before; where a double is looked for in its bytes, that it is one of bytes is said
 pub record OldFiles : Type 0 where
-  pub kept : (file : List ℕ) → T (allBytes file) → grammarRefusalBefore file ≡ none → WithoutDoubles file → Kept file
-  pub lost : (file : List ℕ) → T (allBytes file) → grammarRefusalBefore file ≡ none → (i : ℕ) → FirstDouble file i → Lost file i
+  pub weightless : (file : List ℕ) → grammarRefusalBefore file ≡ none → Weightless file
+  pub kept : (file : List ℕ) → grammarRefusalBefore file ≡ none → WithoutDoubles file → Kept file
+  pub lost : (file : List ℕ) → grammarRefusalBefore file ≡ none → T (allBytes file) → (i : ℕ) → FirstDouble file i → Lost file i
   -- there is no third kind
-  pub either : (file : List ℕ) → T (allBytes file) → grammarRefusalBefore file ≡ none → WithoutDoubles file ⊎ ((i : ℕ) × FirstDouble file i)
+  pub either : (file : List ℕ) → grammarRefusalBefore file ≡ none → T (allBytes file) → WithoutDoubles file ⊎ ((i : ℕ) × FirstDouble file i)
 
 -- an older file with such a double: S(xy) from S, S and S(yx) from S, S, and the word 0
 abbrev pub shuffledFile : List ℕ

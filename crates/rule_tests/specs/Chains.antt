@@ -1,4 +1,4 @@
--- The earlier records that may be equal to a record, found by their hashes: refusal 10 compares it with these alone.
+-- The earlier records that may hold the same rule as a record, found by their hashes: refusal 10 compares it with these alone.
 -- Assumes nothing.
 use mathlib.Core.Path.{_≡_}
 use mathlib.Core.List.{List}

@@ -1,9 +1,7 @@
 -- `doubles::same_of_three` meets its contract.
 -- Assumes nothing.
-use mathlib.Core.Path.{_≡_, sym, _∙_}
-use mathlib.Core.Bool.{Bool}
-use mathlib.Core.List.{List, [], _∷_}
-use Prim.Native.Nat.{ℕ}
+use mathlib.Core.Path.{sym, _∙_}
+use mathlib.Core.List.{[], _∷_}
 use Rattle.model.specs.GrammarFile.{sameInOrder}
 use Rattle.doubles.proofs.Reordering.{order-hit, order-miss, order-last}
 use borrow.Author.Needs.{needs}
