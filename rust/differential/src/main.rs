@@ -8,6 +8,7 @@ mod dates;
 mod fixed;
 mod grammars;
 mod options;
+mod orders;
 mod printed;
 mod rng;
 mod self_test;
