@@ -58,13 +58,14 @@ pub fn random(rng: &mut Rng) -> Made {
 }
 
 fn without_weights(rng: &mut Rng) -> Made {
-    match rng.below(20) {
+    match rng.below(21) {
         0 => Made::of_text(rng.pick(&SMALL)),
         1..=8 => sized(rng, (1, 4), (1, 10), (1, 3)),
         9..=12 => sized(rng, (2, 8), (6, 21), (1, 5)),
         13..=15 => sized(rng, (3, 10), (8, 24), (1, 2)),
         16..=17 => sized(rng, (4, 64), (19, 66), (1, 40)),
         18 => sized(rng, (20, 64), (60, 256), (1, 4096)),
+        19 => sized(rng, (1, 3), (30, 120), (1, 3)),
         _ => {
             let rules = rng.pick(&[20, 21, 22, 41, 42, 43, 63, 64, 84, 105, 231, 252, 253, 255, 256]);
             sized(rng, (1, 64), (rules, rules), (1, 4096))
@@ -178,7 +179,7 @@ impl Maker {
 }
 
 /// The variables of the daughters in any order, cut into components anywhere.
-fn nonlexical(rng: &mut Rng, dimensions: &[u8], category: usize, daughters: &[usize]) -> Record {
+pub fn nonlexical(rng: &mut Rng, dimensions: &[u8], category: usize, daughters: &[usize]) -> Record {
     let mut record = [0; 24];
     record[0] = category as u8;
     record[1] = daughters.len() as u8;
@@ -195,7 +196,7 @@ fn nonlexical(rng: &mut Rng, dimensions: &[u8], category: usize, daughters: &[us
     record
 }
 
-fn lexical(category: usize, word: u16) -> Record {
+pub fn lexical(category: usize, word: u16) -> Record {
     let mut record = [0; 24];
     record[0] = category as u8;
     record[5..7].copy_from_slice(&word.to_le_bytes());
