@@ -6,9 +6,10 @@ use std::{env, fs};
 include!("faults.rs");
 
 /// The modules that a copy consists of. The calls themselves stay the reference's.
-const MODULES: [&str; 14] = [
+const MODULES: [&str; 15] = [
     "dates",
     "derivations",
+    "double",
     "file",
     "grammar",
     "listing",

@@ -9,7 +9,7 @@ const CATEGORIES: usize = 64;
 
 /// A name and a file each.
 pub fn full() -> Vec<(&'static str, Vec<u8>)> {
-    vec![("lexical", lexical()), ("mixed", mixed()), ("alike", alike())]
+    vec![("lexical", lexical()), ("mixed", mixed()), ("alike", alike()), ("six orders", six_orders())]
 }
 
 /// Lexical rules alone.
@@ -37,6 +37,14 @@ fn alike() -> Vec<u8> {
     let mut dimensions = [4; CATEGORIES];
     dimensions[0] = 1;
     file(&dimensions, |r| nonlexical(&dimensions, 1, [2, 3, 4], r))
+}
+
+/// Rules like these with three daughters of one category, so that each is compared with each in every order of the daughters. No order makes
+/// two of them equal: in all of them the first variable of daughter 0 comes before that of daughter 1, and this before that of daughter 2.
+fn six_orders() -> Vec<u8> {
+    let mut dimensions = [4; CATEGORIES];
+    dimensions[0] = 1;
+    file(&dimensions, |r| nonlexical(&dimensions, 1, [2, 2, 2], r))
 }
 
 fn file(dimensions: &[u8; CATEGORIES], record: impl Fn(usize) -> Record) -> Vec<u8> {

@@ -1,6 +1,7 @@
 //! The library and plain Rust in one process, in turns, best of several runs, both built for release: nanoseconds per live prefix of
-//! `dg_count` and of the same search, nanoseconds a block of `dg_read_grammar` and of the same reader, and nanoseconds a call of the four
-//! calls on dates and of the same calls. The time of the library's count includes its tests of the grammar file, that of the search does not.
+//! `dg_count` and of the same search, nanoseconds a block and a file of `dg_read_grammar` and of the same reader, and nanoseconds a call of
+//! the four calls on dates and of the same calls. The time of the library's count includes its tests of the grammar file, that of the search
+//! does not.
 
 mod dates;
 mod files;
@@ -34,7 +35,7 @@ fn main() {
         println!("there was no libdowngrater.a when this was built: plain Rust alone");
     }
     println!("best of {runs} runs, ns per live prefix");
-    println!("{:<12}{:>6}{:>6}{:>10}{:>12}{:>10}{:>8}{:>8}", "grammar", "words", "N", "count", "effort", "library", "rust", "ratio");
+    println!("{:<12}{:>6}{:>6}{:>10}{:>12}{:>10}{:>10}{:>8}", "grammar", "words", "N", "count", "effort", "library", "rust", "ratio");
     for input in inputs::inputs() {
         counting(&input, library.as_deref(), runs);
     }
@@ -43,12 +44,16 @@ fn main() {
         counting(&input, library.as_deref(), runs);
     }
     println!("\nthe reader, ns a block");
-    println!("{:<12}{:>8}{:>10}{:>8}{:>8}", "file", "blocks", "library", "rust", "ratio");
-    for (name, file) in files::full() {
-        reading(name, &file, library.as_deref(), runs);
+    println!("{:<12}{:>8}{:>10}{:>10}{:>8}", "file", "blocks", "library", "rust", "ratio");
+    let read: Vec<(&str, Times)> =
+        files::full().iter().map(|(name, file)| (*name, reading(name, file, library.as_deref(), runs))).collect();
+    println!("\nthe reader, ns a file of 256 rules");
+    println!("{:<12}{:>10}{:>10}{:>8}", "file", "library", "rust", "ratio");
+    for (name, times) in read {
+        println!("{:<12}{}", name, times.columns(0));
     }
     println!("\ndates, ns a call");
-    println!("{:<12}{:>10}{:>8}{:>8}", "call", "library", "rust", "ratio");
+    println!("{:<12}{:>10}{:>10}{:>8}", "call", "library", "rust", "ratio");
     on_dates(library.as_deref(), runs);
 }
 
@@ -79,11 +84,16 @@ fn in_turns(runs: usize, calls: u64, units: u64, rust: impl Fn(), library: Optio
 }
 
 impl Times {
-    /// Library, plain Rust and their ratio, in columns.
-    fn columns(&self) -> String {
-        let shown = |number: Option<f64>| number.map_or("-".to_string(), |number| format!("{number:.2}"));
+    /// Library, plain Rust and their ratio, in columns, the times with so many decimals.
+    fn columns(&self, decimals: usize) -> String {
+        let shown = |number: Option<f64>, decimals: usize| number.map_or("-".to_string(), |number| format!("{number:.decimals$}"));
         let ratio = self.library.map(|time| time / self.rust);
-        format!("{:>10}{:>8}{:>8}", shown(self.library), shown(Some(self.rust)), shown(ratio))
+        format!("{:>10}{:>10}{:>8}", shown(self.library, decimals), shown(Some(self.rust), decimals), shown(ratio, 2))
+    }
+
+    /// The times of so many units.
+    fn of_units(&self, units: u64) -> Times {
+        Times { library: self.library.map(|time| time * units as f64), rust: self.rust * units as f64 }
     }
 }
 
@@ -104,16 +114,18 @@ fn counting((name, text, sentence, node_limit): &Input, library: Option<&dyn Cal
     });
     // short searches are repeated, so that a run takes some milliseconds
     let times = in_turns(runs, (200_000 / effort).max(1), effort, rust, library);
-    println!("{:<12}{:>6}{:>6}{:>10}{:>12}{}", name, sentence.len(), node_limit, count, effort, times.columns());
+    println!("{:<12}{:>6}{:>6}{:>10}{:>12}{}", name, sentence.len(), node_limit, count, effort, times.columns(2));
 }
 
-fn reading(name: &str, file: &[u8], library: Option<&dyn Calls>, runs: usize) {
+/// Prints the times of a block, and gives those of the file.
+fn reading(name: &str, file: &[u8], library: Option<&dyn Calls>, runs: usize) -> Times {
     let rules = reader::read(file).expect("the reader takes it");
     let blocks = (file.len() / BLOCK) as u64;
     let rust = || assert_eq!(reader::read(black_box(file)), Ok(rules));
     let library = library.map(|library| || assert_eq!(library.read_grammar(black_box(file)), Answer::Accepted(rules), "{name}"));
     let times = in_turns(runs, READINGS, blocks, rust, library);
-    println!("{:<12}{:>8}{}", name, blocks, times.columns());
+    println!("{:<12}{:>8}{}", name, blocks, times.columns(2));
+    times.of_units(blocks)
 }
 
 /// Each call on every day of the span, in one run; of the calls with a term, the terms from 0 to 600 one after the other.
@@ -129,7 +141,7 @@ fn on_dates(library: Option<&dyn Calls>, runs: usize) {
         };
         let library = library.map(|library| move || each(&|number, date| call(library, number, date)));
         let times = in_turns(runs, 1, DAYS, || each(rust), library);
-        println!("{:<12}{}", name, times.columns());
+        println!("{:<12}{}", name, times.columns(2));
     };
     measured("day_number", &|_, date| accepted(dates::day_number(date)), &|library, _, date| library.day_number(date));
     measured("date_of", &|number, _| dates::date_of(number).map_or_else(Answer::Refused, Answer::Dated), &|library, number, _| {

@@ -164,16 +164,73 @@ fn hash(record: &Record) -> u8 {
     [term(29, 0), term(17, 2), term(17, 3), term(17, 4), term(1, 5), term(37, 6)].into_iter().fold(0, u8::wrapping_add)
 }
 
-/// 10: compared with the rules of its chain.
+/// 10: compared with the rules of its chain that have the same category, number of daughters, word and component lengths.
 fn repeated(blocks: &[Block], chain: &Chain, later: &Record, r: usize) -> bool {
+    let mut forms = None;
     let mut next = chain[r] as usize;
     while next > 0 {
-        if record(blocks, next - 1)[..WEIGHT] == later[..WEIGHT] {
-            return true;
+        let earlier = record(blocks, next - 1);
+        if earlier[..2] == later[..2] && earlier[5..11] == later[5..11] {
+            let (forms, orders) = forms.get_or_insert_with(|| in_every_order(later));
+            if forms[..*orders].contains(&form(earlier)) {
+                return true;
+            }
         }
         next = chain[next - 1] as usize;
     }
     false
+}
+
+/// A record without its weight, as three numbers.
+type Form = (u64, u64, u64);
+
+fn form(record: &Record) -> Form {
+    let [first, second, third] = [0, 8, 16].map(|at| u64::from_le_bytes(*record[at..].first_chunk().expect("a record has 24 bytes")));
+    (first, second, third & u64::MAX >> 8)
+}
+
+/// The forms of a record that does not meet 6 to 9 in every order of its daughters, and how many orders there are.
+fn in_every_order(record: &Record) -> ([Form; 6], usize) {
+    let orders = NUMBER_OF_ORDERS[record[1] as usize];
+    let mut forms = [(0, 0, 0); 6];
+    for (place, order) in forms.iter_mut().zip(&ORDERS[..orders]) {
+        *place = form(&reordered(record, order));
+    }
+    (forms, orders)
+}
+
+/// How many of the orders are those of 0 to 3 daughters.
+const NUMBER_OF_ORDERS: [usize; 4] = [1, 1, 2, 6];
+
+/// An order of three daughters: for each new position the old one, and for each variable its new number.
+struct Order {
+    old: [usize; 3],
+    renumbered: [u8; 12],
+}
+
+static ORDERS: [Order; 6] = [order([0, 1, 2]), order([1, 0, 2]), order([0, 2, 1]), order([1, 2, 0]), order([2, 0, 1]), order([2, 1, 0])];
+
+const fn order(old: [usize; 3]) -> Order {
+    let mut renumbered = [0; 12];
+    let mut at = 0;
+    while at < 12 {
+        let (new, component) = (at / 4, at % 4);
+        renumbered[4 * old[new] + component] = at as u8;
+        at += 1;
+    }
+    Order { old, renumbered }
+}
+
+fn reordered(record: &Record, order: &Order) -> Record {
+    let mut reordered = *record;
+    for (new, &old) in order.old.iter().enumerate() {
+        reordered[2 + new] = record[2 + old];
+    }
+    let variables: usize = record[7..11].iter().map(|&length| length as usize).sum();
+    for variable in &mut reordered[11..11 + variables] {
+        *variable = order.renumbered[*variable as usize];
+    }
+    reordered
 }
 
 #[cfg(test)]
@@ -206,6 +263,47 @@ mod tests {
         }
         agrees(&[], &mut seen);
         assert!(seen.iter().all(|&times| times > 0), "{seen:?}");
+    }
+
+    /// Each rule of small grammars in the place of each, and some rules of full files in the place of others.
+    #[test]
+    fn agrees_on_doubles() {
+        let mut seen = [0; 11];
+        for file in SMALL.map(grammar_file) {
+            let rules = number(&file, 7) as usize;
+            for (from, to) in (0..rules * rules).map(|both| (both / rules, both % rules)) {
+                agrees_in_every_order(&file, from, to, &mut seen);
+            }
+        }
+        for (_, file) in crate::files::full() {
+            for (from, to) in [(0, 1), (0, 255), (100, 101), (90, 200), (254, 255), (255, 0)] {
+                agrees_in_every_order(&file, from, to, &mut seen);
+            }
+        }
+        assert!(seen[10] > 500 && seen[0] > 100, "{seen:?}");
+    }
+
+    /// One rule in the place of another, in every order of its daughters, and with its daughters reordered alone.
+    fn agrees_in_every_order(file: &[u8], from: usize, to: usize, seen: &mut [u32; 11]) {
+        let rule = record(file.as_chunks().0, from);
+        for order in &ORDERS[..NUMBER_OF_ORDERS[rule[1] as usize]] {
+            let double = reordered(rule, order);
+            let mut not_renumbered = double;
+            not_renumbered[11..WEIGHT].copy_from_slice(&rule[11..WEIGHT]);
+            agrees(&with_record(file, to, &double), seen);
+            agrees(&with_record(file, to, &not_renumbered), seen);
+        }
+    }
+
+    /// The file with this record at rule r, another weight and a right check.
+    fn with_record(file: &[u8], r: usize, record: &Record) -> Vec<u8> {
+        let mut file = file.to_vec();
+        let block: &mut Block = &mut file.as_chunks_mut().0[1 + r / RECORDS_IN_BLOCK];
+        block[4 + RECORD * (r % RECORDS_IN_BLOCK)..][..RECORD].copy_from_slice(record);
+        block[4 + RECORD * (r % RECORDS_IN_BLOCK) + WEIGHT] = r as u8;
+        let sum = check(block);
+        block[CHECK..].copy_from_slice(&sum.to_le_bytes());
+        file
     }
 
     /// `seen` counts the refusals by their numbers, and at 0 what is accepted.

@@ -67,7 +67,7 @@ fn writer(pair: &mut Pair, rng: &mut Rng, made: &Made) -> Done {
     for _ in 0..6 {
         let (mut heading, mut records) = (made.heading.clone(), made.records.clone());
         for _ in 0..rng.pick(&[1, 1, 2]) {
-            match rng.below(9) {
+            match rng.below(10) {
                 0 => heading.categories = rng.pick(&[0, 64, 65, 255, heading.categories + 1, heading.categories - 1]),
                 1 => heading.start = rng.pick(&[0, heading.categories, 255, heading.start + 1]),
                 2 => heading.words = rng.pick(&[0, 1, 4096, 4097, 65_535]),
@@ -80,6 +80,12 @@ fn writer(pair: &mut Pair, rng: &mut Rng, made: &Made) -> Done {
                 }
                 5 => heading.dimensions.resize(rng.pick(&[0, 1, 63, 64, 65, 128]), 0),
                 6 => records.resize(rng.pick(&[0, 1, 23, 24, records.len() + 1, records.len() + 24, records.len() / 2]), 0),
+                7 => {
+                    let (from, to) = (24 * damage::branching(rng, made), 24 * rng.below(made.grammar.rules.len()));
+                    if from.max(to) + 24 <= records.len() {
+                        damage::reordered_double(rng, made, &mut records, from, to);
+                    }
+                }
                 _ if records.len() >= 24 => {
                     let r = 24 * rng.below(records.len() / 24);
                     damage::record(rng, made, &mut records[r..r + 24]);

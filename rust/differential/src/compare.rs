@@ -2,9 +2,12 @@
 
 use std::fmt;
 
+use reference::record::Record;
 use reference::survey::survey_is_right;
-use reference::{Answer, Calls, Date, DateCalls, Heading, Reference, TreeCalls};
+use reference::{Answer, Calls, Date, DateCalls, Heading, Reference, Refusal, TreeCalls};
 
+use crate::damage::at;
+use crate::orders::order_of_double;
 use crate::show::{show_file, show_heading};
 use crate::tally::{Call, Tally};
 
@@ -75,14 +78,30 @@ impl Pair<'_> {
 
     pub fn read_grammar(&mut self, file: &[u8]) -> Done {
         let answers = (self.tested.read_grammar(file), Reference.read_grammar(file));
-        self.settle(Call::ReadGrammar, answers, None, || show_file(file))
+        self.settle(Call::ReadGrammar, answers, None, || show_file(file))?;
+        self.add_order(Call::ReadGrammar, answers.0, |r| &file[at(r)..]);
+        Ok(())
     }
 
     pub fn write_grammar(&mut self, heading: &Heading, records: &[u8], out: usize) -> Done {
         let sides: [&dyn Calls; 2] = [self.tested, &Reference];
         let (answers, buffer) = both(out, records.len(), sides, |side, out| side.write_grammar(heading, records, out));
         let input = || format!("output of {out}\n{}", show_heading(heading, records));
-        self.settle(Call::WriteGrammar, answers, buffer, input)
+        self.settle(Call::WriteGrammar, answers, buffer, input)?;
+        self.add_order(Call::WriteGrammar, answers.0, |r| &records[24 * r..]);
+        Ok(())
+    }
+
+    /// Of refusal 10 the order of the daughters that makes the rule equal to an earlier one. Rule r's record stands at the front of the
+    /// bytes that `from` gives.
+    fn add_order<'b>(&mut self, call: Call, answer: Answer, from: impl Fn(usize) -> &'b [u8]) {
+        if let Answer::Refused(Refusal { number: 10, place, .. }) = answer {
+            let record = |r: usize| *from(r).first_chunk().expect("a record has 24 bytes");
+            let records: Vec<Record> = (0..=place as usize).map(record).collect();
+            if let Some(order) = order_of_double(&records) {
+                self.tally.add_order(call, order);
+            }
+        }
     }
 
     /// The trace checker and the weighing. An accepted trace has the same sum as its tree.

@@ -1,21 +1,24 @@
 //! Damaged grammar files: aimed at one refusal or another, several at once, and random bytes; with checks made right again or not.
 
 use reference::file::{check, BLOCK};
+use reference::record::Record;
 
 use crate::grammars::Made;
+use crate::orders::{daughters, near_miss, orders_of, reordered, NEAR_MISSES};
 use crate::rng::Rng;
 
 /// The file with one to three pieces of damage.
 pub fn damaged(rng: &mut Rng, made: &Made) -> Vec<u8> {
     let mut file = made.file.clone();
     for _ in 0..rng.pick(&[1, 1, 1, 2, 3]) {
-        match rng.below(16) {
+        match rng.below(18) {
             0 => any_byte(rng, &mut file),
             1 => block_number_or_kind(rng, &mut file),
             2..=4 => heading(rng, made, &mut file),
             5 => record_count(rng, &mut file),
             6 => rest_of_last_block(rng, made, &mut file),
             7 => equal_records(rng, made, &mut file),
+            8 | 9 => reordered_records(rng, made, &mut file),
             _ => {
                 let r = rng.below(made.grammar.rules.len());
                 let bytes = &mut file[at(r)..at(r) + 24];
@@ -146,6 +149,39 @@ pub fn record(rng: &mut Rng, made: &Made, bytes: &mut [u8]) {
 fn equal_records(rng: &mut Rng, made: &Made, file: &mut [u8]) {
     let (a, b) = (rng.below(made.grammar.rules.len()), rng.below(made.grammar.rules.len()));
     double(rng, file, at(a), at(b));
+}
+
+/// A rule's record over another's, or its own, with its daughters in any order.
+fn reordered_records(rng: &mut Rng, made: &Made, file: &mut [u8]) {
+    let (a, b) = (branching(rng, made), rng.below(made.grammar.rules.len()));
+    reordered_double(rng, made, file, at(a), at(b));
+}
+
+/// A rule with two or three daughters, where there is one.
+pub fn branching(rng: &mut Rng, made: &Made) -> usize {
+    let rules = made.grammar.rules.len();
+    let branching: Vec<usize> = (0..rules).filter(|r| made.records[24 * r + 1] > 1).collect();
+    if branching.is_empty() {
+        rng.below(rules)
+    } else {
+        rng.pick(&branching)
+    }
+}
+
+/// Puts the record at one place over the record at another, with its daughters in any order, half the time with another weight, and now
+/// and then as a near miss.
+pub fn reordered_double(rng: &mut Rng, made: &Made, bytes: &mut [u8], from: usize, to: usize) {
+    let record: Record = bytes[from..from + 24].try_into().expect("a record has 24 bytes");
+    let order = rng.pick(&orders_of(daughters(&record)));
+    let mut other = reordered(&record, order);
+    if rng.chance(30) {
+        let dimensions = &made.heading.dimensions[..made.heading.categories as usize];
+        other = near_miss(rng.below(NEAR_MISSES), dimensions, &record, order);
+    }
+    if rng.chance(50) {
+        other[23] = rng.byte();
+    }
+    bytes[to..to + 24].copy_from_slice(&other);
 }
 
 /// Puts the record at one place over the record at another, half the time with another weight.

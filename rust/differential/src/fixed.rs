@@ -8,6 +8,7 @@ use crate::compare::{Done, Pair};
 use crate::damage::{at, seal};
 use crate::dates;
 use crate::grammars::Made;
+use crate::orders;
 
 pub fn fixed(pair: &mut Pair) -> Done {
     known(pair)?;
@@ -19,6 +20,7 @@ pub fn fixed(pair: &mut Pair) -> Done {
     weights(pair)?;
     doubles(pair)?;
     doubles_among_256(pair)?;
+    orders::fixed(pair)?;
     writer(pair)?;
     checks(pair)?;
     lengths_of_files(pair)?;
@@ -213,7 +215,7 @@ fn doubles(pair: &mut Pair) -> Done {
 }
 
 /// The letters a to f in the order of that number, from 0.
-fn order(number: usize) -> String {
+pub fn order(number: usize) -> String {
     let (mut letters, mut order, mut left) = ("abcdef".to_string(), String::new(), number);
     for choices in (1..=6).rev() {
         order.push(letters.remove(left % choices));
@@ -341,7 +343,7 @@ fn bytes_of_files(pair: &mut Pair) -> Done {
     Ok(())
 }
 
-fn every_call(pair: &mut Pair, file: &[u8]) -> Done {
+pub fn every_call(pair: &mut Pair, file: &[u8]) -> Done {
     pair.check_and_weigh_trace(file, &[0, 0], &[0, 3, 5, 5])?;
     pair.check_and_weigh_tree(file, &[0, 0], &[0, 3, 5, 5])?;
     pair.trace_to_tree(file, &[0, 0], &[0, 3, 5, 5], 96)?;

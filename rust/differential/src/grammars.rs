@@ -1,15 +1,17 @@
-//! Random grammars that the reader accepts: dimensions 1 to 4, empty words and components, 1 to 3 daughters, 1 to 256 rules, with weights
-//! and without.
+//! Random grammars that the reader accepts: dimensions 1 to 4, empty words and components, 1 to 3 daughters, 1 to 256 rules, no two of them
+//! equal in any order of their daughters, with weights and without.
 
 use std::collections::HashSet;
 
 use reference::file::read;
 use reference::grammar::{Grammar, EMPTY_WORD};
 use reference::notation::{parts, put_weights};
+use reference::record::Record;
 use reference::samples::SMALL;
 use reference::writer::write;
 use reference::Heading;
 
+use crate::orders::least;
 use crate::rng::Rng;
 
 /// A grammar, as the writer takes it, as a file and as read.
@@ -56,13 +58,14 @@ pub fn random(rng: &mut Rng) -> Made {
 }
 
 fn without_weights(rng: &mut Rng) -> Made {
-    match rng.below(20) {
+    match rng.below(21) {
         0 => Made::of_text(rng.pick(&SMALL)),
         1..=8 => sized(rng, (1, 4), (1, 10), (1, 3)),
         9..=12 => sized(rng, (2, 8), (6, 21), (1, 5)),
         13..=15 => sized(rng, (3, 10), (8, 24), (1, 2)),
         16..=17 => sized(rng, (4, 64), (19, 66), (1, 40)),
         18 => sized(rng, (20, 64), (60, 256), (1, 4096)),
+        19 => sized(rng, (1, 3), (30, 120), (1, 3)),
         _ => {
             let rules = rng.pick(&[20, 21, 22, 41, 42, 43, 63, 64, 84, 105, 231, 252, 253, 255, 256]);
             sized(rng, (1, 64), (rules, rules), (1, 4096))
@@ -100,13 +103,15 @@ fn sized(rng: &mut Rng, categories: (usize, usize), rules: (usize, usize), words
 struct Maker {
     dimensions: Vec<u8>,
     words: usize,
-    known: HashSet<[u8; 24]>,
-    records: Vec<[u8; 24]>,
+    /// The records so far, each in the least order of its daughters.
+    known: HashSet<Record>,
+    records: Vec<Record>,
 }
 
 impl Maker {
-    fn keep(&mut self, record: [u8; 24]) {
-        if self.known.insert(record) {
+    /// Keeps the record unless it equals an earlier one in some order of its daughters.
+    fn keep(&mut self, record: Record) {
+        if self.known.insert(least(&record)) {
             self.records.push(record);
         }
     }
@@ -130,8 +135,7 @@ impl Maker {
             } else {
                 let count = rng.pick(&[1, 2, 2, 3]);
                 let daughters: Vec<usize> = (0..count).map(|_| rng.pick(&with_trees)).collect();
-                let record = self.nonlexical(rng, category, &daughters);
-                self.keep(record);
+                self.keep(nonlexical(rng, &self.dimensions, category, &daughters));
             }
             with_trees.push(category);
         }
@@ -149,8 +153,7 @@ impl Maker {
             let from = if rng.chance(60) { &high } else { with_trees };
             let count = rng.pick(&[1, 2, 3]);
             let daughters: Vec<usize> = (0..count).map(|_| rng.pick(from)).collect();
-            let record = self.nonlexical(rng, start, &daughters);
-            self.keep(record);
+            self.keep(nonlexical(rng, &self.dimensions, start, &daughters));
         }
     }
 
@@ -162,8 +165,7 @@ impl Maker {
         } else {
             let count = rng.pick(&[1, 1, 2, 2, 2, 3, 3]);
             let daughters: Vec<usize> = (0..count).map(|_| rng.below(self.dimensions.len())).collect();
-            let record = self.nonlexical(rng, category, &daughters);
-            self.keep(record);
+            self.keep(nonlexical(rng, &self.dimensions, category, &daughters));
         }
     }
 
@@ -174,27 +176,27 @@ impl Maker {
             rng.below(self.words) as u16
         }
     }
-
-    /// The variables of the daughters in any order, cut into components anywhere.
-    fn nonlexical(&self, rng: &mut Rng, category: usize, daughters: &[usize]) -> [u8; 24] {
-        let mut record = [0; 24];
-        record[0] = category as u8;
-        record[1] = daughters.len() as u8;
-        let mut variables = Vec::new();
-        for (position, &daughter) in daughters.iter().enumerate() {
-            record[2 + position] = daughter as u8;
-            variables.extend((0..self.dimensions[daughter]).map(|component| 4 * position as u8 + component));
-        }
-        rng.shuffle(&mut variables);
-        record[11..11 + variables.len()].copy_from_slice(&variables);
-        for _ in &variables {
-            record[7 + rng.below(self.dimensions[category] as usize)] += 1;
-        }
-        record
-    }
 }
 
-fn lexical(category: usize, word: u16) -> [u8; 24] {
+/// The variables of the daughters in any order, cut into components anywhere.
+pub fn nonlexical(rng: &mut Rng, dimensions: &[u8], category: usize, daughters: &[usize]) -> Record {
+    let mut record = [0; 24];
+    record[0] = category as u8;
+    record[1] = daughters.len() as u8;
+    let mut variables = Vec::new();
+    for (position, &daughter) in daughters.iter().enumerate() {
+        record[2 + position] = daughter as u8;
+        variables.extend((0..dimensions[daughter]).map(|component| 4 * position as u8 + component));
+    }
+    rng.shuffle(&mut variables);
+    record[11..11 + variables.len()].copy_from_slice(&variables);
+    for _ in &variables {
+        record[7 + rng.below(dimensions[category] as usize)] += 1;
+    }
+    record
+}
+
+pub fn lexical(category: usize, word: u16) -> Record {
     let mut record = [0; 24];
     record[0] = category as u8;
     record[5..7].copy_from_slice(&word.to_le_bytes());

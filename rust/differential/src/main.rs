@@ -8,6 +8,7 @@ mod dates;
 mod fixed;
 mod grammars;
 mod options;
+mod orders;
 mod printed;
 mod rng;
 mod self_test;
@@ -85,6 +86,7 @@ fn run(tested: &dyn Calls, options: &Options) -> bool {
         "{} sums along a trace and along its tree, the highest {}; {} grammars with other weights",
         tally.sums, tally.highest_sum, tally.reweighed
     );
+    println!("{} doubles in another order of their daughters, {} near misses", tally.doubles_in_another_order(), tally.near_misses);
     println!("{} days both ways, {} terms beside the next longer one", tally.days_both_ways(), tally.terms);
     if options.program.is_some() {
         println!("{} runs of the program", tally.programs);

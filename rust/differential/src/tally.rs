@@ -4,6 +4,8 @@ use std::fmt;
 
 use reference::Answer;
 
+use crate::orders::ORDERS;
+
 #[derive(Clone, Copy, Debug, PartialEq, Eq)]
 pub enum Call {
     ReadGrammar,
@@ -87,6 +89,10 @@ pub struct Tally {
     pub highest_sum: u32,
     /// Grammars compared with themselves under other weights.
     pub reweighed: u64,
+    /// For the reader and for the writer, how often each order of the daughters made a rule equal to an earlier one.
+    orders: [[u64; ORDERS.len()]; 2],
+    /// Files that were accepted with a rule that nearly equals another in some order of its daughters.
+    pub near_misses: u64,
     /// Of each day whether its number led to its date and back, and whether its date led to its number and back.
     both_ways: Vec<[bool; 2]>,
     /// Terms whose opening day was compared with that of the term a month longer, which has one too.
@@ -104,6 +110,8 @@ impl Tally {
             sums: 0,
             highest_sum: 0,
             reweighed: 0,
+            orders: [[0; ORDERS.len()]; 2],
+            near_misses: 0,
             both_ways: vec![[false; 2]; DAYS],
             terms: 0,
             programs: 0,
@@ -116,6 +124,19 @@ impl Tally {
             _ => 0,
         };
         self.met[call as usize][number] += 1;
+    }
+
+    pub fn accepted(&self, call: Call) -> u64 {
+        self.met[call as usize][0]
+    }
+
+    /// The reader or the writer met a double by that one of the orders.
+    pub fn add_order(&mut self, call: Call, order: usize) {
+        self.orders[(call == Call::WriteGrammar) as usize][order] += 1;
+    }
+
+    pub fn doubles_in_another_order(&self) -> u64 {
+        self.orders.iter().flatten().sum()
     }
 
     /// The day's number led to its date, and that date to the number.
@@ -151,6 +172,11 @@ impl Tally {
                 }
             }
         }
+        for (call, orders) in [Call::ReadGrammar, Call::WriteGrammar].into_iter().zip(&self.orders) {
+            for (order, _) in ORDERS.iter().zip(orders).filter(|(_, &met)| met == 0) {
+                missing.push(format!("{call:?} never met a double in the order {order:?}"));
+            }
+        }
         if self.highest_sum < HIGHEST_SUM {
             missing.push(format!("no analysis had the sum {HIGHEST_SUM}"));
         }
@@ -161,6 +187,7 @@ impl Tally {
             (self.round_trips, "no round trip"),
             (self.agreements, "no listing by trees and by live prefixes"),
             (self.reweighed, "no grammar with other weights"),
+            (self.near_misses, "no near miss of a double"),
             (self.terms, "no term beside the next longer one"),
         ] {
             if done == 0 {
@@ -229,6 +256,22 @@ mod tests {
         assert_eq!(days(&tally), None);
     }
 
+    /// An order that the reader or the writer alone met is missing for the other.
+    #[test]
+    fn every_order_read_and_written() {
+        let mut tally = Tally::new();
+        let orders = |tally: &Tally| tally.missing().into_iter().filter(|text| text.contains("order")).collect::<Vec<_>>();
+        assert_eq!(orders(&tally).len(), 12);
+        for order in 0..ORDERS.len() {
+            tally.add_order(Call::ReadGrammar, order);
+            tally.add_order(Call::WriteGrammar, order.max(1));
+        }
+        assert_eq!(orders(&tally), ["WriteGrammar never met a double in the order [1, 0]"]);
+        tally.add_order(Call::WriteGrammar, 0);
+        assert_eq!(orders(&tally), Vec::<String>::new());
+        assert_eq!(tally.doubles_in_another_order(), 13);
+    }
+
     /// What was never done is missing.
     #[test]
     fn nothing_done() {
@@ -239,10 +282,12 @@ mod tests {
             "no round trip",
             "no listing by trees and by live prefixes",
             "no grammar with other weights",
+            "no near miss of a double",
             "no term beside the next longer one",
         ];
         assert_eq!(none(&tally), all);
         (tally.round_trips, tally.agreements, tally.reweighed, tally.highest_sum) = (1, 1, 1, HIGHEST_SUM);
+        tally.near_misses = 1;
         assert_eq!(none(&tally), ["no term beside the next longer one"]);
         tally.terms = 1;
         assert_eq!(none(&tally), Vec::<String>::new());

@@ -1,9 +1,11 @@
-//! Document 01 and papers 1 and 3 of document 02 a second time, in plain Rust and from the documents alone: literal, simple and not fast;
-//! paper 2 changes no answer. Indices are lists of digits, the queue is sorted, trees are enumerated one by one, and so are the dates of
-//! four hundred years. The proved library is compared with it, call by call.
+//! Document 01 and papers 1, 3 and 4 of document 02 a second time, in plain Rust and from the documents alone: literal, simple and not
+//! fast; paper 2 changes no answer. Indices are lists of digits, the queue is sorted, trees are enumerated one by one, so are the dates of
+//! four hundred years, and a rule is compared with every earlier one in every order of its daughters. The proved library is compared with
+//! it, call by call.
 
 pub mod dates;
 pub mod derivations;
+pub mod double;
 pub mod file;
 pub mod grammar;
 pub mod listing;

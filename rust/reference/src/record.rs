@@ -1,6 +1,7 @@
 //! One rule's record of 24 bytes: refusals 6 to 10, and the rule that it holds.
 
 use crate::calls::Refusal;
+use crate::double::is_double;
 use crate::grammar::{Body, Rule, Variable, EMPTY_WORD};
 
 pub const RECORD: usize = 24;
@@ -23,6 +24,7 @@ pub struct Setting {
 
 /// Tests 6 to 10 of each record in turn, and gives the rules.
 pub fn read_records(setting: &Setting, records: &[Record]) -> Result<Vec<Rule>, Refusal> {
+    let mut rules = Vec::new();
     for (r, record) in records.iter().enumerate() {
         if wrong_category(setting, record) {
             return Err(Refusal::grammar(6, r));
@@ -36,11 +38,13 @@ pub fn read_records(setting: &Setting, records: &[Record]) -> Result<Vec<Rule>, 
         if unused_not_zero(setting, record) {
             return Err(Refusal::grammar(9, r));
         }
-        if records[..r].iter().any(|earlier| equal_but_for_weight(earlier, record)) {
+        let rule = rule_of(setting, record);
+        if is_double(&rules, &rule) {
             return Err(Refusal::grammar(10, r));
         }
+        rules.push(rule);
     }
-    Ok(records.iter().map(|record| rule_of(setting, record)).collect())
+    Ok(rules)
 }
 
 /// 6: category, daughter count or daughter.
@@ -82,11 +86,6 @@ fn used(setting: &Setting, record: &Record, i: usize) -> bool {
         7..=10 => !is_lexical(record) && i - 7 < setting.dimensions[record[0] as usize],
         _ => !is_lexical(record) && i - 11 < variables_of_daughters(setting, record).len(),
     }
-}
-
-/// 10: "Two records that differ only in weight still meet refusal 10."
-fn equal_but_for_weight(earlier: &Record, record: &Record) -> bool {
-    earlier[..WEIGHT] == record[..WEIGHT]
 }
 
 fn is_lexical(record: &Record) -> bool {

@@ -9,22 +9,26 @@ pub fn write(heading: &Heading, records: &[u8]) -> Result<Vec<u8>, Refusal> {
     if wrong_heading(heading) {
         return Err(Refusal::grammar(4, 0));
     }
-    let rules = heading.rules as usize;
-    if records.len() != RECORD * rules {
+    if records.len() != RECORD * heading.rules as usize {
         return Err(Refusal::grammar(5, 0));
     }
     read_records(&setting_of(heading), &records_in(records).collect::<Vec<_>>())?;
+    Ok(file_of(heading, records))
+}
+
+/// The file of this heading and these records, which are as many as it says, right or wrong.
+pub fn file_of(heading: &Heading, records: &[u8]) -> Vec<u8> {
     let mut file = sealed(heading_block(heading));
     for (i, held) in records.chunks(RECORD * RECORDS_IN_BLOCK).enumerate() {
         let k = i + 1;
         let mut block = vec![0; BLOCK];
         block[0] = k as u8;
         block[2] = 2;
-        block[3] = records_held(rules, k) as u8;
+        block[3] = records_held(heading.rules as usize, k) as u8;
         block[4..4 + held.len()].copy_from_slice(held);
         file.extend(sealed(block));
     }
-    Ok(file)
+    file
 }
 
 fn heading_block(heading: &Heading) -> Vec<u8> {
