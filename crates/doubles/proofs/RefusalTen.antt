@@ -21,7 +21,7 @@ use Rattle.model.proofs.ByteLists.{bytes-at, all-fields}
 use Rattle.model.proofs.Digits.{Compared, compared, less, same, more}
 use Rattle.model.proofs.Perm.{perm-mem}
 use Rattle.model.proofs.Variables.{vars-out}
-use Rattle.model.proofs.RuleFromRecord.{Tested, DimensionsIn, daughters-length, not-lexical, rule-right, rule-in-range}
+use Rattle.model.proofs.RuleFromRecord.{Tested, DimensionsIn, not-lexical, rule-right, rule-in-range}
 use Rattle.model.proofs.FromFile.{ruleRead, rule-is, rule-passed, record-tested, dimensions-in}
 use Rattle.grammar.proofs.Below.{any-hit}
 use Rattle.doubles.specs.Doubles.{Reordered, Passes, Double, EarlierDouble, NoDoubles, RefusalTen}

@@ -3,7 +3,7 @@
 -- model/proofs/RuleFromRecord). Here: its daughters; its components, of which those that it lacks have length 0; and that a variable names a daughter.
 -- Assumes nothing.
 use mathlib.Core.Path.{_≡_, refl, sym, ap, ap₂, subst, _∙_}
-use mathlib.Core.Bool.{Bool, true, false}
+use mathlib.Core.Bool.{Bool}
 use mathlib.Core.Option.{none}
 use mathlib.Core.List.{List, [], _∷_, _++_, map, List·Memᴰ}
 use Prim.Native.Nat.{ℕ, zero, suc, _+_, _-_, _/_, _<_, _≤_}
@@ -14,7 +14,7 @@ use lib.Dec.{T, eqb}
 use lib.ListN.{length, getD, getElem?, take, drop, List·getD-eq-default}
 use lib.Seq.{drop-drop}
 use Rattle.model.specs.Base.{if_then_else_, sumBelow, numbersFrom}
-use Rattle.model.specs.Grammar.{Variable, Rule, ruleAt, dimension, isLexical}
+use Rattle.model.specs.Grammar.{Variable, Rule, ruleAt, dimension}
 use Rattle.model.specs.GrammarFile.{fields, field, allZero, daughtersOf, lengthsOf, variables, dimensionIn, dimensionsOf, rulesOf, recordOf, unusedBytes, grammarRefusal, decoded, sequences, ruleOf, grammarOf}
 use Rattle.model.proofs.Tests.{not-off, every-left, every-right}
 use Rattle.model.proofs.ByteLists.{zero-field}

@@ -100,7 +100,7 @@ module _ (g : Grammar) (e : List ℕ) (tested : Tested g e) (dims : DimensionsIn
       z-a = zero-split (fields e (2 + n) (3 - n)) (fields e 5 2) (zero-split (fields e (2 + n) (3 - n) ++ fields e 5 2) (fields e (7 + m) (4 - m)) z-abc .0) .0
 
       nonlexical : isLexical rule ≡ false
-      nonlexical = not-lexical g e tested h
+      nonlexical = not-lexical g e tested any
 
       components : rule .components ≡ sequences (lengthsOf dimensions e) (fields e 11 12)
       components = ap (λ (t : Bool). if t then sequences (lengthsOf dimensions e) (fields e 11 12) else []) has
