@@ -20,12 +20,12 @@ pub fn fixed(pair: &mut Pair) -> Done {
     weights(pair)?;
     doubles(pair)?;
     doubles_among_256(pair)?;
-    orders::fixed(pair)?;
     writer(pair)?;
     checks(pair)?;
     lengths_of_files(pair)?;
     bytes_of_files(pair)?;
-    dates::fixed(pair)
+    dates::fixed(pair)?;
+    orders::fixed(pair)
 }
 
 fn copy() -> Made {

@@ -15,7 +15,7 @@ fn in_every_order(rule: &Rule) -> Vec<Rule> {
         Body::Lexical(_) => vec![rule.clone()],
         Body::Nonlexical { daughters, components } => {
             let bodies = orders(daughters.len()).iter().map(|order| reordered(daughters, components, order));
-            bodies.map(|body| Rule { body, ..rule.clone() }).collect()
+            bodies.map(|body| Rule { category: rule.category, body, weight: rule.weight }).collect()
         }
     }
 }
