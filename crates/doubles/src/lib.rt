@@ -44,7 +44,7 @@ fn renumbered(order: Order, v: u8) -> u16
     4 * (position(order, v / 4) as u16) + (v % 4) as u16
 }
 
-// Whether two records are the same in what no order of the daughters changes.
+// Whether two records have the same category, daughter count, word and component lengths: no order of the daughters changes these.
 fn same_frame(earlier: &[u8], e: &[u8]) -> bool
     ensures { λ r. ⌜ r ≡ sameFrame (now (earlier .entry)) (now (e .entry)) ⌝ }
 {
@@ -54,7 +54,7 @@ fn same_frame(earlier: &[u8], e: &[u8]) -> bool
     same_bytes(fields(earlier, 5, 6), fields(e, 5, 6))
 }
 
-// Whether the n variables of two records name the same components.
+// Whether the n variables of two records name the same components: no order of the daughters changes these either.
 fn same_components(earlier: &[u8], e: &[u8], n: u32) -> bool
     requires { ⌜ n ≡ total (fields (now e) 7 4) ⌝ }
     ensures { λ r. ⌜ r ≡ sameComponents (now (earlier .entry)) (now (e .entry)) ⌝ }
@@ -99,7 +99,7 @@ fn same_variables(earlier: &[u8], e: &[u8], n: u32, order: Order) -> bool
     true
 }
 
-// Whether record e, which has n variables, is the earlier record with its daughters in this order, where they are the same in what no order changes.
+// Whether record e, which has n variables, is the earlier record with its daughters in this order, where all else of them is the same.
 fn same_in_order(earlier: &[u8], e: &[u8], n: u32, order: Order) -> bool
     requires { ⌜ n ≡ total (fields (now e) 7 4) ⌝ }
     ensures { λ r. ⌜ r ≡ sameInOrder (now (earlier .entry)) (now (e .entry)) (positions order) ⌝ }

@@ -186,7 +186,7 @@ module _ (file : List ℕ) where
     pub double : DoubleAt g i
     pub first : (k : ℕ) → k < i → DoubleAt g k → ⊥
 
--- of every file that was accepted before; where a double is looked for in its bytes, that it is one of bytes is said
+-- Of every file that was accepted before. That it is a file of bytes is asked where a double of its rules is to be found in its records (`RefusalTen`).
 pub record OldFiles : Type 0 where
   pub weightless : (file : List ℕ) → grammarRefusalBefore file ≡ none → Weightless file
   pub kept : (file : List ℕ) → grammarRefusalBefore file ≡ none → WithoutDoubles file → Kept file
