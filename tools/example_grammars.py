@@ -58,7 +58,8 @@ BARREN = [
     record(2, [0, 1], components=[[(0, 0), (1, 0)]]),
     record(3, [0], components=[[(0, 0)]]),
 ]
-# no two of these are one rule in two orders of its daughters: S has the strings of A and B in two orders, P has its components exchanged or other daughters
+# no two of these are one rule in two orders of its daughters: S has the strings of A and B in two orders,
+# P has its components exchanged, or other daughters
 OTHER_ORDERS = [
     record(S, [A, B], components=[[(0, 0), (1, 0)]]),
     record(S, [B, A], components=[[(0, 0), (1, 0)]]),

@@ -1,4 +1,4 @@
--- A rule that equals another once its daughters are reordered is equalled by it in the order back.
+-- If a rule equals another once its daughters are reordered, the other equals it too, in the inverse order.
 -- Assumes nothing.
 use mathlib.Core.Path.{_≡_, refl, sym, ap, ap₂, subst, _∙_}
 use mathlib.Core.List.{List, [], _∷_, map, List·Memᴰ, List·Memᴰ·head, List·Memᴰ·tail}

@@ -12,7 +12,7 @@ use Rattle.model.specs.Grammar.{Variable}
 use Rattle.model.specs.GrammarFile.{renumbered, decoded, sequences}
 use Rattle.doubles.specs.Doubles.{renumber}
 
--- a list up to a number, behind which it has zeros for a while
+-- the first m numbers of a list have the sum of its first n, where those between are 0
 pub total-front : (l : List ℕ) (m n : ℕ) → m ≤ n → ((i : ℕ) → m ≤ i → i < n → getD l i 0 ≡ 0) → total (take m l) ≡ total (take n l)
 total-front l zero zero h z = refl
 total-front [] zero (suc n) h z = refl

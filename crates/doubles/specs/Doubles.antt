@@ -1,5 +1,5 @@
--- What refusal 10 means of rules (document 01; document 02, papers 1 and 4), and what follows of the grammars that the reader accepts. Both hold
--- (proofs/RefusalTen.antt).
+-- What refusal 10 means of rules (document 01; document 02, papers 1 and 4), and what follows of the grammars that the reader accepts. Both are proved in
+-- proofs/RefusalTen.antt.
 -- Assumes nothing.
 use mathlib.Core.Path.{_≡_}
 use mathlib.Core.Bool.{true, false}
@@ -63,8 +63,8 @@ pub record DoubleAt (g : Grammar) (i : ℕ) : Type 0 where
   pub rule-is : ruleAt g i ≡ some rule
   pub double : Reordered earlier rule
 
--- Of records that pass 6 to 9, in a grammar whose dimensions are in their range, as is so when 10 is tested. From rules back to records, these are records of
--- bytes: a word is written in two of them, and with larger numbers one word could be written in two ways.
+-- Of records that pass 6 to 9, in a grammar whose dimensions are in their range, as is so when 10 is tested. From rules back to records it is also asked that
+-- the records are bytes: a word is two bytes, and with larger numbers one word could be written in two ways.
 pub record RefusalTen : Type 0 where
   -- the test of two records holds exactly when the rules that they hold are equal under some order of the daughters
   pub meant : (g : Grammar) → DimensionsInRange g → (earlier e : List ℕ) → Passes g earlier → Passes g e

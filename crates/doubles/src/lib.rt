@@ -99,7 +99,7 @@ fn same_variables(earlier: &[u8], e: &[u8], n: u32, order: Order) -> bool
     true
 }
 
-// Whether record e, which has n variables, is the earlier record with its daughters in this order, where all else of them is the same.
+// Whether record e, which has n variables, is the earlier record once its daughters are put in this order, where all else of the two is the same.
 fn same_in_order(earlier: &[u8], e: &[u8], n: u32, order: Order) -> bool
     requires { ⌜ n ≡ total (fields (now e) 7 4) ⌝ }
     ensures { λ r. ⌜ r ≡ sameInOrder (now (earlier .entry)) (now (e .entry)) (positions order) ⌝ }
@@ -130,7 +130,7 @@ fn same_of_three(earlier: &[u8], e: &[u8], n: u32) -> bool
     same_in_order(earlier, e, n, Order(2, 1, 0))
 }
 
-// Whether record e equals the earlier one once its daughters are reordered. What no order changes is compared first: most records differ there.
+// Whether record e equals the earlier one once its daughters are reordered. What no order changes is compared first.
 fn same_reordered(earlier: &[u8], e: &[u8]) -> bool
     ensures { λ r. ⌜ r ≡ sameReordered (now (earlier .entry)) (now (e .entry)) ⌝ }
 {

@@ -1,6 +1,6 @@
--- The file of a grammar (document 01, "A grammar" and "The grammar file"; document 02, papers 1 and 4), and the claim that files and grammars go one to one: every
--- grammar that the documents describe has a file that the reader accepts and that holds it, and every file that the reader accepts is that of the grammar it
--- holds.
+-- The file of a grammar (document 01, "A grammar" and "The grammar file"; document 02, papers 1 and 4), and the claim that files and grammars go one to one:
+-- every grammar that the documents describe has a file that the reader accepts and that holds it, and every file that the reader accepts is that of the
+-- grammar it holds.
 -- Assumes nothing.
 use mathlib.Core.Path.{_≡_}
 use mathlib.Core.Bool.{true, false}

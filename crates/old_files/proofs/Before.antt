@@ -1,4 +1,4 @@
--- What the tests of before say of a file that passed them all: its records pass 6 to 9 of today, its weights are 0, and refusal 10 alone can meet it.
+-- What follows for a file that was accepted before: its records pass 6 to 9 as they are now, its weights are 0, and 10 alone can meet it.
 -- Assumes nothing.
 use mathlib.Core.Path.{_≡_, refl, sym, ap, ap₂, subst, _∙_}
 use mathlib.Core.Bool.{Bool, true, false}
@@ -158,7 +158,7 @@ module _ (file : List ℕ) (before : grammarRefusalBefore file ≡ none) where
   pub fresh : (i : ℕ) → i < rulesOf file → repeated (recordOf file) i ≡ false → ruleRefusal file i ≡ none
   fresh i h q = tenth i h ∙ ap (λ (b : Bool). refuseIf b (Refusal.Grammar 10 i)) q
 
-  -- and it does only if the rule is an earlier one with its daughters in some order; of a file of bytes, always then
+  -- it does only if the rule is an earlier one with its daughters in some order; where the file is bytes, whenever it is
   module _ (i : ℕ) (here : i < rulesOf file) where
     doubles : (repeated (recordOf file) i ≡ true → EarlierDouble (grammarOf file) (recordOf file) i)
         × (((k : ℕ) → k ≤ i → T (allBytes (e k))) → EarlierDouble (grammarOf file) (recordOf file) i → repeated (recordOf file) i ≡ true)

@@ -1,7 +1,7 @@
--- Grammar files from before the weights: "All files accepted before have weight 0 and keep their verdicts." (document 02, paper 1); "An older file with such a
--- double loses the verdicts that paper 1 left it." (paper 4). Paper 1 changes refusals 9 and 10 and gives rules a weight, paper 4 changes refusal 10; every other
--- definition is as it was. So what a call answered before is its definition over the refusals of then (`grammarRefusalBefore`) and over rules without weights
--- (`grammarBefore`).
+-- Grammar files from before the weights: "All files accepted before have weight 0 and keep their verdicts." (document 02, paper 1); "An older file with such
+-- a double loses the verdicts that paper 1 left it." (paper 4). Paper 1 changes refusals 9 and 10 and gives rules a weight, paper 4 changes refusal 10; every
+-- other definition is as it was. So what a call answered before is its definition over the refusals as they were (`grammarRefusalBefore`) and over rules
+-- without weights (`grammarBefore`).
 -- Assumes nothing.
 use mathlib.Core.Path.{_≡_}
 use mathlib.Core.Logic.{_⊎_}
@@ -186,7 +186,8 @@ module _ (file : List ℕ) where
     pub double : DoubleAt g i
     pub first : (k : ℕ) → k < i → DoubleAt g k → ⊥
 
--- Of every file that was accepted before. That it is a file of bytes is asked where a double of its rules is to be found in its records (`RefusalTen`).
+-- Claimed of every file that was accepted before. `lost` and `either` also ask that its numbers are bytes: only then must a double of its rules show in its
+-- records (`RefusalTen`).
 pub record OldFiles : Type 0 where
   pub weightless : (file : List ℕ) → grammarRefusalBefore file ≡ none → Weightless file
   pub kept : (file : List ℕ) → grammarRefusalBefore file ≡ none → WithoutDoubles file → Kept file

@@ -1,2 +1,2 @@
-// Grammar files from before the weights (document 02, papers 1 and 4). There is no code: what such a file keeps, and which one loses its verdicts, is said in specs/
-// and proved in proofs/.
+// Grammar files from before the weights (document 02, papers 1 and 4). There is no code: what such files keep, and which of them lose their verdicts, is said
+// in specs/ and proved in proofs/.

@@ -39,8 +39,8 @@ fn alike() -> Vec<u8> {
     file(&dimensions, |r| nonlexical(&dimensions, 1, [2, 3, 4], r))
 }
 
-/// Rules like these with three daughters of one category, so that each is compared with each in every order of the daughters. No order makes
-/// two of them equal: in all of them the first variable of daughter 0 comes before that of daughter 1, and this before that of daughter 2.
+/// Rules like these with three daughters of one category: whatever the order, the daughters agree, and the variables decide. No order makes two
+/// of them equal: in all of them the first variable of daughter 0 comes before that of daughter 1, and this before that of daughter 2.
 fn six_orders() -> Vec<u8> {
     let mut dimensions = [4; CATEGORIES];
     dimensions[0] = 1;
