@@ -1,12 +1,16 @@
 /* Counts and lists the analyses of the sentence in the folder DIR by the grammar there, through the C interface. Prints count and effort, then one trace a
- * line; or R with the number and the place of the refusal.
+ * line; or R with the number and the place of the refusal. With places after DIR, it takes these in place of the sentence's words: a place is a word, or the
+ * lowest and the highest that may have been said.
  *
- *     cc -Iinclude examples/call.c target/staticlib/libdowngrater.a -o call && ./call examples/pair */
+ *     cc -Iinclude examples/call.c target/staticlib/libdowngrater.a -o call && ./call examples/pair
+ *     ./call examples/unclear 0 1-2 3-4 */
 #include "downgrater.h"
 
 #include <stdio.h>
+#include <stdlib.h>
 
-enum { EFFORT_LIMIT = 1000000 };
+/* One place more than a sentence can have, so that a sentence that is too long is refused. */
+enum { EFFORT_LIMIT = 1000000, PLACES = 97 };
 
 static size_t load(const char *dir, const char *name, uint8_t *bytes, size_t most)
 {
@@ -20,6 +24,25 @@ static size_t load(const char *dir, const char *name, uint8_t *bytes, size_t mos
     return read;
 }
 
+/* The word at the front of the text, which is moved past it; 65,535, which is no word, where there is none or it is larger. */
+static uint16_t word(char **text)
+{
+    char *from = *text;
+    unsigned long n = strtoul(from, text, 10);
+    return *from < '0' || *from > '9' || n > UINT16_MAX ? UINT16_MAX : (uint16_t)n;
+}
+
+/* The place that the text says: WORD or LOWEST-HIGHEST. */
+static uint32_t place(char *text)
+{
+    uint16_t lowest = word(&text), highest = lowest;
+    if (*text == '-') {
+        text++;
+        highest = word(&text);
+    }
+    return *text ? dg_word(UINT16_MAX) : dg_words(lowest, highest);
+}
+
 static int refused(uint64_t answer)
 {
     printf("R %u %u\n", dg_number(answer), (unsigned)dg_place(answer));
@@ -30,12 +53,15 @@ int main(int argc, char **argv)
 {
     const char *dir = argc > 1 ? argv[1] : "examples/pair";
     static uint8_t grammar[14 * 512 + 1]; /* one byte more than a grammar file can have */
-    static uint8_t bytes[1 + 2 * 97];     /* the node limit, then two bytes a word */
+    static uint8_t bytes[1 + 2 * PLACES]; /* the node limit, then two bytes a word */
     size_t length = load(dir, "grammar", grammar, sizeof grammar);
     size_t words = load(dir, "sentence", bytes, sizeof bytes) / 2;
-    uint16_t sentence[97];
+    uint32_t sentence[PLACES];
     for (size_t i = 0; i < words; i++)
-        sentence[i] = (uint16_t)(bytes[1 + 2 * i] | bytes[2 + 2 * i] << 8);
+        sentence[i] = dg_word((uint16_t)(bytes[1 + 2 * i] | bytes[2 + 2 * i] << 8));
+    if (argc > 2)
+        for (words = 0; words < PLACES && words + 2 < (size_t)argc; words++)
+            sentence[words] = place(argv[words + 2]);
 
     uint64_t answer = dg_count(grammar, length, sentence, words, bytes[0], EFFORT_LIMIT);
     if (dg_refused(answer))

@@ -24,6 +24,9 @@
 extern "C" {
 #endif
 
+/* A sentence is a list of places, as many as `words` says, each a number of 32 bits: the lowest word that may stand there in the lower 16 bits and the highest in
+ * the upper 16, both included. Where a word is heard clearly the two are the same (dg_word, at the end of this file). */
+
 /* The reader; its value is the number of rules. */
 uint64_t dg_read_grammar(const uint8_t *file, size_t file_len);
 
@@ -34,33 +37,33 @@ uint64_t dg_write_grammar(uint8_t categories, uint8_t start, uint16_t words, uin
                           uint8_t *out, size_t out_len);
 
 /* The trace checker; its value is the number of steps. */
-uint64_t dg_check_trace(const uint8_t *file, size_t file_len, const uint16_t *sentence, size_t words,
+uint64_t dg_check_trace(const uint8_t *file, size_t file_len, const uint32_t *sentence, size_t words,
                         const uint16_t *trace, size_t trace_len);
 
 /* The tree checker; its value is the number of nodes. */
-uint64_t dg_check_tree(const uint8_t *file, size_t file_len, const uint16_t *sentence, size_t words,
+uint64_t dg_check_tree(const uint8_t *file, size_t file_len, const uint32_t *sentence, size_t words,
                        const uint16_t *tree, size_t tree_len);
 
 /* The weighing of a trace, refused as by the trace checker; its value is the sum of weights, one for each step. */
-uint64_t dg_weigh_trace(const uint8_t *file, size_t file_len, const uint16_t *sentence, size_t words,
+uint64_t dg_weigh_trace(const uint8_t *file, size_t file_len, const uint32_t *sentence, size_t words,
                         const uint16_t *trace, size_t trace_len);
 
 /* The weighing of a tree, refused as by the tree checker; its value is the sum of weights, one for each node. */
-uint64_t dg_weigh_tree(const uint8_t *file, size_t file_len, const uint16_t *sentence, size_t words,
+uint64_t dg_weigh_tree(const uint8_t *file, size_t file_len, const uint32_t *sentence, size_t words,
                        const uint16_t *tree, size_t tree_len);
 
 /* The conversions; their value is the number of nodes, and they ask an output of 96 numbers. */
-uint64_t dg_trace_to_tree(const uint8_t *file, size_t file_len, const uint16_t *sentence, size_t words,
+uint64_t dg_trace_to_tree(const uint8_t *file, size_t file_len, const uint32_t *sentence, size_t words,
                           const uint16_t *trace, size_t trace_len, uint16_t *out, size_t out_len);
-uint64_t dg_tree_to_trace(const uint8_t *file, size_t file_len, const uint16_t *sentence, size_t words,
+uint64_t dg_tree_to_trace(const uint8_t *file, size_t file_len, const uint32_t *sentence, size_t words,
                           const uint16_t *tree, size_t tree_len, uint16_t *out, size_t out_len);
 
 /* The count of analyses with at most node_limit nodes; its value is count and effort. */
-uint64_t dg_count(const uint8_t *file, size_t file_len, const uint16_t *sentence, size_t words,
+uint64_t dg_count(const uint8_t *file, size_t file_len, const uint32_t *sentence, size_t words,
                   uint64_t node_limit, uint64_t effort_limit);
 
 /* An entry of the listing, from 0 to one below the count; its value is the number of steps, and it asks an output of 96 numbers. */
-uint64_t dg_entry(const uint8_t *file, size_t file_len, const uint16_t *sentence, size_t words,
+uint64_t dg_entry(const uint8_t *file, size_t file_len, const uint32_t *sentence, size_t words,
                   uint64_t node_limit, uint64_t effort_limit, uint64_t entry,
                   uint16_t *out, size_t out_len);
 
@@ -83,6 +86,10 @@ uint64_t dg_opening_day(uint32_t year, uint32_t month, uint32_t day, uint64_t te
 /* Whether that deposit is open on the day with the number asked; its value is 1 from the opening day on, and 0 before it, also before the deposit's date. 27 for
  * the date or for the day asked; then 28, as above. */
 uint64_t dg_is_open(uint32_t year, uint32_t month, uint32_t day, uint64_t term, uint64_t asked);
+
+/* A place of a sentence: a single word, or any of the words from the lowest to the highest. */
+static inline uint32_t dg_words(uint16_t lowest, uint16_t highest) { return (uint32_t)highest << 16 | lowest; }
+static inline uint32_t dg_word(uint16_t word) { return dg_words(word, word); }
 
 /* An answer, taken apart. */
 static inline int dg_refused(uint64_t answer) { return (int)(answer >> 63); }

@@ -10,7 +10,7 @@ use Rattle.model.specs.Counting.{limitsRefusal, listing}
 use Rattle.model.proofs.Demands.{demand-3}
 use Rattle.analyses.specs.Answers.{Answers, Demand3Answered}
 
--- an accepted grammar file, a sentence of at most 96 of its words, and limits in range
+-- an accepted grammar file, a sentence that neither 11 nor 29 meets, and limits in range
 module _ (file : List ℕ) (accepted : grammarRefusal file ≡ none) (sentence : List ℕ) (spoken : sentenceRefusal (grammarOf file) sentence ≡ none)
     (n limit : ℕ) (ranges : limitsRefusal n limit ≡ none) where
   -- demand 3 for whatever answers as the calls promise

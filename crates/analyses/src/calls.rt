@@ -19,11 +19,11 @@ use model::Refusal;
 use model::Tested;
 use model::Verdict;
 use reader::grammar_refusal;
-use recognizer::sentence_refusal;
 use rows::row::first_row;
 use rows::rules::compile;
 use search::chain_rules;
 use search::search;
+use sentences::sentence_refusal;
 
 // Refusal 24: the node limit is not 1 to 96, or the effort limit not 1 to 1,000,000,000.
 fn limits_refusal(n: u64, limit: u64) -> Tested
@@ -45,7 +45,7 @@ fn limits_refusal(n: u64, limit: u64) -> Tested
 }
 
 // The search from the start, with n steps.
-fn search_all(file: &[u8], sentence: &[u16], n: usize, sheet: &mut [u64; 100]) -> bool
+fn search_all(file: &[u8], sentence: &[u32], n: usize, sheet: &mut [u64; 100]) -> bool
     requires { ⌜ (grammarRefusal (now file) ≡ none) × (1 ≤ n) × (n ≤ 96) × (length (now sheet) ≡ 100) × (getD (now sheet) 0 0 + getD (now sheet) 1 0 ≤ 1000000000) ⌝ }
     ensures { λ b. ⌜ Searched (now (sheet .entry)) (listing (grammarOf (now (file .entry))) (now (sentence .entry)) n) (effort (grammarOf (now (file .entry))) (now (sentence .entry)) n) (96 - n) b (now (sheet .exit)) ⌝ }
 {
@@ -74,7 +74,7 @@ fn figures(count: u64, left: u64, limit: u64) -> CountVerdict
 }
 
 // Count and effort of an accepted file and sentence, with limits in range: refusal 25, or both.
-fn counted(file: &[u8], sentence: &[u16], n: u64, limit: u64) -> CountVerdict
+fn counted(file: &[u8], sentence: &[u32], n: u64, limit: u64) -> CountVerdict
     requires { ⌜ (grammarRefusal (now file) ≡ none) × (limitsRefusal n limit ≡ none) ⌝ }
     ensures { λ v. ⌜ v ≡ countVerdict (effortRefusal (grammarOf (now (file .entry))) (now (sentence .entry)) n limit) (count (grammarOf (now (file .entry))) (now (sentence .entry)) n) (effort (grammarOf (now (file .entry))) (now (sentence .entry)) n) ⌝ }
 {
@@ -86,8 +86,8 @@ fn counted(file: &[u8], sentence: &[u16], n: u64, limit: u64) -> CountVerdict
     }
 }
 
-// What the count tests before it searches: the grammar, 24, 11.
-fn count_tests(file: &[u8], sentence: &[u16], n: u64, limit: u64) -> Tested
+// What the count tests before it searches: the grammar, 24, 11 and 29.
+fn count_tests(file: &[u8], sentence: &[u32], n: u64, limit: u64) -> Tested
     ensures { λ t. ⌜ t ≡ tested (beforeSearch (now (file .entry)) (now (sentence .entry)) n limit) ⌝ }
 {
     let grammar = grammar_refusal(file);
@@ -101,8 +101,8 @@ fn count_tests(file: &[u8], sentence: &[u16], n: u64, limit: u64) -> Tested
     sentence_refusal(file, sentence)
 }
 
-// The count under node limit n: refusals 1 to 10, 24, 11, 25; else count and effort.
-pub fn count(file: &[u8], sentence: &[u16], n: u64, limit: u64) -> CountVerdict
+// The count under node limit n: refusals 1 to 10, 24, 11 and 29, 25; else count and effort.
+pub fn count(file: &[u8], sentence: &[u32], n: u64, limit: u64) -> CountVerdict
     ensures { λ v. ⌜ v ≡ countCall (now (file .entry)) (now (sentence .entry)) n limit ⌝ }
 {
     let tests = count_tests(file, sentence, n, limit);
@@ -127,7 +127,7 @@ fn copy_entry(sheet: &[u64; 100], from: usize, steps: usize, out: &mut [u16])
 // Entry m of an accepted file and sentence, with limits in range and room in the output: refusals 25 and 26, or its steps.
 fn found_entry(
     file: &[u8],
-    sentence: &[u16],
+    sentence: &[u32],
     n: u64,
     limit: u64,
     m: u64,
@@ -150,8 +150,8 @@ fn found_entry(
     }
 }
 
-// Entry m of the listing under node limit n: refusals 1 to 10, 23, 24, 11, 25, 26; else its steps, at the front of the output. One search.
-pub fn entry(file: &[u8], sentence: &[u16], n: u64, limit: u64, m: u64, out: &mut [u16]) -> Verdict
+// Entry m of the listing under node limit n: refusals 1 to 10, 23, 24, 11 and 29, 25, 26; else its steps, at the front of the output. One search.
+pub fn entry(file: &[u8], sentence: &[u32], n: u64, limit: u64, m: u64, out: &mut [u16]) -> Verdict
     ensures { λ v. ⌜ (v ≡ entryVerdict (now (file .entry)) (now (sentence .entry)) n limit m (now (out .entry))) × (now (out .exit) ≡ entryOutput (now (file .entry)) (now (sentence .entry)) n limit m (now (out .entry))) ⌝ }
 {
     let tests = entry_tests(file, sentence, n, limit, out);
@@ -161,8 +161,8 @@ pub fn entry(file: &[u8], sentence: &[u16], n: u64, limit: u64, m: u64, out: &mu
     }
 }
 
-// What the call for an entry tests before it searches: the grammar, 23, 24, 11.
-fn entry_tests(file: &[u8], sentence: &[u16], n: u64, limit: u64, out: &[u16]) -> Tested
+// What the call for an entry tests before it searches: the grammar, 23, 24, 11 and 29.
+fn entry_tests(file: &[u8], sentence: &[u32], n: u64, limit: u64, out: &[u16]) -> Tested
     ensures { λ t. ⌜ t ≡ tested (beforeEntry (now (file .entry)) (now (sentence .entry)) n limit (now (out .entry))) ⌝ }
 {
     let grammar = grammar_refusal(file);

@@ -267,7 +267,7 @@ fn print_page(
     file: &[u8],
     t: &[u16; 8192],
     chain: &[u16; 320],
-    sentence: &[u16],
+    sentence: &[u32],
     n: usize,
     path: &mut [u16; 96],
     len: usize,
@@ -297,7 +297,7 @@ fn print_page(
 }
 
 // Prints count and effort, and then the listing, page by page: with each page, less of its text is left.
-fn print_listing(file: &[u8], sentence: &[u16], n: usize, count: u64, effort: u64)
+fn print_listing(file: &[u8], sentence: &[u32], n: usize, count: u64, effort: u64)
     requires { ⌜ (grammarRefusal (now file) ≡ none) × (1 ≤ n) × (n ≤ 96) × (effortOf (grammarOf (now file)) (now sentence) n ≤ programLimit) ⌝ }
 {
     let t = compile(file);
@@ -318,7 +318,7 @@ fn print_listing(file: &[u8], sentence: &[u16], n: usize, count: u64, effort: u6
 }
 
 // Prints what the program answers for what it read of its files.
-fn print_all(file: &[u8], sentence: &[u16], n: u8, even: bool) {
+fn print_all(file: &[u8], sentence: &[u32], n: u8, even: bool) {
     let v = report::program_verdict(file, sentence, n as u64, even);
     match v {
         CountVerdict::Counted(count, effort) => {
@@ -333,7 +333,7 @@ fn print_all(file: &[u8], sentence: &[u16], n: u8, even: bool) {
 fn main() {
     let mut file = [0u8; GRAMMAR_BYTES];
     let mut bytes = [0u8; SENTENCE_BYTES];
-    let mut words = [0u16; SENTENCE_WORDS];
+    let mut words = [0u32; SENTENCE_WORDS];
     let m = load_grammar(&mut file);
     let s = load_sentence(&mut bytes);
     let b = s.bytes;

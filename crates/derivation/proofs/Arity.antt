@@ -10,6 +10,7 @@ use lib.Dec.{eqb}
 use lib.ListN.{length}
 use Rattle.model.specs.Base.{if_then_else_}
 use Rattle.model.specs.Grammar.{Rule, Grammar, emptyWord, ruleAt, isLexical}
+use Rattle.model.specs.Step.{wordFits}
 use Rattle.model.specs.Tree.{arityBy, arity}
 use Rattle.model.specs.Rows.{Slot, RowState, RowOutcome, halts, moves, readWordRow, scanRow, predictRow, applyRow, stepRow}
 
@@ -28,7 +29,7 @@ scan-made w row made pending ws t e = go (eqb w emptyWord) e
 
     word : (us : List ℕ) → readWordRow w row made pending us ≡ moves t → made ≡ t .made
     word [] f = halts-not f
-    word (x ∷ xs) f = read (eqb w x) xs f
+    word (x ∷ xs) f = read (wordFits w x) xs f
 
     go : (b : Bool) → (if b then moves (record { row = row; made = made; pending = pending; words = ws }) else readWordRow w row made pending ws) ≡ moves t → made ≡ t .made
     go true f = made-same (record { row = row; made = made; pending = pending; words = ws }) t f

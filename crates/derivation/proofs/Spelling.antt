@@ -1,4 +1,4 @@
--- Refusal 22 by the run along the tree: the trace of a tree is accepted exactly when the tree's yield is the sentence.
+-- Refusal 22 by the run along the tree: the trace of a tree is accepted exactly when the tree's yield fits the sentence.
 -- Assumes nothing.
 use mathlib.Core.Path.{_≡_, refl, sym, ap, subst, _∙_}
 use mathlib.Core.Bool.{Bool, true, false}

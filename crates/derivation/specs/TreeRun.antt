@@ -66,7 +66,7 @@ abbrev pub TreeRun : Grammar → List ℕ → List ℕ → ℕ → RowState → 
 TreeRun g sentence list k s places before after answer =
     (names : ℕ → Tree) → Named g list places (s .made) names → RunSays g sentence k (length list - k) names s before after answer
 
--- the run from the start, of a list that passes the tests of its nodes: whether the root's yield is the sentence, and then the tree's trace is stored
+-- the run from the start, of a list that passes the tests of its nodes: whether the root's yield fits the sentence, and then the tree's trace is stored
 pub record Spelled (g : Grammar) (sentence list after : List ℕ) (answer : Bool) : Type 0 where
   pub spelled : answer ≡ spells g sentence (treeOfList g list)
   pub stored : answer ≡ true → (length after ≡ 96) × (take (length list) after ≡ traceOf g sentence list)

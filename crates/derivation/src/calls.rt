@@ -19,16 +19,16 @@ use model::Refusal;
 use model::Tested;
 use model::Verdict;
 use reader::grammar_refusal;
-use recognizer::sentence_refusal;
 use rows::row::first_row;
 use rows::rules::compile;
+use sentences::sentence_refusal;
 use trees::read_tree;
 
-// Whether the yield of the tree is the sentence, for a list that passes the tests of its nodes; then its trace is stored. A tree's trace reads the words
+// Whether the yield of the tree fits the sentence, for a list that passes the tests of its nodes; then its trace is stored. A tree's trace reads the words
 // of its yield in their order, so no yield is computed.
 fn spells(
     file: &[u8],
-    sentence: &[u16],
+    sentence: &[u32],
     list: &[u16],
     ends: &[u16; 96],
     trace: &mut [u16; 96],
@@ -58,7 +58,7 @@ fn spells(
 }
 
 // A tree's verdict, for a grammar file and a sentence that are accepted, and for an accepted tree its trace.
-pub fn trace_tree(file: &[u8], sentence: &[u16], list: &[u16], trace: &mut [u16; 96]) -> Verdict
+pub fn trace_tree(file: &[u8], sentence: &[u32], list: &[u16], trace: &mut [u16; 96]) -> Verdict
     requires { ⌜ (grammarRefusal (now file) ≡ none) × (length (now trace) ≡ 96) ⌝ }
     ensures { λ v. ⌜ TreeSays (grammarOf (now (file .entry))) (now (sentence .entry)) (now (list .entry)) (now (trace .exit)) v ⌝ }
 {
@@ -77,8 +77,8 @@ pub fn trace_tree(file: &[u8], sentence: &[u16], list: &[u16], trace: &mut [u16;
     }
 }
 
-// The tree checker: refusals 1 to 10, 11, 12, 19, 13 and 20 node by node, 21, 22; else the number of nodes.
-pub fn check_tree(file: &[u8], sentence: &[u16], tree: &[u16]) -> Verdict
+// The tree checker: refusals 1 to 10, 11 and 29, 12, 19, 13 and 20 node by node, 21, 22; else the number of nodes.
+pub fn check_tree(file: &[u8], sentence: &[u32], tree: &[u16]) -> Verdict
     ensures { λ v. ⌜ v ≡ checkTreeVerdict (now (file .entry)) (now (sentence .entry)) (now (tree .entry)) ⌝ }
 {
     let grammar = grammar_refusal(file);
@@ -93,8 +93,8 @@ pub fn check_tree(file: &[u8], sentence: &[u16], tree: &[u16]) -> Verdict
     trace_tree(file, sentence, tree, &mut trace)
 }
 
-// What a conversion tests before its input: the grammar, 23, 11.
-pub fn conversion_tests(file: &[u8], sentence: &[u16], out: &[u16]) -> Tested
+// What a conversion tests before its input: the grammar, 23, 11 and 29.
+pub fn conversion_tests(file: &[u8], sentence: &[u32], out: &[u16]) -> Tested
     ensures { λ t. ⌜ t ≡ tested (beforeInput (now (file .entry)) (now (sentence .entry)) (now (out .entry))) ⌝ }
 {
     let grammar = grammar_refusal(file);
@@ -109,7 +109,7 @@ pub fn conversion_tests(file: &[u8], sentence: &[u16], out: &[u16]) -> Tested
 }
 
 // The trace of a tree at the front of the output, for a grammar file and a sentence that are accepted; or the tree's refusal.
-fn write_trace(file: &[u8], sentence: &[u16], tree: &[u16], out: &mut [u16]) -> Verdict
+fn write_trace(file: &[u8], sentence: &[u32], tree: &[u16], out: &mut [u16]) -> Verdict
     requires { ⌜ (grammarRefusal (now file) ≡ none) × (96 ≤ length (now out)) ⌝ }
     ensures { λ v. ⌜ (v ≡ verdict (treeRefusal (grammarOf (now (file .entry))) (now (sentence .entry)) (now (tree .entry))) (length (now (tree .entry)))) × (now (out .exit) ≡ written (treeRefusal (grammarOf (now (file .entry))) (now (sentence .entry)) (now (tree .entry))) (traceOf (grammarOf (now (file .entry))) (now (sentence .entry)) (now (tree .entry))) (now (out .entry))) ⌝ }
 {
@@ -124,8 +124,8 @@ fn write_trace(file: &[u8], sentence: &[u16], tree: &[u16], out: &mut [u16]) -> 
     }
 }
 
-// The trace that belongs to a tree: refusals 1 to 10, 23, 11, and those of the tree checker; else the trace is written at the front of the output.
-pub fn tree_to_trace(file: &[u8], sentence: &[u16], tree: &[u16], out: &mut [u16]) -> Verdict
+// The trace that belongs to a tree: refusals 1 to 10, 23, 11 and 29, and those of the tree checker; else the trace is written at the front of the output.
+pub fn tree_to_trace(file: &[u8], sentence: &[u32], tree: &[u16], out: &mut [u16]) -> Verdict
     ensures { λ v. ⌜ (v ≡ treeToTraceVerdict (now (file .entry)) (now (sentence .entry)) (now (tree .entry)) (now (out .entry))) × (now (out .exit) ≡ treeToTraceOutput (now (file .entry)) (now (sentence .entry)) (now (tree .entry)) (now (out .entry))) ⌝ }
 {
     let tests = conversion_tests(file, sentence, out);

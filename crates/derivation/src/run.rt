@@ -40,7 +40,7 @@ fn front_node(q: &[u16; 384], from: usize, names: &[u16; 96]) -> usize
 pub fn run_tree(
     file: &[u8],
     t: &[u16; 8192],
-    sentence: &[u16],
+    sentence: &[u32],
     list: &[u16],
     ends: &[u16; 96],
     k: usize,

@@ -52,7 +52,7 @@ pub extern "C" fn dg_write_grammar(
 
 // The trace checker: the number of steps.
 #[no_mangle]
-pub extern "C" fn dg_check_trace(file: &[u8], sentence: &[u16], trace: &[u16]) -> u64
+pub extern "C" fn dg_check_trace(file: &[u8], sentence: &[u32], trace: &[u16]) -> u64
     ensures { λ x. ⌜ Says (checkTraceVerdict (now (file .entry)) (now (sentence .entry)) (now (trace .entry))) x ⌝ }
 {
     verdict_bits(check_trace(file, sentence, trace))
@@ -60,7 +60,7 @@ pub extern "C" fn dg_check_trace(file: &[u8], sentence: &[u16], trace: &[u16]) -
 
 // The tree checker: the number of nodes.
 #[no_mangle]
-pub extern "C" fn dg_check_tree(file: &[u8], sentence: &[u16], tree: &[u16]) -> u64
+pub extern "C" fn dg_check_tree(file: &[u8], sentence: &[u32], tree: &[u16]) -> u64
     ensures { λ x. ⌜ Says (checkTreeVerdict (now (file .entry)) (now (sentence .entry)) (now (tree .entry))) x ⌝ }
 {
     verdict_bits(check_tree(file, sentence, tree))
@@ -70,7 +70,7 @@ pub extern "C" fn dg_check_tree(file: &[u8], sentence: &[u16], tree: &[u16]) -> 
 #[no_mangle]
 pub extern "C" fn dg_trace_to_tree(
     file: &[u8],
-    sentence: &[u16],
+    sentence: &[u32],
     trace: &[u16],
     out: &mut [u16],
 ) -> u64
@@ -83,7 +83,7 @@ pub extern "C" fn dg_trace_to_tree(
 #[no_mangle]
 pub extern "C" fn dg_tree_to_trace(
     file: &[u8],
-    sentence: &[u16],
+    sentence: &[u32],
     tree: &[u16],
     out: &mut [u16],
 ) -> u64
@@ -94,7 +94,7 @@ pub extern "C" fn dg_tree_to_trace(
 
 // The count of analyses under a node limit: count and effort.
 #[no_mangle]
-pub extern "C" fn dg_count(file: &[u8], sentence: &[u16], n: u64, limit: u64) -> u64
+pub extern "C" fn dg_count(file: &[u8], sentence: &[u32], n: u64, limit: u64) -> u64
     ensures { λ x. ⌜ SaysCount (countCall (now (file .entry)) (now (sentence .entry)) n limit) x ⌝ }
 {
     count_bits(count(file, sentence, n, limit))
@@ -104,7 +104,7 @@ pub extern "C" fn dg_count(file: &[u8], sentence: &[u16], n: u64, limit: u64) ->
 #[no_mangle]
 pub extern "C" fn dg_entry(
     file: &[u8],
-    sentence: &[u16],
+    sentence: &[u32],
     n: u64,
     limit: u64,
     m: u64,
@@ -125,7 +125,7 @@ pub extern "C" fn dg_survey(file: &[u8], out: &mut [u16]) -> u64
 
 // The sum of weights along a trace.
 #[no_mangle]
-pub extern "C" fn dg_weigh_trace(file: &[u8], sentence: &[u16], trace: &[u16]) -> u64
+pub extern "C" fn dg_weigh_trace(file: &[u8], sentence: &[u32], trace: &[u16]) -> u64
     ensures { λ x. ⌜ SaysTraceSum (now (file .entry)) (now (sentence .entry)) (now (trace .entry)) x ⌝ }
 {
     verdict_bits(weigh_trace(file, sentence, trace))
@@ -133,7 +133,7 @@ pub extern "C" fn dg_weigh_trace(file: &[u8], sentence: &[u16], trace: &[u16]) -
 
 // The sum of weights along a tree.
 #[no_mangle]
-pub extern "C" fn dg_weigh_tree(file: &[u8], sentence: &[u16], tree: &[u16]) -> u64
+pub extern "C" fn dg_weigh_tree(file: &[u8], sentence: &[u32], tree: &[u16]) -> u64
     ensures { λ x. ⌜ SaysTreeSum (now (file .entry)) (now (sentence .entry)) (now (tree .entry)) x ⌝ }
 {
     verdict_bits(weigh_tree(file, sentence, tree))

@@ -24,7 +24,7 @@ pub fn follow(
     file: &[u8],
     t: &[u16; 8192],
     chain: &[u16; 320],
-    sentence: &[u16],
+    sentence: &[u32],
     n: usize,
     limit: u64,
     len: usize,

@@ -6,12 +6,12 @@ use mathlib.Core.Option.{Option, none, some}
 use mathlib.Core.List.{List, [], _∷_, _++_, map, append-nil, head-eq-of-cons-eq, tail-eq-of-cons-eq, nil≢cons, cons≢nil, List·Memᴰ, List·Memᴰ·head, List·Memᴰ·tail, List·Memᴰ·cases-cons}
 use Prim.Native.Nat.{ℕ, zero, suc, _≤_}
 use native.Mathlib.Omega.{arith}
-use lib.Dec.{T, eqb→eq, eqb-refl}
+use lib.Dec.{T}
 use lib.ListN.{length, getD, take, length-append, length-map}
 use Rattle.model.specs.Grammar.{Grammar}
-use Rattle.model.specs.Step.{Prediction, State, leads, step, begin, wordFits}
+use Rattle.model.specs.Step.{Prediction, State, leads, step, begin}
 use Rattle.model.specs.Trace.{noNode, run}
-use Rattle.model.specs.Tree.{Tree, node, yield, hasRoot, preorder, spells, derives, treeOfList, stringFits}
+use Rattle.model.specs.Tree.{Tree, node, yield, hasRoot, preorder, spells, derives, treeOfList}
 use Rattle.model.specs.Counting.{start, finished, complete, listing, count}
 use Rattle.model.specs.LivePrefixes.{Fits, LiveFrom, Live, Different}
 use Rattle.model.specs.WellFormed.{Perm, same, chain, Right}
@@ -32,19 +32,6 @@ use Rattle.model.proofs.Traces.{advance, traces-spell, traces-nodes, tr
 use Rattle.model.proofs.Lifting.{Lift, lifted}
 use Rattle.model.proofs.Only.{only}
 use Rattle.model.proofs.Tests.{and-both, and-l, and-r}
-
-same-eq : (a b : List ℕ) → T (stringFits a b) → a ≡ b
-same-eq [] [] t = refl
-same-eq [] (y ∷ b) t = absurd t
-same-eq (x ∷ a) [] t = absurd t
-same-eq (x ∷ a) (y ∷ b) t =
-    let e = eqb→eq x y (and-l (wordFits x y) (stringFits a b) t) in
-    let f = same-eq a b (and-r (wordFits x y) (stringFits a b) t) in
-    cc (e, f)
-
-same-refl : (a : List ℕ) → T (stringFits a a)
-same-refl [] = tt
-same-refl (x ∷ a) = and-both (wordFits x x) (stringFits a a) (eqb-refl x) (same-refl a)
 
 -- a tree has a node
 pub tree-counts : (t : Tree) → 1 ≤ length (preorder t)
@@ -83,14 +70,13 @@ module _ (g : Grammar) (right : Right g) (sentence : List ℕ) where
   pub derived-trace : (t : Tree) → T (derives g sentence t) → (p : List ℕ) × Traces g (at t) p
   derived-trace t h =
       let r = and-l (hasRoot g t (g .start)) (spells g sentence t) h in
-      let e = same-eq (getD (yield g t) 0 []) sentence (and-r (hasRoot g t (g .start)) (spells g sentence t) h) in
-      traced g right (length (nodes (at t .queue))) (at t) refl (at-good t r) (rw e at (at-row t r))
+      traced g right (length (nodes (at t .queue))) (at t) refl (at-good t r) (getD (yield g t) 0 []) (at-row t r)
+      (and-r (hasRoot g t (g .start)) (spells g sentence t) h)
 
   -- and a tree that has a trace derives the sentence
   pub trace-derives : (t : Tree) (p : List ℕ) → T (hasRoot g t (g .start)) → Traces g (at t) p → T (derives g sentence t)
   trace-derives t p r h =
-      let e = traces-spell g right p (at t) (at-good t r) h (getD (yield g t) 0 []) (at-row t r) in
-      and-both (hasRoot g t (g .start)) (spells g sentence t) r (rw e (same-refl sentence))
+      and-both (hasRoot g t (g .start)) (spells g sentence t) r (traces-spell g right p (at t) (at-good t r) h (getD (yield g t) 0 []) (at-row t r))
 
   pub trace-rules : (t : Tree) (p : List ℕ) → T (hasRoot g t (g .start)) → Traces g (at t) p → Perm p (preorder t)
   trace-rules t p r h = chain (traces-nodes g right p (at t) (at-good t r) h) (same (append-nil (preorder t)))

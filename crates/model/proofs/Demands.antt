@@ -1,4 +1,4 @@
--- Demands 2 and 3 of document 01, for every grammar file that the reader accepts and every sentence of at most 96 of its words.
+-- Demands 2 and 3 of document 01, for every grammar file that the reader accepts and every sentence that neither 11 nor 29 meets.
 -- Assumes nothing.
 use mathlib.Core.Path.{_≡_, refl, sym, ap, subst, _∙_}
 use mathlib.Core.Bool.{Bool, true, false, not}
@@ -90,7 +90,7 @@ module _ (g : Grammar) (right : Right g) (sentence : List ℕ) where
       ap (treeOf g sentence) (trace-of g right sentence t (d .0) r (d .1))
       ∙ tree-of g right t sentence (d .0) (at-good g right sentence t r) (d .1)
 
--- with a file that the reader accepts and a sentence of its words
+-- with a file that the reader accepts and a sentence that neither 11 nor 29 meets
 module _ (file : List ℕ) (accepted : grammarRefusal file ≡ none) (sentence : List ℕ) (spoken : sentenceRefusal (grammarOf file) sentence ≡ none) where
   abbrev g : Grammar
   g = grammarOf file

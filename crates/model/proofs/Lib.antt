@@ -16,6 +16,7 @@ pub mod Expand
 pub mod Daughters
 pub mod Queue
 pub mod Scan
+pub mod Fitting
 pub mod Forward
 pub mod Traces
 pub mod Lifting

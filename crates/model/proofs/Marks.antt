@@ -8,7 +8,7 @@ use Prim.Native.Nat.{ℕ, suc}
 use lib.Dec.{eqb}
 use Rattle.model.specs.Base.{if_then_else_, each, numbersFrom}
 use Rattle.model.specs.Grammar.{Grammar, Rule, Variable, ruleAt, isLexical, emptyWord, dimension}
-use Rattle.model.specs.Step.{Index, before, Prediction, State, Outcome, fails, leads, leastOf, insert, sort, sameFirst, shorten, trim, daughtersFrom, expand, variableIndices, indexOf, readWord, scan, predict, apply, step}
+use Rattle.model.specs.Step.{Index, before, Prediction, State, Outcome, fails, leads, leastOf, insert, sort, sameFirst, shorten, trim, daughtersFrom, expand, variableIndices, indexOf, readWord, scan, predict, apply, step, wordFits}
 use Rattle.model.specs.Trace.{noNode}
 
 abbrev pub Bare : Type 0
@@ -75,7 +75,7 @@ module _ {A : Type 0} (child : A → ℕ → A) (g : Grammar) where
 
   word-bare : (w : ℕ) (q : List (Prediction A)) (ws : List ℕ) → bareOutcome (readWord w q ws) ≡ readWord w (map bare q) ws
   word-bare w q [] = refl
-  word-bare w q (x ∷ ws) = go (eqb w x)
+  word-bare w q (x ∷ ws) = go (wordFits w x)
     where
       go : (b : Bool) → bareOutcome (if b then leads (record { queue = q; words = ws }) else fails 16) ≡ (if b then leads (record { queue = map bare q; words = ws }) else fails 16)
       go true = refl

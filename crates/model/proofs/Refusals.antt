@@ -18,12 +18,12 @@ use Rattle.model.specs.Grammar.{Rule, Grammar, emptyWord, ruleAt, isLexi
 use Rattle.model.specs.GrammarFile.{grammarOf, categoriesOf, grammarRefusal, ruleRefusal, blocks, rulesOf, dimensionsOf, wordsOf, recordOf, wrongCategory, wrongWord, wrongVariables, unusedSet, repeated, wrongLength, wrongCheck, wrongBlock, wrongHeading, wrongBlocks, wrongCount, wrongRest}
 use Rattle.model.specs.Writer.{Heading, fileOf, headingBlock}
 use Rattle.model.specs.Step.{Prediction, State, Outcome, fails, leads, wordFits, readWord, scan, predict, apply, step, begin}
-use Rattle.model.specs.Trace.{noNode, firstUnknown, sentenceRefusal, stepsRefusal, traceRefusal}
+use Rattle.model.specs.Trace.{noNode, endNoWord, lowestAbove, placesRefusal, sentenceRefusal, stepsRefusal, traceRefusal}
 use Rattle.model.specs.Tree.{nodesRefusal, treeRefusal, spells, treeOfList}
 use Rattle.model.specs.Conversions.{treeOf, traceOf}
 use Rattle.model.specs.Counting.{count, effort, entry, limitsRefusal, effortRefusal}
 use Rattle.model.specs.Calls.{written, roomRefusal, writeRefusal, checkTraceRefusal, checkTreeRefusal, traceToTreeRefusal, treeToTraceRefusal, countRefusal, entryCallRefusal, surveyRefusal}
-use Rattle.model.specs.Refusals.{Test, ofGrammar, ofAnalysis, ofDesk, ruleTests, fileTests, wordTests, sentenceTests, noSuchRule, otherCategory, otherWord, stepTests, stepsTests, traceTests, nodesTests, treeTests, roomTests, limitTests, effortTests, writeTests, checkTraceTests, checkTreeTests, traceToTreeTests, treeToTraceTests, countTests, entryTests, surveyTests}
+use Rattle.model.specs.Refusals.{Test, ofGrammar, ofAnalysis, ofDesk, ruleTests, fileTests, placesTests, sentenceTests, noSuchRule, otherCategory, otherWord, stepTests, stepsTests, traceTests, nodesTests, treeTests, roomTests, limitTests, effortTests, writeTests, checkTraceTests, checkTreeTests, traceToTreeTests, treeToTraceTests, countTests, entryTests, surveyTests}
 use Rattle.model.specs.Demands.{NoneMeets, First, Decided, Wrote, Demand1}
 use Rattle.model.proofs.Tests.{none-some}
 use Rattle.model.proofs.Room.{file-fits, tree-fits, trace-fits, entry-fits, figures-fit}
@@ -220,21 +220,14 @@ file-gives file =
     then grammar-one 9 (rulesOf file) (wrongRest file)
 
 -- the sentence
-words-first : (words k : ℕ) (ws : List ℕ) → firstMet (wordTests words k ws) ≡ firstUnknown words k ws
-words-first words k [] = refl
-words-first words k (w ∷ ws) = go (ltb w words) (words-first words (suc k) ws)
-  where
-    go : (b : Bool) → firstMet (wordTests words (suc k) ws) ≡ firstUnknown words (suc k) ws
-        → refuseIf (not b) (Refusal.Analysis 11 k) orElse firstMet (wordTests words (suc k) ws) ≡ (if b then firstUnknown words (suc k) ws else some (Refusal.Analysis 11 k))
-    go true ih = ih
-    go false ih = refl
-
-words-give : (words k : ℕ) (ws : List ℕ) → Gives (wordTests words k ws) (firstUnknown words k ws)
-words-give words k ws = record { first = words-first words k ws }
+places-give : (words k : ℕ) (ps : List ℕ) → Gives (placesTests words k ps) (placesRefusal words k ps)
+places-give words k [] = record { first = refl }
+places-give words k (p ∷ ps) =
+    (analysis-one 11 k (endNoWord words p) then analysis-one 29 k (lowestAbove p)) then places-give words (suc k) ps
 
 sentence-gives : (g : Grammar) (sentence : List ℕ) → Gives (sentenceTests g sentence) (sentenceRefusal g sentence)
 sentence-gives g sentence =
-    analysis-one 11 96 (ltb 96 (length sentence)) then words-give (g .words) 0 sentence
+    analysis-one 11 96 (ltb 96 (length sentence)) then places-give (g .words) 0 sentence
 
 -- one step: the tests 13 to 16 say whether it applies, and with which number it fails
 abbrev failed : ℕ → Outcome (Unit {0}) → Option Refusal

@@ -8,7 +8,7 @@ use Prim.Native.Nat.{ℕ, suc}
 use lib.Dec.{eqb}
 use Rattle.model.specs.Base.{if_then_else_, each, numbersFrom}
 use Rattle.model.specs.Grammar.{Grammar, Rule, Variable, ruleAt, isLexical, emptyWord, dimension}
-use Rattle.model.specs.Step.{Index, before, Prediction, State, Outcome, fails, leads, leastOf, insert, sort, sameFirst, shorten, trim, daughtersFrom, expand, variableIndices, indexOf, readWord, scan, predict, apply, step}
+use Rattle.model.specs.Step.{Index, before, Prediction, State, Outcome, fails, leads, leastOf, insert, sort, sameFirst, shorten, trim, daughtersFrom, expand, variableIndices, indexOf, readWord, scan, predict, apply, step, wordFits}
 
 module _ {A B : Type 0} (f : A → B) where
   -- a prediction with its mark renamed
@@ -71,7 +71,7 @@ module _ {A B : Type 0} (f : A → B) (child : A → ℕ → A) (child′ : B �
 
   word-remark : (w : ℕ) (q : List (Prediction A)) (ws : List ℕ) → renamedOutcome f (readWord w q ws) ≡ readWord w (map (remark f) q) ws
   word-remark w q [] = refl
-  word-remark w q (x ∷ ws) = go (eqb w x)
+  word-remark w q (x ∷ ws) = go (wordFits w x)
     where
       go : (b : Bool) → renamedOutcome f (if b then leads (record { queue = q; words = ws }) else fails 16) ≡ (if b then leads (record { queue = map (remark f) q; words = ws }) else fails 16)
       go true = refl

@@ -11,7 +11,7 @@ use lib.ListN.{length, length-map, length-append}
 use borrow.Author.Tests.{eqb-true}
 use Rattle.model.specs.Base.{if_then_else_, numbersFrom}
 use Rattle.model.specs.Grammar.{Variable, Rule, Grammar, emptyWord, ruleAt, isLexical, dimension}
-use Rattle.model.specs.Step.{Index, Prediction, State, fails, leads, shorten, trim, sort, sameFirst, readWord, scan, daughtersFrom, variableIndices, expand, predict, apply, step, begin}
+use Rattle.model.specs.Step.{Index, Prediction, State, fails, leads, shorten, trim, sort, sameFirst, readWord, scan, daughtersFrom, variableIndices, expand, predict, apply, step, begin, wordFits}
 use Rattle.model.specs.Rows.{Slot, RowState, halts, moves, expandRow, readWordRow, scanRow, predictRow, applyRow, stepRow, beginRow}
 use Rattle.model.specs.WellFormed.{Perm, same, more, swap, chain, RightRule, Right}
 use Rattle.model.specs.RowsAgree.{number, IndexedSlot, SameOutcome}
@@ -130,7 +130,7 @@ module _ (g : Grammar) where
 
       word : (ws : List ℕ) → SameOutcome AgreeRow (readWord w q ws) (readWordRow w row made pending ws)
       word [] = refl
-      word (x ∷ xs) = read (eqb w x) xs
+      word (x ∷ xs) = read (wordFits w x) xs
 
       go : (b : Bool)
           → SameOutcome AgreeRow (if b then leads (record { queue = q; words = ws }) else readWord w q ws) (if b then moves (record { row = row; made = made; pending = pending; words = ws }) else readWordRow w row made pending ws)

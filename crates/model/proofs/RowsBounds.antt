@@ -11,7 +11,7 @@ use lib.ListN.{length, length-map, length-append}
 use Rattle.model.specs.Base.{if_then_else_}
 use Rattle.model.specs.Grammar.{Rule, Grammar, emptyWord, ruleAt, isLexical, dimension}
 use Rattle.model.specs.GrammarFile.{grammarRefusal, grammarOf}
-use Rattle.model.specs.Step.{Index, Prediction, State, Outcome, fails, leads, step, begin}
+use Rattle.model.specs.Step.{Index, Prediction, State, Outcome, fails, leads, wordFits, step, begin}
 use Rattle.model.specs.Rows.{Slot, RowState, RowOutcome, halts, moves, predictRow, readWordRow, scanRow, applyRow, stepRow, beginRow}
 use Rattle.model.specs.WellFormed.{Right}
 use Rattle.model.specs.RowsAgree.{number, IndexedSlot, slotIn, indexedFrom, indexedOf, indexedSlots, SameOutcome}
@@ -123,7 +123,7 @@ scan-counts w row rest made pending ws t′ e = go (eqb w emptyWord) e
 
     word : (us : List ℕ) → length us ≤ length ws → readWordRow w rest made (pending - 1) us ≡ moves t′ → Counts (record { row = row; made = made; pending = pending; words = ws }) t′
     word [] l f = let z : _≡_ {A = ℕ} 0 1 = cc in absurd (omega arith)
-    word (x ∷ xs) l f = read (eqb w x) xs (omega arith) f
+    word (x ∷ xs) l f = read (wordFits w x) xs (omega arith) f
 
     go : (b : Bool) → (if b then moves (record { row = rest; made = made; pending = pending - 1; words = ws }) else readWordRow w rest made (pending - 1) ws) ≡ moves t′
         → Counts (record { row = row; made = made; pending = pending; words = ws }) t′

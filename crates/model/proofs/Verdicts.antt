@@ -15,7 +15,7 @@ use Rattle.model.specs.Base.{_orElse_}
 use Rattle.model.specs.declared.CountVerdict.{CountVerdict}
 use Rattle.model.specs.Verdict.{refusalAnswer, verdictAnswer, countAnswer, refuseIf, tested, verdict}
 use Rattle.model.specs.Grammar.{Grammar}
-use Rattle.model.specs.Trace.{firstUnknown, sentenceRefusal}
+use Rattle.model.specs.Trace.{placesRefusal, sentenceRefusal}
 use Rattle.model.specs.Calls.{roomRefusal}
 use Rattle.model.proofs.Tests.{no-refusal, first-of}
 
@@ -112,7 +112,7 @@ after-pass o p m v e f = f ∙ sym (ap (λ (q : Option Refusal). verdict (q orEl
 pub sentence-short : (g : Grammar) (sentence : List ℕ) → sentenceRefusal g sentence ≡ none → length sentence ≤ 96
 sentence-short g sentence e =
     ltb-false 96 (length sentence)
-    (no-refusal (ltb 96 (length sentence)) (Refusal.Analysis 11 96) (first-of (refuseIf (ltb 96 (length sentence)) (Refusal.Analysis 11 96)) (firstUnknown (g .words) 0 sentence) e))
+    (no-refusal (ltb 96 (length sentence)) (Refusal.Analysis 11 96) (first-of (refuseIf (ltb 96 (length sentence)) (Refusal.Analysis 11 96)) (placesRefusal (g .words) 0 sentence) e))
 
 pub room-long : (out : List ℕ) → roomRefusal out ≡ none → 96 ≤ length out
 room-long out e = ltb-false (length out) 96 (no-refusal (ltb (length out) 96) (Refusal.Desk 23 0) e)

@@ -85,7 +85,7 @@ module _ (file sentence : List ℕ) where
   abbrev pub treeToTraceOutput : List ℕ → List ℕ → List ℕ
   treeToTraceOutput tree out = written (treeToTraceRefusal tree out) (traceOf (grammarOf file) sentence tree) out
 
-  -- The count under node limit n: grammar, 24, 11, 25
+  -- The count under node limit n: grammar, 24, 11 and 29, 25
   abbrev pub countRefusal : ℕ → ℕ → Option Refusal
   countRefusal n limit =
       grammarRefusal file orElse limitsRefusal n limit orElse sentenceRefusal (grammarOf file) sentence
@@ -94,7 +94,7 @@ module _ (file sentence : List ℕ) where
   abbrev pub countCall : ℕ → ℕ → CountVerdict
   countCall n limit = countVerdict (countRefusal n limit) (count (grammarOf file) sentence n) (effort (grammarOf file) sentence n)
 
-  -- Entry m of the listing: "a call for entry m writes it if not refused"; grammar, 23, 24, 11, 25, 26
+  -- Entry m of the listing: "a call for entry m writes it if not refused"; grammar, 23, 24, 11 and 29, 25, 26
   abbrev pub entryCallRefusal : ℕ → ℕ → ℕ → List ℕ → Option Refusal
   entryCallRefusal n limit m out =
       grammarRefusal file orElse roomRefusal out orElse limitsRefusal n limit orElse sentenceRefusal (grammarOf file) sentence

@@ -1,5 +1,6 @@
 -- The three demands, as statements about the calls. Demand 1 holds for every input (proofs/Refusals.antt), demands 2 and 3 for every grammar file that the
--- reader accepts and every sentence of at most 96 of its words (proofs/Demands.antt). Each is quoted before its record.
+-- reader accepts and, "a fitting yield standing for an equal one" (document 02, paper 5), for every sentence that neither 11 nor 29 meets
+-- (proofs/Demands.antt). Each is quoted before its record.
 -- Assumes nothing.
 use mathlib.Core.Path.{_≡_}
 use Prim.Native.Nat.{ℕ, _<_, _≤_}

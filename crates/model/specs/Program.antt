@@ -10,6 +10,7 @@ use Rattle.model.specs.Base.{if_then_else_, _orElse_, each}
 use Rattle.model.specs.Verdict.{refuseIf, number, place}
 use Rattle.model.specs.GrammarFile.{grammarRefusal, grammarOf}
 use Rattle.model.specs.Counting.{count, effort, listing}
+use Rattle.model.specs.Step.{single}
 use Rattle.model.specs.Calls.{countRefusal}
 
 -- the bytes of a blank, a newline, the letter R and the digit 0
@@ -40,14 +41,14 @@ line [] = newline ∷ []
 line (n ∷ []) = decimal n ++ (newline ∷ [])
 line (n ∷ m ∷ ms) = decimal n ++ (blank ∷ line (m ∷ ms))
 
--- "byte N, then two little-endian bytes a word"
+-- "byte N, then two little-endian bytes a word"; "the program's file keeps single words"
 abbrev pub limitIn : List ℕ → ℕ
 limitIn sentenceFile = getD sentenceFile 0 0
 
 abbrev pub pairs : List ℕ → List ℕ
 pairs [] = []
 pairs (a ∷ []) = []
-pairs (a ∷ b ∷ bs) = (a + 256 * b) ∷ pairs bs
+pairs (a ∷ b ∷ bs) = single (a + 256 * b) ∷ pairs bs
 
 abbrev pub sentenceIn : List ℕ → List ℕ
 sentenceIn sentenceFile = pairs (drop 1 sentenceFile)

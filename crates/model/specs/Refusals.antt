@@ -14,7 +14,7 @@ use Rattle.model.specs.Grammar.{Rule, Grammar, emptyWord, ruleAt, daught
 use Rattle.model.specs.GrammarFile.{grammarOf, blocks, rulesOf, dimensionsOf, wordsOf, recordOf, wrongLength, wrongCheck, wrongBlock, wrongHeading, wrongBlocks, wrongCount, wrongRest, wrongCategory, wrongWord, wrongVariables, unusedSet, repeated}
 use Rattle.model.specs.Writer.{Heading, headingBlock, fileOf}
 use Rattle.model.specs.Step.{Prediction, State, fails, leads, wordFits, step, begin}
-use Rattle.model.specs.Trace.{noNode}
+use Rattle.model.specs.Trace.{noNode, endNoWord, lowestAbove}
 use Rattle.model.specs.Tree.{spells, treeOfList}
 use Rattle.model.specs.Counting.{count, effort}
 
@@ -61,13 +61,14 @@ fileTests file =
     andThen each (ruleTests file) (numbersFrom 0 (rulesOf file))
     andThen (ofGrammar 9 (rulesOf file) (wrongRest file) ∷ [])
 
--- "11 sentence over 96 words (place 96, tested first), or no such word (place of the first)"
-abbrev pub wordTests : ℕ → ℕ → List ℕ → List Test
-wordTests words k [] = []
-wordTests words k (w ∷ ws) = ofAnalysis 11 k (not (ltb w words)) ∷ wordTests words (suc k) ws
+-- "11 sentence over 96 words (place 96, tested first), or no such word (place of the first)"; at each place "Refusal 11 meets either end that is no word", and
+-- then "29 lowest above highest (its place), tested after 11 at the same place" (document 02, paper 5)
+abbrev pub placesTests : ℕ → ℕ → List ℕ → List Test
+placesTests words k [] = []
+placesTests words k (p ∷ ps) = ofAnalysis 11 k (endNoWord words p) ∷ ofAnalysis 29 k (lowestAbove p) ∷ placesTests words (suc k) ps
 
 abbrev pub sentenceTests : Grammar → List ℕ → List Test
-sentenceTests g sentence = (ofAnalysis 11 96 (ltb 96 (length sentence)) ∷ []) andThen wordTests (g .words) 0 sentence
+sentenceTests g sentence = (ofAnalysis 11 96 (ltb 96 (length sentence)) ∷ []) andThen placesTests (g .words) 0 sentence
 
 -- "13 no such rule; 14 queue empty; 15 other category than the front; 16 word is not next"
 abbrev pub noSuchRule : Option Rule → Bool

@@ -1,10 +1,10 @@
--- One step of the recognizer, with indices as digit strings (document 01, "One step").
+-- One step of the recognizer, with indices as digit strings (document 01, "One step"), on a sentence whose places hold ranges of words (document 02, paper 5).
 -- Assumes nothing.
-use Prim.Native.Nat.{ℕ, suc}
+use Prim.Native.Nat.{ℕ, suc, _+_, _*_, _/_, _%_}
 use mathlib.Core.Bool.{Bool, true, false, _&&_, _||_}
 use mathlib.Core.List.{List, [], _∷_, _++_, map, tail}
 use mathlib.Core.Option.{Option, none, some}
-use lib.Dec.{ltb, eqb}
+use lib.Dec.{ltb, leb, eqb}
 use Rattle.model.specs.Base.{if_then_else_, each, every, numbersFrom}
 use Rattle.model.specs.Grammar.{Variable, Rule, Grammar, emptyWord, dimension, ruleAt, isLexical}
 
@@ -34,7 +34,7 @@ pub record Prediction (A : Type 0) : Type 0 where
   pub indices : List Index
   pub node : A
 
--- where a recognizer stands: the predictions, in order, and the words not yet read
+-- where a recognizer stands: the predictions, in order, and the places of the sentence whose words are not yet read
 pub record State (A : Type 0) : Type 0 where
   pub queue : List (Prediction A)
   pub words : List ℕ
@@ -99,12 +99,29 @@ module _ {A : Type 0} where
   abbrev pub trim : List (Prediction A) → List (Prediction A)
   trim q = if sameFirst (each (λ p. p .indices) q) then map shorten q else q
 
--- a word of a rule takes a place of the sentence
+-- "A sentence place now holds a lowest and a highest word number, lent as one 32-bit number with the highest in the upper 16 bits"
+abbrev pub lowest : ℕ → ℕ
+lowest place = place % 65536
+
+abbrev pub highest : ℕ → ℕ
+highest place = place / 65536
+
+-- the place with these ends; one that holds a single word; a sentence of single words
+abbrev pub range : ℕ → ℕ → ℕ
+range low high = low + 65536 * high
+
+abbrev pub single : ℕ → ℕ
+single word = range word word
+
+abbrev pub singles : List ℕ → List ℕ
+singles words = map single words
+
+-- "a scan takes it when the rule's word lies between them, ends included"
 abbrev pub wordFits : ℕ → ℕ → Bool
-wordFits word place = eqb word place
+wordFits word place = leb (lowest place) word && leb word (highest place)
 
 module _ {A : Type 0} where
-  -- "the word must be the next one": else refusal 16
+  -- "the word must be the next one", which it is where it fits the next place: else refusal 16
   abbrev pub readWord : ℕ → List (Prediction A) → List ℕ → Outcome A
   readWord w q [] = fails 16
   readWord w q (x ∷ xs) = if wordFits w x then leads (record { queue = q; words = xs }) else fails 16

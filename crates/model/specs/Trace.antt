@@ -1,6 +1,7 @@
--- Sentences and the trace checker (document 01, "One step", "Trace and tree", and refusals 11 to 18).
+-- Sentences and the trace checker (document 01, "One step", "Trace and tree", and refusals 11 to 18; document 02, paper 5, refusals 11 and 29).
 -- Assumes nothing.
 use Prim.Native.Nat.{ℕ, suc, _-_}
+use mathlib.Core.Bool.{Bool, not, _||_}
 use mathlib.Core.List.{List, [], _∷_}
 use mathlib.Core.Option.{Option, none, some}
 use lib.Dec.{ltb, eqb}
@@ -9,21 +10,34 @@ use Rattle.model.specs.declared.Refusal.{Refusal}
 use Rattle.model.specs.Base.{if_then_else_, _orElse_}
 use Rattle.model.specs.Verdict.{refuseIf}
 use Rattle.model.specs.Grammar.{Grammar}
-use Rattle.model.specs.Step.{State, fails, leads, step, begin}
+use Rattle.model.specs.Step.{State, fails, leads, lowest, highest, step, begin}
 
 -- what predictions stand for where it does not matter
 abbrev pub noNode : Unit {0} → ℕ → Unit {0}
 noNode n j = n
 
--- refusal 11: "sentence over 96 words (place 96, tested first), or no such word (place of the first)"
-abbrev pub firstUnknown : ℕ → ℕ → List ℕ → Option Refusal
-firstUnknown words k [] = none
-firstUnknown words k (w ∷ ws) = if ltb w words then firstUnknown words (suc k) ws else some (Refusal.Analysis 11 k)
+-- "either end that is no word" of a grammar with this many words, which are numbered from 0
+abbrev pub endNoWord : ℕ → ℕ → Bool
+endNoWord words place = not (ltb (lowest place) words) || not (ltb (highest place) words)
 
+-- "lowest above highest"
+abbrev pub lowestAbove : ℕ → Bool
+lowestAbove place = ltb (highest place) (lowest place)
+
+-- place k: "Refusal 11 meets either end that is no word"; "29 lowest above highest (its place), tested after 11 at the same place"
+abbrev pub placeRefusal : ℕ → ℕ → ℕ → Option Refusal
+placeRefusal words k place = refuseIf (endNoWord words place) (Refusal.Analysis 11 k) orElse refuseIf (lowestAbove place) (Refusal.Analysis 29 k)
+
+-- place k and those after it
+abbrev pub placesRefusal : ℕ → ℕ → List ℕ → Option Refusal
+placesRefusal words k [] = none
+placesRefusal words k (p ∷ ps) = placeRefusal words k p orElse placesRefusal words (suc k) ps
+
+-- "11 sentence over 96 words (place 96, tested first)", and then place by place
 abbrev pub sentenceRefusal : Grammar → List ℕ → Option Refusal
 sentenceRefusal g sentence =
     refuseIf (ltb 96 (length sentence)) (Refusal.Analysis 11 96)
-    orElse firstUnknown (g .words) 0 sentence
+    orElse placesRefusal (g .words) 0 sentence
 
 -- refusal 12: "trace or tree over 96"
 abbrev pub lengthRefusal : List ℕ → Option Refusal

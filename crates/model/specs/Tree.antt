@@ -1,6 +1,7 @@
--- Derivation trees: their lists, their yields, and the tree checker (document 01, "Trace and tree", and refusals 19 to 22).
+-- Derivation trees: their lists, their yields, and the tree checker (document 01, "Trace and tree", and refusals 19 to 22; document 02, paper 5).
 -- Assumes nothing.
-use Prim.Native.Nat.{ℕ, zero, suc}
+use mathlib.Core.Path.{_≡_}
+use Prim.Native.Nat.{ℕ, zero, suc, _<_, _≤_}
 use mathlib.Core.Bool.{Bool, true, false, not, _&&_}
 use mathlib.Core.List.{List, [], _∷_, _++_, map}
 use mathlib.Core.Option.{Option, none, some}
@@ -10,7 +11,7 @@ use Rattle.model.specs.declared.Refusal.{Refusal}
 use Rattle.model.specs.Base.{if_then_else_, _orElse_, each}
 use Rattle.model.specs.Verdict.{refuseIf}
 use Rattle.model.specs.Grammar.{Variable, Rule, Grammar, emptyWord, ruleAt, isLexical}
-use Rattle.model.specs.Step.{wordFits}
+use Rattle.model.specs.Step.{lowest, highest, wordFits}
 use Rattle.model.specs.Trace.{lengthRefusal}
 
 -- a node has a rule number and its daughters, in rule order
@@ -68,7 +69,7 @@ abbrev mutual
   hasRoots g (cons t ts) [] = false
   hasRoots g (cons t ts) (c ∷ cs) = hasRoot g t c && hasRoots g ts cs
 
--- "the root's yield is the sentence": place by place, and no word more or less
+-- "A tree then fits when its yield has the sentence's length and lies within the ranges place by place."
 abbrev pub stringFits : List ℕ → List ℕ → Bool
 stringFits [] [] = true
 stringFits [] (y ∷ ys) = false
@@ -78,7 +79,12 @@ stringFits (x ∷ xs) (y ∷ ys) = wordFits x y && stringFits xs ys
 abbrev pub spells : Grammar → List ℕ → Tree → Bool
 spells g sentence t = stringFits (getD (yield g t) 0 []) sentence
 
--- "A tree derives the sentence when" it has the start category as root and its yield is the sentence
+-- what that says of two lists, stated without going through them
+pub record Within (words sentence : List ℕ) : Type 0 where
+  pub as-long : length words ≡ length sentence
+  pub between : (k : ℕ) → k < length sentence → (lowest (getD sentence k 0) ≤ getD words k 0) × (getD words k 0 ≤ highest (getD sentence k 0))
+
+-- "A tree derives the sentence when" it has the start category as root and, by paper 5, its yield fits the sentence
 abbrev pub derives : Grammar → List ℕ → Tree → Bool
 derives g sentence t = hasRoot g t (g .start) && spells g sentence t
 
@@ -124,7 +130,7 @@ module _ (g : Grammar) where
             if eqb (rule .category) c then nodesRefusal (suc k) (rule .daughters ++ wanted) rs else some (Refusal.Analysis 20 k)
       ]
 
-  -- 12, then node by node, then "22 yield is not the sentence"
+  -- 12, then node by node, then "22 yield is not the sentence", where by paper 5 a fitting yield stands for an equal one
   abbrev pub treeRefusal : List ℕ → List ℕ → Option Refusal
   treeRefusal sentence list =
       lengthRefusal list

@@ -1,4 +1,3 @@
 pub mod Steps
 pub mod Running
-pub mod Words
 pub mod Checked

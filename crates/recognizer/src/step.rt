@@ -4,7 +4,6 @@ ghost use mathlib.Core.Path.{_≡_};
 ghost use Prim.Native.Nat.{_≤_};
 ghost use lib.ListN.{length, drop};
 ghost use Rattle.model.specs.GrammarFile.{grammarRefusal, grammarOf};
-ghost use Rattle.model.specs.Step.{wordFits};
 ghost use Rattle.rows.specs.Row.{stateOf, Held};
 ghost use Rattle.recognizer.specs.Steps.{scanAnswer, Stands, StepSays};
 ghost use Rattle.rows.specs.Table.{Compiled};
@@ -18,6 +17,7 @@ use rows::rules::category;
 use rows::rules::daughters;
 use rows::rules::place_of;
 use rows::rules::word;
+use sentences::fits;
 
 // What a step does: it halts by refusal 13, 14, 15 or 16; or its queue is longer than the steps left; or the head of the row goes and so many words
 // are read; or the next row, of so many slots, is written and so many predictions are made.
@@ -28,15 +28,8 @@ pub enum Stepped {
     Expanded(usize, u16),
 }
 
-// Whether a rule's word takes a place of the sentence.
-pub fn fits(word: Word, place: u16) -> bool
-    ensures { λ b. ⌜ b ≡ wordFits (word .0) place ⌝ }
-{
-    word.0 == place
-}
-
-// A lexical step: the word must be the next one, and the empty word takes none.
-fn scan(word: Word, sentence: &[u16], read: usize) -> Stepped
+// A lexical step: the word must be the next one, which it is where it fits the next place, and the empty word takes none.
+fn scan(word: Word, sentence: &[u32], read: usize) -> Stepped
     ensures { λ s. ⌜ s ≡ scanAnswer (word .0) (now (sentence .entry)) read ⌝ }
 {
     if word.0 == EMPTY_WORD {
@@ -55,7 +48,7 @@ fn scan(word: Word, sentence: &[u16], read: usize) -> Stepped
 pub fn step(
     file: &[u8],
     t: &[u16; 8192],
-    sentence: &[u16],
+    sentence: &[u32],
     read: usize,
     q: &[u16; 384],
     from: usize,

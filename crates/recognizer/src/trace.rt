@@ -8,7 +8,6 @@ ghost use Rattle.model.specs.GrammarFile.{grammarRefusal, grammarOf};
 ghost use Rattle.rows.specs.Row.{stateOf, Held};
 ghost use Rattle.recognizer.specs.Traces.{Runs, RunSays, TraceSays};
 ghost use Rattle.rows.specs.Table.{Compiled};
-use crate::sentence::sentence_refusal;
 use crate::step::Stepped;
 use crate::step::step;
 use grammar::start;
@@ -20,13 +19,14 @@ use reader::grammar_refusal;
 use rows::row::first_row;
 use rows::row::owner;
 use rows::rules::compile;
+use sentences::sentence_refusal;
 
 // Steps k and after of the trace, from the row q[from..to], with so many words read. Answers the trace's verdict, and stores for each step the number of
 // the prediction that it takes.
 fn run(
     file: &[u8],
     t: &[u16; 8192],
-    sentence: &[u16],
+    sentence: &[u32],
     trace: &[u16],
     k: usize,
     read: usize,
@@ -105,7 +105,7 @@ fn run(
 }
 
 // A trace's verdict, for a grammar file and a sentence that are accepted, and for each step the number of the prediction that it takes.
-pub fn run_trace(file: &[u8], sentence: &[u16], trace: &[u16], taken: &mut [u16; 96]) -> Verdict
+pub fn run_trace(file: &[u8], sentence: &[u32], trace: &[u16], taken: &mut [u16; 96]) -> Verdict
     requires { ⌜ (grammarRefusal (now file) ≡ none) × (length (now sentence) ≤ 96) × (length (now taken) ≡ 96) ⌝ }
     ensures { λ v. ⌜ TraceSays (grammarOf (now (file .entry))) (now (sentence .entry)) (now (trace .entry)) (now (taken .exit)) v ⌝ }
 {
@@ -121,7 +121,7 @@ pub fn run_trace(file: &[u8], sentence: &[u16], trace: &[u16], taken: &mut [u16;
 }
 
 // The trace checker.
-pub fn check_trace(file: &[u8], sentence: &[u16], trace: &[u16]) -> Verdict
+pub fn check_trace(file: &[u8], sentence: &[u32], trace: &[u16]) -> Verdict
     ensures { λ v. ⌜ v ≡ checkTraceVerdict (now (file .entry)) (now (sentence .entry)) (now (trace .entry)) ⌝ }
 {
     let grammar = grammar_refusal(file);

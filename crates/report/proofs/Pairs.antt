@@ -6,10 +6,11 @@ use Prim.Native.Nat.{ℕ, suc, _+_, _*_, _<_, _≤_}
 use native.Mathlib.Omega.{arith}
 use lib.ListN.{length, getD, take, drop, set, length-drop}
 use lib.Seq.{drop-cons, take-suc-set, take-at, length-take-le, take-all}
+use Rattle.model.specs.Step.{single}
 use Rattle.model.specs.Program.{pairs, sentenceIn}
 
 -- the pair of bytes at place j, and those after it
-pairs-cons : (bytes : List ℕ) (j : ℕ) → suc j < length bytes → pairs (drop j bytes) ≡ (getD bytes j 0 + 256 * getD bytes (suc j) 0) ∷ pairs (drop (suc (suc j)) bytes)
+pairs-cons : (bytes : List ℕ) (j : ℕ) → suc j < length bytes → pairs (drop j bytes) ≡ single (getD bytes j 0 + 256 * getD bytes (suc j) 0) ∷ pairs (drop (suc (suc j)) bytes)
 pairs-cons bytes j h =
     ap pairs (drop-cons bytes j 0 (omega arith) ∙ ap (λ (l : List ℕ). getD bytes j 0 ∷ l) (drop-cons bytes (suc j) 0 h))
 
@@ -28,13 +29,13 @@ pub words-none : (bytes words : List ℕ) → length words ≡ 97 → WordsTo by
 words-none bytes words l = record { few = omega arith; room = l; so-far = refl }
 
 pub words-more : (bytes words : List ℕ) (k x : ℕ) → WordsTo bytes words k → k < 97 → 2 * k + 2 < length bytes
-    → x ≡ getD bytes (2 * k + 1) 0 + 256 * getD bytes (2 * k + 1 + 1) 0 → WordsTo bytes (set words k x) (k + 1)
+    → x ≡ single (getD bytes (2 * k + 1) 0 + 256 * getD bytes (2 * k + 1 + 1) 0) → WordsTo bytes (set words k x) (k + 1)
 words-more bytes words k x w h l e =
     let a : suc (2 * k + 1) ≡ 2 * k + 1 + 1 = omega arith in
     let b : suc (suc (2 * k + 1)) ≡ 2 * (k + 1) + 1 = omega arith in
     let s : suc k ≡ k + 1 = omega arith in
     let y : pairs (drop (2 * k + 1) bytes) ≡ x ∷ pairs (drop (2 * (k + 1) + 1) bytes)
-    = pairs-cons bytes (2 * k + 1) (omega arith) ∙ ap₂ (λ (u : ℕ) (v : List ℕ). u ∷ pairs v) (ap (λ (i : ℕ). getD bytes (2 * k + 1) 0 + 256 * getD bytes i 0) a ∙ sym e) (ap (λ (i : ℕ). drop i bytes) b) in
+    = pairs-cons bytes (2 * k + 1) (omega arith) ∙ ap₂ (λ (u : ℕ) (v : List ℕ). u ∷ pairs v) (ap (λ (i : ℕ). single (getD bytes (2 * k + 1) 0 + 256 * getD bytes i 0)) a ∙ sym e) (ap (λ (i : ℕ). drop i bytes) b) in
     let t : take (k + 1) (set words k x) ≡ take k words ++ (x ∷ []) = ap (λ (i : ℕ). take i (set words k x)) (sym s) ∙ take-suc-set words k x (omega (arith, w .room)) in
     record {
       few = omega arith;

@@ -16,9 +16,10 @@ use Rattle.model.specs.Base.{_orElse_, each}
 use Rattle.model.specs.Verdict.{refuseIf, countVerdict}
 use Rattle.model.specs.Grammar.{Grammar}
 use Rattle.model.specs.GrammarFile.{grammarRefusal, grammarOf, wrongLength, within, blocks}
-use Rattle.model.specs.Trace.{sentenceRefusal, firstUnknown}
+use Rattle.model.specs.Trace.{sentenceRefusal, placesRefusal}
 use Rattle.model.specs.Counting.{count, effort, listing, limitsRefusal, effortRefusal}
 use Rattle.model.specs.Calls.{countRefusal, countCall}
+use Rattle.model.specs.Step.{single}
 use Rattle.model.specs.Program.{line, pairs, sentenceIn, limitIn, programLimit, programRefusal, printed, program}
 use Rattle.model.proofs.Tests.{first-of, rest-of, no-refusal, stop, and-l, and-r, within-low}
 use Rattle.model.proofs.Verdicts.{sentence-short}
@@ -124,7 +125,7 @@ long-sentence : (file sentence : List ℕ) (n : ℕ) (even : Bool) → 96 < leng
     ≡ countVerdict (grammarRefusal file orElse refuseIf even (Refusal.Analysis 11 0) orElse (grammarRefusal file orElse limitsRefusal n programLimit orElse some (Refusal.Analysis 11 96) orElse none)) 0 0
 long-sentence file sentence n even h =
     let g = grammarOf file in
-    ap (λ (b : Bool). countVerdict (grammarRefusal file orElse refuseIf even (Refusal.Analysis 11 0) orElse (grammarRefusal file orElse limitsRefusal n programLimit orElse (refuseIf b (Refusal.Analysis 11 96) orElse firstUnknown (g .words) 0 sentence) orElse effortRefusal g sentence n programLimit)) (count g sentence n) (effort g sentence n)) (lt-ltb 96 (length sentence) h)
+    ap (λ (b : Bool). countVerdict (grammarRefusal file orElse refuseIf even (Refusal.Analysis 11 0) orElse (grammarRefusal file orElse limitsRefusal n programLimit orElse (refuseIf b (Refusal.Analysis 11 96) orElse placesRefusal (g .words) 0 sentence) orElse effortRefusal g sentence n programLimit)) (count g sentence n) (effort g sentence n)) (lt-ltb 96 (length sentence) h)
     ∙ no-matter (grammarRefusal file) (refuseIf even (Refusal.Analysis 11 0)) (grammarRefusal file) (limitsRefusal n programLimit) (Refusal.Analysis 11 96) (effortRefusal g sentence n programLimit) none (count g sentence n) 0 (effort g sentence n) 0
 
 -- 97 words of the sentence tell the verdict
@@ -205,7 +206,7 @@ pairs-take (suc m) l = ap (λ (k : ℕ). take (suc m) (pairs (take k l))) twice 
     by : (l : List ℕ) → ((x : List ℕ) → take m (pairs (take (m + m) x)) ≡ take m (pairs x)) → take (suc m) (pairs (take (suc (suc (m + m))) l)) ≡ take (suc m) (pairs l)
     by [] ih = refl
     by (a ∷ []) ih = ap (λ (x : List ℕ). take (suc m) (pairs (a ∷ x))) (take-nil (suc (m + m)))
-    by (a ∷ b ∷ l) ih = ap (λ (x : List ℕ). (a + 256 * b) ∷ x) (ih l)
+    by (a ∷ b ∷ l) ih = ap (λ (x : List ℕ). single (a + 256 * b) ∷ x) (ih l)
 
 -- 195 bytes of the sentence file have N and 97 words
 pub first-bytes : (s bytes : List ℕ) → bytes ≡ take 195 s → (limitIn bytes ≡ limitIn s) × (take 97 (sentenceIn bytes) ≡ take 97 (sentenceIn s))

@@ -5,6 +5,8 @@ ghost use lib.ListN.{length, take};
 ghost use Rattle.model.specs.Program.{limitIn, sentenceIn};
 use grammar::byte;
 use grammar::two_bytes;
+use model::Word;
+use sentences::single_word;
 
 // N, the file's first byte; 0 in an empty file.
 pub fn read_limit(bytes: &[u8]) -> u8
@@ -13,8 +15,8 @@ pub fn read_limit(bytes: &[u8]) -> u8
     byte(bytes, 0)
 }
 
-// Writes the sentence's words, or the first 97 of them, at the front of `words`, and answers how many they are.
-pub fn read_words(bytes: &[u8], words: &mut [u16; 97]) -> usize
+// Writes the sentence's words, each as a place that holds it alone, or the first 97 of them, at the front of `words`, and answers how many they are.
+pub fn read_words(bytes: &[u8], words: &mut [u32; 97]) -> usize
     requires { ⌜ length (now words) ≡ 97 ⌝ }
     ensures { λ k. ⌜ (k ≤ 97) × (length (now (words .exit)) ≡ 97) × (take k (now (words .exit)) ≡ take 97 (sentenceIn (now (bytes .entry)))) ⌝ }
 {
@@ -23,7 +25,7 @@ pub fn read_words(bytes: &[u8], words: &mut [u16; 97]) -> usize
         if bytes.len() <= 2 * k + 2 {
             return k;
         }
-        words[k] = two_bytes(bytes, 2 * k + 1);
+        words[k] = single_word(Word(two_bytes(bytes, 2 * k + 1)));
         k += 1;
     }
     k

@@ -11,7 +11,7 @@ use reader::grammar_refusal;
 pub const EFFORT_LIMIT: u64 = 1000000;
 
 // The refusal of the grammar, of a sentence file of even length, or of the count with the program's effort limit; else count and effort.
-pub fn program_verdict(file: &[u8], sentence: &[u16], n: u64, even: bool) -> CountVerdict
+pub fn program_verdict(file: &[u8], sentence: &[u32], n: u64, even: bool) -> CountVerdict
     ensures { λ v. ⌜ v ≡ verdictOf (now (file .entry)) (now (sentence .entry)) n even ⌝ }
 {
     let grammar = grammar_refusal(file);

@@ -9,12 +9,12 @@ use crate::chain::first_rule;
 use crate::chain::next_rule;
 use model::EMPTY_WORD;
 use model::RuleNumber;
-use recognizer::step::fits;
 use rows::row::category;
 use rows::row::expand;
 use rows::rules::daughters;
 use rows::rules::place_of;
 use rows::rules::word;
+use sentences::fits;
 
 // A complete trace that ends at a place: it is counted, and its end is kept if it is the entry asked for.
 fn complete(sheet: &mut [u64; 100], place: usize)
@@ -50,7 +50,7 @@ pub fn search(
     q: &[u16; 384],
     from: usize,
     to: usize,
-    s: &[u16],
+    s: &[u32],
     read: usize,
     pending: usize,
     made: u16,
@@ -106,7 +106,7 @@ fn stepped(
     q: &[u16; 384],
     from: usize,
     to: usize,
-    s: &[u16],
+    s: &[u32],
     read: usize,
     pending: usize,
     made: u16,
@@ -183,7 +183,7 @@ fn expanded(
     q: &[u16; 384],
     from: usize,
     to: usize,
-    s: &[u16],
+    s: &[u32],
     read: usize,
     pending: usize,
     made: u16,

@@ -82,7 +82,7 @@ fn write_tree(file: &[u8], trace: &[u16], steps: &[u16; 96], first: &[u16; 96], 
 }
 
 // A trace's verdict, for a grammar file and a sentence that are accepted and an output with room; of an accepted trace, the tree is written.
-fn converted(file: &[u8], sentence: &[u16], trace: &[u16], out: &mut [u16]) -> Verdict
+fn converted(file: &[u8], sentence: &[u32], trace: &[u16], out: &mut [u16]) -> Verdict
     requires { ⌜ (grammarRefusal (now file) ≡ none) × (length (now sentence) ≤ 96) × (96 ≤ length (now out)) ⌝ }
     ensures { λ v. ⌜ (v ≡ verdict (traceRefusal (grammarOf (now (file .entry))) (now (sentence .entry)) (now (trace .entry))) (length (now (trace .entry)))) × (now (out .exit) ≡ written (traceRefusal (grammarOf (now (file .entry))) (now (sentence .entry)) (now (trace .entry))) (treeOf (grammarOf (now (file .entry))) (now (sentence .entry)) (now (trace .entry))) (now (out .entry))) ⌝ }
 {
@@ -98,9 +98,9 @@ fn converted(file: &[u8], sentence: &[u16], trace: &[u16], out: &mut [u16]) -> V
     v
 }
 
-// Trace to tree: refusals 1 to 10, 23, 11, 12, the trace's own; else the node count, and the tree's list at the front of the output. One run of the
+// Trace to tree: refusals 1 to 10, 23, 11 and 29, 12, the trace's own; else the node count, and the tree's list at the front of the output. One run of the
 // trace, and a turn for each node.
-pub fn trace_to_tree(file: &[u8], sentence: &[u16], trace: &[u16], out: &mut [u16]) -> Verdict
+pub fn trace_to_tree(file: &[u8], sentence: &[u32], trace: &[u16], out: &mut [u16]) -> Verdict
     ensures { λ v. ⌜ (v ≡ traceToTreeVerdict (now (file .entry)) (now (sentence .entry)) (now (trace .entry)) (now (out .entry))) × (now (out .exit) ≡ traceToTreeOutput (now (file .entry)) (now (sentence .entry)) (now (trace .entry)) (now (out .entry))) ⌝ }
 {
     let tests = conversion_tests(file, sentence, out);

@@ -32,7 +32,7 @@ fn sum_weights(file: &[u8], list: &[u16]) -> u64
 }
 
 // The sum of weights along a trace, which is refused as the trace checker refuses it.
-pub fn weigh_trace(file: &[u8], sentence: &[u16], trace: &[u16]) -> Verdict
+pub fn weigh_trace(file: &[u8], sentence: &[u32], trace: &[u16]) -> Verdict
     ensures { λ v. ⌜ TraceWeighed (now (file .entry)) (now (sentence .entry)) (now (trace .entry)) v ⌝ }
 {
     let v = check_trace(file, sentence, trace);
@@ -43,7 +43,7 @@ pub fn weigh_trace(file: &[u8], sentence: &[u16], trace: &[u16]) -> Verdict
 }
 
 // The sum of weights along a tree, which is refused as the tree checker refuses it.
-pub fn weigh_tree(file: &[u8], sentence: &[u16], tree: &[u16]) -> Verdict
+pub fn weigh_tree(file: &[u8], sentence: &[u32], tree: &[u16]) -> Verdict
     ensures { λ v. ⌜ TreeWeighed (now (file .entry)) (now (sentence .entry)) (now (tree .entry)) v ⌝ }
 {
     let v = check_tree(file, sentence, tree);

@@ -1,5 +1,5 @@
 // Runs the calls on the grammar files of data/: the worked examples of document 01 (K3 to K10), sums of weights, and a damaged file for each refusal 1 to 10;
-// and those on dates. Each answer is on a line: its numbers, or R with the refusal's number and place.
+// words heard unclearly; and the calls on dates. Each answer is on a line: its numbers, or R with the refusal's number and place.
 mod conversions;
 mod counts;
 mod figures;
@@ -8,6 +8,8 @@ mod reading;
 mod show;
 mod sums;
 mod traces;
+mod unclear;
+mod words;
 mod writing;
 
 use crate::show::load;
@@ -42,6 +44,8 @@ fn main() {
     counts::run(copy, &pair_file[0..k]);
     title(b"sums of weights");
     sums::run(copy, weighted);
+    title(b"words heard unclearly");
+    unclear::run(copy, weighted);
     title(b"dates and opening days");
     opening_days::run();
 }

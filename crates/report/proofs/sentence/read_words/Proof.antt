@@ -1,6 +1,8 @@
 -- `report::sentence::read_words` meets its contract.
 -- Assumes nothing.
+use mathlib.Core.Path.{ap, _∙_}
 use Prim.Native.Nat.{_-_}
+use Rattle.model.specs.Step.{single}
 use Rattle.report.proofs.Pairs.{WordsTo, words-none, words-more, words-end, words-full}
 use borrow.Author.Needs.{needs}
 use Rattle.report.proofs.sentence.read_words.Statement.{statement}
@@ -39,6 +41,9 @@ add-two-bytes c = search needs
 two-bytes-requires : tie.Need-two-bytes-requires Inv-loop μ-loop
 two-bytes-requires c κs = search needs
 
+single-word-requires : tie.Need-single-word-requires Inv-loop μ-loop
+single-word-requires c κs = search needs
+
 mul-words : tie.Need-mul-words Inv-loop μ-loop
 mul-words c = search needs
 
@@ -53,9 +58,10 @@ loop-less c = search needs
 
 loop-again : tie.Need-loop-again Inv-loop μ-loop
 loop-again c =
-    let i = c .before .before .before .loop in
-    let a = c .before .before .before .before .before .args in
-    words-more (a .bytes .now) (i .words) (i .k) (c .two-bytes .result) (i .inv) (c .before .before .loop-test .taken) (c .before .if1 .left) (c .two-bytes .ensures)
+    let i = c .before .before .before .before .loop in
+    let a = c .before .before .before .before .before .before .args in
+    words-more (a .bytes .now) (i .words) (i .k) (c .single-word .result) (i .inv) (c .before .before .before .loop-test .taken) (c .before .before .if1 .left)
+    (c .single-word .ensures ∙ ap single (c .before .two-bytes .ensures))
 
 returns-2 : tie.Need-returns-2 Inv-loop μ-loop
 returns-2 c =
@@ -76,6 +82,7 @@ read-words-spec =
     mul-two-bytes
     add-two-bytes
     two-bytes-requires
+    single-word-requires
     mul-words
     element-write-words
     add-k

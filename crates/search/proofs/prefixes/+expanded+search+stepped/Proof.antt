@@ -37,7 +37,7 @@ use Rattle.rows.proofs.row.expand.Reads as expand-reads
 use Rattle.rows.proofs.rules.daughters.Reads as daughters-reads
 use Rattle.rows.proofs.rules.place_of.Reads as place-of-reads
 use Rattle.rows.proofs.rules.word.Reads as word-reads
-use Rattle.recognizer.proofs.step.fits.Reads as fits-reads
+use Rattle.sentences.proofs.fits.Reads as fits-reads
 use Rattle.search.proofs.prefixes.+expanded+search+stepped.{statement}
 use Rattle.search.proofs.prefixes.+expanded+search+stepped.Tie.{close}
 

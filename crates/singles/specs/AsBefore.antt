@@ -1,0 +1,42 @@
+-- "A sentence of single words has the answers it had before, and the program's file keeps single words" (document 02, paper 5): of every call that is given a
+-- sentence, verdict and output, refused or not, and of what the program prints. Proved in proofs/Answers.antt.
+-- Assumes nothing.
+use mathlib.Core.Path.{_≡_}
+use Prim.Native.Nat.{ℕ, _<_}
+use mathlib.Core.List.{List}
+use lib.ListN.{getD}
+use Rattle.model.specs.Step.{singles}
+use Rattle.model.specs.Calls.{checkTraceVerdict, checkTreeVerdict, traceToTreeVerdict, traceToTreeOutput, treeToTraceVerdict, treeToTraceOutput, countCall, entryVerdict, entryOutput}
+use Rattle.model.specs.Program.{program}
+use Rattle.weights.specs.Weights.{weighTraceVerdict, weighTreeVerdict}
+use Rattle.singles.specs.OldSentences as before
+
+-- every number of the list is below n
+abbrev pub Below : ℕ → List ℕ → Type 0
+Below n list = (k : ℕ) → getD list k 0 < n
+
+-- words are lent as numbers of 16 bits
+abbrev pub Words : List ℕ → Type 0
+Words ws = Below 65536 ws
+
+-- what is claimed for every grammar file, accepted or not, and every list of words, of any length, known to the grammar or not
+pub record AsBefore (file ws : List ℕ) : Type 0 where
+  pub checks-trace : (trace : List ℕ) → checkTraceVerdict file (singles ws) trace ≡ before.checkTraceVerdict file ws trace
+  pub checks-tree : (tree : List ℕ) → checkTreeVerdict file (singles ws) tree ≡ before.checkTreeVerdict file ws tree
+  pub weighs-trace : (trace : List ℕ) → weighTraceVerdict file (singles ws) trace ≡ before.weighTraceVerdict file ws trace
+  pub weighs-tree : (tree : List ℕ) → weighTreeVerdict file (singles ws) tree ≡ before.weighTreeVerdict file ws tree
+  pub to-tree : (trace out : List ℕ)
+      → (traceToTreeVerdict file (singles ws) trace out ≡ before.traceToTreeVerdict file ws trace out)
+      × (traceToTreeOutput file (singles ws) trace out ≡ before.traceToTreeOutput file ws trace out)
+  pub to-trace : (tree out : List ℕ)
+      → (treeToTraceVerdict file (singles ws) tree out ≡ before.treeToTraceVerdict file ws tree out)
+      × (treeToTraceOutput file (singles ws) tree out ≡ before.treeToTraceOutput file ws tree out)
+  pub counts : (n limit : ℕ) → countCall file (singles ws) n limit ≡ before.countCall file ws n limit
+  pub enters : (n limit m : ℕ) (out : List ℕ)
+      → (entryVerdict file (singles ws) n limit m out ≡ before.entryVerdict file ws n limit m out)
+      × (entryOutput file (singles ws) n limit m out ≡ before.entryOutput file ws n limit m out)
+
+pub record SingleWords : Type 0 where
+  pub calls : (file ws : List ℕ) → Words ws → AsBefore file ws
+  -- for all bytes of the two files
+  pub prints : (file sentenceFile : List ℕ) → Below 256 sentenceFile → program file sentenceFile ≡ before.program file sentenceFile
