@@ -1,22 +1,57 @@
--- A place as one number; refusals 11 and 29, place by place.
+-- Whether a word takes a place; refusals 11 and 29, place by place; a place as one number.
 -- Assumes nothing.
 use mathlib.Core.Path.{_≡_, ap}
+use mathlib.Core.Bool.{Bool, true, false, not}
 use mathlib.Core.Option.{Option, none, some}
 use mathlib.Core.List.{List}
 use Prim.Native.Nat.{ℕ, suc, _+_, _<_, _≤_}
 use native.Mathlib.Numerals.{add-one}
 use native.Mathlib.Omega.{arith}
-use borrow.Author.Tests.{lt-ltb, le-ltb}
+use native.Mathlib.Decide.{decLe}
+use borrow.Author.Tests.{lt-ltb, le-ltb, le-leb, lt-leb}
+use lib.Dec.{ltb, leb}
 use lib.ListN.{length, getD, drop, drop-of-length-le}
 use lib.Seq.{drop-cons}
 use Rattle.model.specs.declared.Refusal.{Refusal}
 use Rattle.model.specs.Base.{_orElse_}
 use Rattle.model.specs.Grammar.{Grammar}
-use Rattle.model.specs.Trace.{placeRefusal, placesRefusal, sentenceRefusal}
+use Rattle.model.specs.Step.{lowest, highest, wordFits}
+use Rattle.model.specs.Trace.{endNoWord, lowestAbove, placeRefusal, placesRefusal, sentenceRefusal}
 use Rattle.sentences.specs.Places.{OneNumber}
 
 pub one-number : OneNumber
 one-number = record { ends = λ low high h. (omega arith, omega arith); number = λ place. omega arith }
+
+not-below : (a b : ℕ) → not (ltb b a) ≡ leb a b
+not-below a b = go (decLe a b)
+  where
+    go : Dec (a ≤ b) → not (ltb b a) ≡ leb a b
+    go (yes h) = rw (le-ltb b a h, le-leb a b h)
+    go (no h) = rw (lt-ltb b a (omega arith), lt-leb a b (omega arith))
+
+module _ (w place : ℕ) where
+  pub too-low : w < lowest place → wordFits w place ≡ false
+  too-low h = rw (lt-leb (lowest place) w h)
+
+  pub high-enough : lowest place ≤ w → wordFits w place ≡ leb w (highest place)
+  high-enough h = rw (le-leb (lowest place) w h)
+
+module _ (words place : ℕ) where
+  pub lowest-unknown : words ≤ lowest place → endNoWord words place ≡ true
+  lowest-unknown h = rw (le-ltb (lowest place) words h)
+
+  pub lowest-known : lowest place < words → endNoWord words place ≡ leb words (highest place)
+  lowest-known h = rw (lt-ltb (lowest place) words h) (not-below words (highest place))
+
+module _ (words k place : ℕ) where
+  pub unknown : endNoWord words place ≡ true → placeRefusal words k place ≡ some (Refusal.Analysis 11 k)
+  unknown e = rw e
+
+  pub above : endNoWord words place ≡ false → lowestAbove place ≡ true → placeRefusal words k place ≡ some (Refusal.Analysis 29 k)
+  above e f = rw (e, f)
+
+  pub passes : endNoWord words place ≡ false → lowestAbove place ≡ false → placeRefusal words k place ≡ none
+  passes e f = rw (e, f)
 
 module _ (g : Grammar) (sentence : List ℕ) where
   pub too-many : 96 < length sentence → sentenceRefusal g sentence ≡ some (Refusal.Analysis 11 96)
@@ -26,11 +61,11 @@ module _ (g : Grammar) (sentence : List ℕ) where
   not-too-many h = rw (le-ltb 96 (length sentence) h)
 
 module _ (words k : ℕ) (sentence : List ℕ) where
-  pub place-wrong : k < length sentence → (x : Refusal) → placeRefusal words k (getD sentence k 0) ≡ some x → placesRefusal words k (drop k sentence) ≡ some x
-  place-wrong h x e = rw (drop-cons sentence k 0 h) (ap (λ (o : Option Refusal). o orElse placesRefusal words (suc k) (drop (suc k) sentence)) e)
+  pub place-met : k < length sentence → (x : Refusal) → placeRefusal words k (getD sentence k 0) ≡ some x → placesRefusal words k (drop k sentence) ≡ some x
+  place-met h x e = rw (drop-cons sentence k 0 h) (ap (λ (o : Option Refusal). o orElse placesRefusal words (suc k) (drop (suc k) sentence)) e)
 
-  pub place-right : k < length sentence → placeRefusal words k (getD sentence k 0) ≡ none → placesRefusal words k (drop k sentence) ≡ placesRefusal words (k + 1) (drop (k + 1) sentence)
-  place-right h e = rw (add-one, drop-cons sentence k 0 h) (ap (λ (o : Option Refusal). o orElse placesRefusal words (suc k) (drop (suc k) sentence)) e)
+  pub place-passed : k < length sentence → placeRefusal words k (getD sentence k 0) ≡ none → placesRefusal words k (drop k sentence) ≡ placesRefusal words (k + 1) (drop (k + 1) sentence)
+  place-passed h e = rw (add-one, drop-cons sentence k 0 h) (ap (λ (o : Option Refusal). o orElse placesRefusal words (suc k) (drop (suc k) sentence)) e)
 
-  pub words-end : length sentence ≤ k → placesRefusal words k (drop k sentence) ≡ none
-  words-end h = rw (drop-of-length-le sentence {i = k} h)
+  pub places-end : length sentence ≤ k → placesRefusal words k (drop k sentence) ≡ none
+  places-end h = rw (drop-of-length-le sentence {i = k} h)
