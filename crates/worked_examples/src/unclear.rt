@@ -32,7 +32,7 @@ fn analyses_that_fit(file: &[u8], weighted: &[u8]) {
     );
 }
 
-// Four words of which nothing is clear: the four sentences that the grammar has among them, an analysis each. With two places too few there is none.
+// Four words of which nothing is clear: the four sentences that the grammar has among them, an analysis each. Of three words there is none.
 fn counts_of_all(file: &[u8]) {
     let either = place_with(Word(0), Word(1));
     let heard = [either, either, either, either];
