@@ -48,20 +48,24 @@ pub fn single_word(word: Word) -> u32
 pub fn fits(word: Word, place: u32) -> bool
     ensures { λ b. ⌜ b ≡ wordFits (word .0) place ⌝ }
 {
-    if word.0 < lowest_of(place).0 {
+    let low = lowest_of(place).0;
+    let high = highest_of(place).0;
+    if word.0 < low {
         return false;
     }
-    word.0 <= highest_of(place).0
+    word.0 <= high
 }
 
 // Whether an end of a place is no word of a grammar with so many words.
 fn end_no_word(words: u16, place: u32) -> bool
     ensures { λ b. ⌜ b ≡ endNoWord words place ⌝ }
 {
-    if words <= lowest_of(place).0 {
+    let low = lowest_of(place).0;
+    let high = highest_of(place).0;
+    if words <= low {
         return true;
     }
-    words <= highest_of(place).0
+    words <= high
 }
 
 // Whether the lowest word of a place is above its highest.

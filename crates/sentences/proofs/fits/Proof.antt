@@ -1,7 +1,6 @@
 -- `sentences::fits` meets its contract.
 -- Assumes nothing.
 use mathlib.Core.Path.{sym, ap, _∙_}
-use Prim.Native.Nat.{ℕ}
 use native.Mathlib.Omega.{arith}
 use lib.Dec.{leb}
 use borrow.Author.Needs.{needs}
@@ -12,20 +11,21 @@ use Rattle.sentences.proofs.fits.Tie as tie
 lowest-of-requires : tie.Need-lowest-of-requires
 lowest-of-requires c κs = search needs
 
-returns : tie.Need-returns
-returns c =
-    let a = c .before .before .before .before .args in
-    sym (too-low (a .word .0) (a .place) (omega (arith, c .before .before .before .lowest-of .ensures, c .if1 .taken)))
-
 highest-of-requires : tie.Need-highest-of-requires
 highest-of-requires c κs = search needs
 
+returns : tie.Need-returns
+returns c =
+    let l = c .before .before .before in
+    let a = l .before .args in
+    sym (too-low (a .word .0) (a .place) (omega (arith, l .lowest-of .ensures, c .if1 .taken)))
+
 returns-2 : tie.Need-returns-2
 returns-2 c =
-    let l = c .before .before .before .before .before .before in
+    let l = c .before .before .before .before in
     let a = l .before .args in
-    ap (leb (a .word .0)) (c .before .before .highest-of .ensures)
-    ∙ sym (high-enough (a .word .0) (a .place) (omega (arith, l .lowest-of .ensures, c .before .before .before .if1 .left)))
+    ap (leb (a .word .0)) (c .before .before .before .highest-of .ensures)
+    ∙ sym (high-enough (a .word .0) (a .place) (omega (arith, l .lowest-of .ensures, c .before .if1 .left)))
 
 pub fits-spec : {M : Type 1} → statement M
-fits-spec = tie.close (tie.spec lowest-of-requires returns highest-of-requires returns-2)
+fits-spec = tie.close (tie.spec lowest-of-requires highest-of-requires returns returns-2)
