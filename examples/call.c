@@ -24,7 +24,7 @@ static size_t load(const char *dir, const char *name, uint8_t *bytes, size_t mos
     return read;
 }
 
-/* The word at the front of the text, which is moved past it; 65,535, which is no word, where there is none or it is larger. */
+/* The word at the front of the text, which is moved past it; 65,535, which is no word, where there is none or the number is larger. */
 static uint16_t word(char **text)
 {
     char *from = *text;

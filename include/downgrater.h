@@ -25,7 +25,7 @@ extern "C" {
 #endif
 
 /* A sentence is a list of places, as many as `words` says, each a number of 32 bits: the lowest word that may stand there in the lower 16 bits and the highest in
- * the upper 16, both included. Where a word is heard clearly the two are the same (dg_word, at the end of this file). */
+ * the upper 16, both included. Where a word is heard clearly the two are the same (dg_word, below). */
 
 /* The reader; its value is the number of rules. */
 uint64_t dg_read_grammar(const uint8_t *file, size_t file_len);

@@ -4,13 +4,13 @@ use mathlib.Core.Path.{_≡_, refl, ap}
 use mathlib.Core.List.{List, [], _∷_, _++_}
 use Prim.Native.Nat.{ℕ, zero, suc, _<_, _≤_}
 use native.Mathlib.Omega.{arith}
-use borrow.Author.Tests.{leb-true, le-leb}
-use lib.Dec.{T, leb}
+use borrow.Author.Tests.{le-leb}
+use lib.Dec.{T}
 use lib.ListN.{length, getD}
 use Rattle.model.specs.Step.{lowest, highest, wordFits}
 use Rattle.model.specs.Tree.{stringFits, Within}
 use Rattle.model.specs.Demands.{_⇔_}
-use Rattle.model.proofs.Tests.{and-l, and-r, and-both, passes}
+use Rattle.model.proofs.Tests.{and-l, and-r, and-both, within-low}
 
 -- the joined yields of two parts fit what the parts fit
 pub fits-append : (a b c d : List ℕ) → T (stringFits a c) → T (stringFits b d) → T (stringFits (a ++ b) (c ++ d))
@@ -42,18 +42,12 @@ fits-part (x ∷ a) b (y ∷ ws) t =
       second = p .second;
     }
 
--- the empty string fits no place at all
+-- the empty string fits the empty sentence alone
 pub fits-none : (ws : List ℕ) → T (stringFits [] ws) → ws ≡ []
 fits-none [] t = refl
 fits-none (y ∷ ws) t = absurd t
 
--- a word fits a place just if it lies between its ends
-word-between : (w p : ℕ) → T (wordFits w p) → (lowest p ≤ w) × (w ≤ highest p)
-word-between w p t = (
-  leb-true (lowest p) w (passes (leb (lowest p) w) (and-l (leb (lowest p) w) (leb w (highest p)) t)),
-  leb-true w (highest p) (passes (leb w (highest p)) (and-r (leb (lowest p) w) (leb w (highest p)) t)),
-)
-
+-- a word that lies between the ends of a place fits it
 between-word : (w p : ℕ) → lowest p ≤ w → w ≤ highest p → T (wordFits w p)
 between-word w p l h = rw (le-leb (lowest p) w l, le-leb w (highest p) h) tt
 
@@ -64,7 +58,7 @@ fits-within (w ∷ ws) [] t = absurd t
 fits-within (w ∷ ws) (p ∷ ps) t = go (fits-within ws ps (and-r (wordFits w p) (stringFits ws ps) t))
   where
     place : Within ws ps → (k : ℕ) → k < length (p ∷ ps) → (lowest (getD (p ∷ ps) k 0) ≤ getD (w ∷ ws) k 0) × (getD (w ∷ ws) k 0 ≤ highest (getD (p ∷ ps) k 0))
-    place h zero l = word-between w p (and-l (wordFits w p) (stringFits ws ps) t)
+    place h zero l = within-low (lowest p) (highest p) w (and-l (wordFits w p) (stringFits ws ps) t)
     place h (suc k) l = h .between k (omega arith)
 
     go : Within ws ps → Within (w ∷ ws) (p ∷ ps)

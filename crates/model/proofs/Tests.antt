@@ -8,7 +8,8 @@ use mathlib.Core.List.{List, [], _∷_, _++_}
 use Prim.Native.Nat.{ℕ, zero, suc, _+_, _-_, _<_, _≤_}
 use native.Mathlib.Omega.{arith}
 use native.Mathlib.Decide.{ℕ-discrete}
-use lib.Dec.{T, leb, eqb, leb→le, eqb→eq, eqb-refl}
+use borrow.Author.Tests.{ltb-true, ltb-false, leb-true, leb-false, lt-ltb, le-ltb, le-leb, lt-leb}
+use lib.Dec.{T, ltb, leb, eqb, leb→le, eqb→eq, eqb-refl}
 use lib.ListN.{length, getD}
 use Rattle.model.specs.declared.Refusal.{Refusal}
 use Rattle.model.specs.Verdict.{refuseIf}
@@ -110,6 +111,21 @@ every-getD test (x ∷ l) t (suc k) h = every-getD test l (and-r (test x) (every
 
 pub within-low : (a b x : ℕ) → T (within a b x) → (a ≤ x) × (x ≤ b)
 within-low a b x t = (leb→le a x (and-l (leb a x) (leb x b) t), leb→le x b (and-r (leb a x) (leb x b) t))
+
+-- a number that is not at most b is above b, and one that is not below a is at least a
+pub not-leb : (a b : ℕ) → not (leb a b) ≡ ltb b a
+not-leb a b = go (leb a b) refl
+  where
+    go : (t : Bool) → leb a b ≡ t → not t ≡ ltb b a
+    go true e = sym (le-ltb b a (leb-true a b e))
+    go false e = sym (lt-ltb b a (leb-false a b e))
+
+pub not-ltb : (a b : ℕ) → not (ltb b a) ≡ leb a b
+not-ltb a b = go (ltb b a) refl
+  where
+    go : (t : Bool) → ltb b a ≡ t → not t ≡ leb a b
+    go true e = sym (lt-leb a b (ltb-true b a e))
+    go false e = sym (le-leb a b (ltb-false b a e))
 
 pub and-both : (a b : Bool) → T a → T b → T (a && b)
 and-both true b t u = u

@@ -165,7 +165,8 @@ wideComponent =
     ∷ []
 
 -- words heard unclearly (document 02, paper 5), with the copy grammar, whose words are 0 and 1: K3 and the tree of K4 where the second word is 0 or 1, and where it
--- is 0; four words of which nothing is clear; either end that is no word, lowest above highest, and their order
+-- is 0; four words of which nothing is clear; either end that is no word, lowest above highest, over 96 places, and
+-- their order
 abbrev pub unclearWords : List Claim
 unclearWords =
     verdictAnswer (checkTraceVerdict copyFile (single 0 ∷ range 0 1 ∷ single 0 ∷ single 1 ∷ []) (0 ∷ 1 ∷ 5 ∷ 4 ∷ 6 ∷ 5 ∷ 6 ∷ [])) is values (7 ∷ [])
@@ -175,6 +176,7 @@ unclearWords =
     ∷ verdictAnswer (checkTraceVerdict copyFile (single 0 ∷ range 1 2 ∷ []) (0 ∷ 3 ∷ 5 ∷ 5 ∷ [])) is refusal analysisAuthor 11 1
     ∷ verdictAnswer (checkTraceVerdict copyFile (single 0 ∷ range 2 1 ∷ []) (0 ∷ 3 ∷ 5 ∷ 5 ∷ [])) is refusal analysisAuthor 11 1
     ∷ verdictAnswer (checkTraceVerdict copyFile (range 1 0 ∷ single 2 ∷ []) (0 ∷ 3 ∷ 5 ∷ 5 ∷ [])) is refusal analysisAuthor 29 0
+    ∷ verdictAnswer (checkTraceVerdict copyFile (range 1 0 ∷ zeros 96) (0 ∷ 3 ∷ 5 ∷ 5 ∷ [])) is refusal analysisAuthor 11 96
     ∷ []
 
 abbrev pub examples : List (List Claim)
@@ -220,7 +222,7 @@ wideComponent-hold : AllHold wideComponent
 wideComponent-hold = (refl, tt)
 
 unclearWords-hold : AllHold unclearWords
-unclearWords-hold = (refl, (refl, (refl, (refl, (refl, (refl, (refl, tt)))))))
+unclearWords-hold = (refl, (refl, (refl, (refl, (refl, (refl, (refl, (refl, tt))))))))
 
 -- one theorem for the list
 pub examples-hold : AllHoldIn examples

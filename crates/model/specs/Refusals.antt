@@ -1,4 +1,4 @@
--- The tests of every call of document 01, one for each number and place at which it can refuse, in document 01's order ("Who can cause a refusal"). Demand 1
+-- The tests of every call of document 01, one for each number and place at which it can refuse, in document 01's order ("Who can cause a refusal"), with 29 of document 02, paper 5. Demand 1
 -- (specs/Demands.antt) says that the first of them that meets a call is its answer. The calls for the sum of weights have the tests of the checkers,
 -- and those on dates have theirs in the crate `dates`.
 -- Assumes nothing.
@@ -135,7 +135,7 @@ module _ (g : Grammar) where
       ∷ ofAnalysis 20 k (otherCategory (ruleAt g r) c)
       ∷ nodesTests (suc k) (daughtersBy (ruleAt g r) ++ wanted) rs
 
-  -- 12, node by node, then "22 yield is not the sentence"
+  -- 12, node by node, then "22 yield is not the sentence", where by paper 5 a fitting yield stands for an equal one
   abbrev pub treeTests : List ℕ → List ℕ → List Test
   treeTests sentence list =
       (ofAnalysis 12 0 (ltb 96 (length list)) ∷ [])

@@ -79,7 +79,7 @@ stringFits (x ∷ xs) (y ∷ ys) = wordFits x y && stringFits xs ys
 abbrev pub spells : Grammar → List ℕ → Tree → Bool
 spells g sentence t = stringFits (getD (yield g t) 0 []) sentence
 
--- what that says of two lists, stated without going through them
+-- what `stringFits` says of two lists, stated without going through them
 pub record Within (words sentence : List ℕ) : Type 0 where
   pub as-long : length words ≡ length sentence
   pub between : (k : ℕ) → k < length sentence → (lowest (getD sentence k 0) ≤ getD words k 0) × (getD words k 0 ≤ highest (getD sentence k 0))

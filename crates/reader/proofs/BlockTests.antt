@@ -1,28 +1,20 @@
 -- The numbers that stand in a block, refusals 1 and 3 one by one, how many records a full block holds, and the answer of a test of all blocks.
 -- Assumes nothing.
-use mathlib.Core.Path.{_≡_, refl, sym, ap, _∙_}
+use mathlib.Core.Path.{_≡_, ap, _∙_}
 use mathlib.Core.Bool.{Bool, true, false, _&&_, not}
 use mathlib.Core.List.{List}
 use Prim.Native.Nat.{ℕ, _+_, _*_, _/_, _%_, _<_, _≤_}
 use native.Mathlib.Omega.{arith}
-use borrow.Author.Tests.{eq-eqb, ne-eqb, lt-leb, le-leb, lt-ltb, le-ltb, leb-true, leb-false}
-use lib.Dec.{eqb, leb, ltb}
+use borrow.Author.Tests.{eq-eqb, ne-eqb, lt-leb, le-leb, lt-ltb}
+use lib.Dec.{eqb, ltb}
 use lib.ListN.{length, getD}
 use Rattle.model.specs.Base.{if_then_else_}
-use Rattle.model.proofs.Tests.{not-off, and-r, within-low}
+use Rattle.model.proofs.Tests.{not-off, and-r, within-low, not-leb}
 use Rattle.model.specs.declared.Tested.{Tested}
 use Rattle.model.specs.Verdict.{tested}
 use Rattle.model.specs.GrammarFile.{within, blocks, byteOf, twoBytes, fourBytes, recordsIn, wrongLength, wrongBlock}
 use Rattle.reader.specs.declared.blocks.BlockTest.{BlockTest}
 use Rattle.reader.specs.Reading.{blocksRefusal}
-
--- a number that is not at most b is above b
-not-leb : (a b : ℕ) → not (leb a b) ≡ ltb b a
-not-leb a b = go (leb a b) refl
-  where
-    go : (t : Bool) → leb a b ≡ t → not t ≡ ltb b a
-    go true e = sym (le-ltb b a (leb-true a b e))
-    go false e = sym (lt-ltb b a (leb-false a b e))
 
 -- the number of 2 bytes, and of 4, at byte i of block k
 module _ (file : List ℕ) (k : ℕ) where

@@ -15,7 +15,7 @@ pub fn read_limit(bytes: &[u8]) -> u8
     byte(bytes, 0)
 }
 
-// Writes the sentence's words, each as a place that holds it alone, or the first 97 of them, at the front of `words`, and answers how many they are.
+// Writes the sentence's words, or the first 97 of them, at the front of `words`, each as a place that holds it alone, and answers how many they are.
 pub fn read_words(bytes: &[u8], words: &mut [u32; 97]) -> usize
     requires { ⌜ length (now words) ≡ 97 ⌝ }
     ensures { λ k. ⌜ (k ≤ 97) × (length (now (words .exit)) ≡ 97) × (take k (now (words .exit)) ≡ take 97 (sentenceIn (now (bytes .entry)))) ⌝ }

@@ -1,15 +1,14 @@
 -- Whether a word takes a place; refusals 11 and 29, place by place; a place as one number.
 -- Assumes nothing.
 use mathlib.Core.Path.{_≡_, ap}
-use mathlib.Core.Bool.{true, false, not}
+use mathlib.Core.Bool.{true, false}
 use mathlib.Core.Option.{Option, none, some}
 use mathlib.Core.List.{List}
 use Prim.Native.Nat.{ℕ, suc, _+_, _<_, _≤_}
 use native.Mathlib.Numerals.{add-one}
 use native.Mathlib.Omega.{arith}
-use native.Mathlib.Decide.{decLe}
 use borrow.Author.Tests.{lt-ltb, le-ltb, le-leb, lt-leb}
-use lib.Dec.{ltb, leb}
+use lib.Dec.{leb}
 use lib.ListN.{length, getD, drop, drop-of-length-le}
 use lib.Seq.{drop-cons}
 use Rattle.model.specs.declared.Refusal.{Refusal}
@@ -17,17 +16,11 @@ use Rattle.model.specs.Base.{_orElse_}
 use Rattle.model.specs.Grammar.{Grammar}
 use Rattle.model.specs.Step.{lowest, highest, wordFits}
 use Rattle.model.specs.Trace.{endNoWord, lowestAbove, placeRefusal, placesRefusal, sentenceRefusal}
+use Rattle.model.proofs.Tests.{not-ltb}
 use Rattle.sentences.specs.Places.{OneNumber}
 
 pub one-number : OneNumber
 one-number = record { ends = λ low high h. (omega arith, omega arith); number = λ place. omega arith }
-
-not-below : (a b : ℕ) → not (ltb b a) ≡ leb a b
-not-below a b = go (decLe a b)
-  where
-    go : Dec (a ≤ b) → not (ltb b a) ≡ leb a b
-    go (yes h) = rw (le-ltb b a h, le-leb a b h)
-    go (no h) = rw (lt-ltb b a (omega arith), lt-leb a b (omega arith))
 
 module _ (w place : ℕ) where
   pub too-low : w < lowest place → wordFits w place ≡ false
@@ -41,7 +34,7 @@ module _ (words place : ℕ) where
   lowest-unknown h = rw (le-ltb (lowest place) words h)
 
   pub lowest-known : lowest place < words → endNoWord words place ≡ leb words (highest place)
-  lowest-known h = rw (lt-ltb (lowest place) words h) (not-below words (highest place))
+  lowest-known h = rw (lt-ltb (lowest place) words h) (not-ltb words (highest place))
 
 module _ (words k place : ℕ) where
   pub unknown : endNoWord words place ≡ true → placeRefusal words k place ≡ some (Refusal.Analysis 11 k)

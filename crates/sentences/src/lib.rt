@@ -11,7 +11,7 @@ use model::Tested;
 use model::Word;
 
 // The most places of a sentence.
-const MOST_PLACES: usize = 96;
+const MOST_PLACES: u16 = 96;
 
 // A place is its lowest word and this many times its highest: the highest stands in the upper 16 bits.
 const UPPER: u32 = 65536;
@@ -94,8 +94,8 @@ fn place_refusal(words: u16, k: u16, place: u32) -> Tested
 pub fn sentence_refusal(file: &[u8], sentence: &[u32]) -> Tested
     ensures { λ t. ⌜ t ≡ tested (sentenceRefusal (grammarOf (now (file .entry))) (now (sentence .entry))) ⌝ }
 {
-    if MOST_PLACES < sentence.len() {
-        return Tested::Met(Refusal::Analysis(11, 96));
+    if (MOST_PLACES as usize) < sentence.len() {
+        return Tested::Met(Refusal::Analysis(11, MOST_PLACES));
     }
     let w = words(file);
     let mut k: usize = 0;

@@ -10,7 +10,7 @@ use lib.Dec.{ltb, leb, eqb}
 use lib.ListN.{length, getD, drop}
 use lib.Seq.{getD-drop}
 use Rattle.model.specs.declared.Refusal.{Refusal}
-use Rattle.model.specs.Base.{if_then_else_, _orElse_, keep}
+use Rattle.model.specs.Base.{_orElse_, keep}
 use Rattle.model.specs.Verdict.{refuseIf, verdict, countVerdict}
 use Rattle.model.specs.Grammar.{Grammar}
 use Rattle.model.specs.GrammarFile.{grammarRefusal, grammarOf}
@@ -23,13 +23,10 @@ use Rattle.model.specs.Calls.{written, roomRefusal}
 use Rattle.weights.specs.Weights.{weightSum}
 use Rattle.model.specs.Program.{limitIn, programLimit, printed, pairs, program}
 use Rattle.singles.specs.OldSentences.{sentenceRefusal as oldSentence, traceRefusal as oldTraceRefusal, treeRefusal as oldTreeRefusal, treeOf as oldTreeOf, traceOf as oldTraceOf, live as oldLive, complete as oldComplete, listing as oldListing, pairs as oldPairs, program as oldProgram}
-use Rattle.singles.specs.AsBefore.{Below, Words, AsBefore, SingleWords}
+use Rattle.model.proofs.Search.{keep-same}
+use Rattle.singles.specs.AsBefore.{Below, Words, PartsAsBefore, AsBefore, SingleWords}
 use Rattle.singles.proofs.Sentences.{sentence-same, string-same}
 use Rattle.singles.proofs.Steps.{steps-same, trace-same, placed-same, live-same, ended-same}
-
-keep-same : {A : Type 0} (f g : A → Bool) → ((x : A) → f x ≡ g x) → (l : List A) → keep f l ≡ keep g l
-keep-same f g e [] = refl
-keep-same {A} f g e (x ∷ l) = ap₂ (λ (b : Bool) (m : List A). if b then x ∷ m else m) (e x) (keep-same f g e l)
 
 -- the ways in which a call looks at a sentence, beside 11
 module _ (g : Grammar) (ws : List ℕ) (h : Words ws) where
@@ -49,14 +46,26 @@ module _ (g : Grammar) (ws : List ℕ) (h : Words ws) where
   trace-made : (list : List ℕ) → traceOf g (singles ws) list ≡ oldTraceOf g ws list
   trace-made list = trace-same g (length list) (begin subtree g (treeOfList g list) ws) h
 
-  pub live-as-before : (n : ℕ) → live g (singles ws) n ≡ oldLive g ws n
+  live-as-before : (n : ℕ) → live g (singles ws) n ≡ oldLive g ws n
   live-as-before zero = refl
   live-as-before (suc n) = live-same g (suc n) (begin noNode g tt ws) h
 
-  pub listing-as-before : (n : ℕ) → listing g (singles ws) n ≡ oldListing g ws n
+  listing-as-before : (n : ℕ) → listing g (singles ws) n ≡ oldListing g ws n
   listing-as-before n =
-      keep-same (complete g (singles ws)) (oldComplete g ws) (λ p. ended-same g (begin noNode g tt ws) p h) (live g (singles ws) n)
+      keep-same (complete g (singles ws)) (oldComplete g ws) (live g (singles ws) n) (λ p. ended-same g (begin noNode g tt ws) p h)
       ∙ ap (keep (oldComplete g ws)) (live-as-before n)
+
+  parts-as-before : PartsAsBefore g ws
+  parts-as-before =
+      record {
+        refused = sentence-same g ws h;
+        trace-refused = trace-refused;
+        tree-refused = tree-refused;
+        tree-made = tree-made;
+        trace-made = trace-made;
+        live-prefixes = live-as-before;
+        listed = listing-as-before;
+      }
 
 module _ (file ws : List ℕ) (h : Words ws) where
   abbrev g : Grammar
@@ -135,4 +144,4 @@ prints-as-before file sentenceFile h =
     ((length l ∷ length (oldLive g ws n) ∷ []) ∷ l)) (listing-as-before g ws words n)
 
 pub single-words : SingleWords
-single-words = record { calls = as-before; prints = prints-as-before }
+single-words = record { parts = parts-as-before; calls = as-before; prints = prints-as-before }

@@ -5,7 +5,12 @@ use mathlib.Core.Path.{_≡_}
 use Prim.Native.Nat.{ℕ, _<_}
 use mathlib.Core.List.{List}
 use lib.ListN.{getD}
+use Rattle.model.specs.Grammar.{Grammar}
 use Rattle.model.specs.Step.{singles}
+use Rattle.model.specs.Trace.{sentenceRefusal, traceRefusal}
+use Rattle.model.specs.Tree.{treeRefusal}
+use Rattle.model.specs.Conversions.{treeOf, traceOf}
+use Rattle.model.specs.Counting.{live, listing}
 use Rattle.model.specs.Calls.{checkTraceVerdict, checkTreeVerdict, traceToTreeVerdict, traceToTreeOutput, treeToTraceVerdict, treeToTraceOutput, countCall, entryVerdict, entryOutput}
 use Rattle.model.specs.Program.{program}
 use Rattle.weights.specs.Weights.{weighTraceVerdict, weighTreeVerdict}
@@ -18,6 +23,16 @@ Below n list = (k : ℕ) → getD list k 0 < n
 -- words are lent as numbers of 16 bits
 abbrev pub Words : List ℕ → Type 0
 Words ws = Below 65536 ws
+
+-- for every grammar, also one that no file holds today: what each call asks of a grammar and a sentence
+pub record PartsAsBefore (g : Grammar) (ws : List ℕ) : Type 0 where
+  pub refused : sentenceRefusal g (singles ws) ≡ before.sentenceRefusal g ws
+  pub trace-refused : (trace : List ℕ) → traceRefusal g (singles ws) trace ≡ before.traceRefusal g ws trace
+  pub tree-refused : (tree : List ℕ) → treeRefusal g (singles ws) tree ≡ before.treeRefusal g ws tree
+  pub tree-made : (trace : List ℕ) → treeOf g (singles ws) trace ≡ before.treeOf g ws trace
+  pub trace-made : (tree : List ℕ) → traceOf g (singles ws) tree ≡ before.traceOf g ws tree
+  pub live-prefixes : (n : ℕ) → live g (singles ws) n ≡ before.live g ws n
+  pub listed : (n : ℕ) → listing g (singles ws) n ≡ before.listing g ws n
 
 -- what is claimed for every grammar file, accepted or not, and every list of words, of any length, known to the grammar or not
 pub record AsBefore (file ws : List ℕ) : Type 0 where
@@ -37,6 +52,7 @@ pub record AsBefore (file ws : List ℕ) : Type 0 where
       × (entryOutput file (singles ws) n limit m out ≡ before.entryOutput file ws n limit m out)
 
 pub record SingleWords : Type 0 where
+  pub parts : (g : Grammar) (ws : List ℕ) → Words ws → PartsAsBefore g ws
   pub calls : (file ws : List ℕ) → Words ws → AsBefore file ws
   -- for all bytes of the two files
   pub prints : (file sentenceFile : List ℕ) → Below 256 sentenceFile → program file sentenceFile ≡ before.program file sentenceFile

@@ -1,5 +1,6 @@
 -- What the calls answered before document 02's paper 5: a sentence was a list of words, and a word was read just if it was the next one. Only what looks at a
--- sentence, or calls what does, is here, under the name of the definition that took its place; everything else is that of `model` and `weights`.
+-- sentence, or calls what does, is here, under the name of the definition that took its place; short ones are written out where they are used. Everything else is
+-- that of `model` and `weights`.
 -- Assumes nothing.
 use Prim.Native.Nat.{ℕ, zero, suc, _+_, _-_, _*_, _%_}
 use mathlib.Core.Bool.{Bool, false, not}

@@ -45,7 +45,8 @@ fn counts_of_all(file: &[u8]) {
     show_count(file, &heard[0..3], 7, 1000000);
 }
 
-// 29 at its place; 11 for either end, also where the lowest is above the highest; 29 at a place before 11 at the next; and both before 12.
+// 29 at its place; 11 for either end, also where the lowest is above the highest; 29 at a place before 11 at the next; both before 12 and after 24; and over 96 places
+// before all of them.
 fn refusals(file: &[u8]) {
     traces::check(file, &[WORD_0, place_with(Word(1), Word(0))], &[0, 3, 5, 5]);
     traces::check(file, &[WORD_0, place_with(Word(1), Word(2))], &[0, 3, 5, 5]);
@@ -65,6 +66,7 @@ fn refusals(file: &[u8]) {
     show_count(file, &[place_with(Word(1), Word(0))], 7, 1000000);
     show_count(file, &[place_with(Word(1), Word(0))], 0, 1000000);
     show_entry(file, &[place_with(Word(1), Word(0))], 7, 0);
+    show_entry(file, &[place_with(Word(1), Word(0)); 97], 7, 0);
 }
 
 pub fn run(copy: &[u8], weighted: &[u8]) {

@@ -20,6 +20,9 @@ Inv-loop file sentence w k₀ k = (k ≤ length sentence) × (length sentence �
 abbrev μ-loop : tie.MeasureT-loop
 μ-loop file sentence w k₀ k = length sentence - k
 
+cast-if1 : tie.Need-cast-if1 Inv-loop μ-loop
+cast-if1 c = search needs
+
 returns : tie.Need-returns Inv-loop μ-loop
 returns c =
     let a = c .before .before .before .args in
@@ -91,6 +94,7 @@ sentence-refusal-spec =
     (tie.spec
     Inv-loop
     μ-loop
+    cast-if1
     returns
     words-requires
     loop-holds
