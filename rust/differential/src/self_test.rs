@@ -8,7 +8,7 @@ use crate::fixed::fixed;
 use crate::rng::Rng;
 
 /// How many random cases a fault is looked for in, before the fixed inputs.
-const CASES: u64 = 500;
+const CASES: u64 = 150;
 
 pub fn self_test(seed: u64) -> bool {
     let (by, clean) = found(faulty::unchanged().as_ref(), seed).map_or(("no difference".to_string(), true), |by| (by, false));
