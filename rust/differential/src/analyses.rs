@@ -9,7 +9,7 @@ use crate::sentences::widened;
 
 /// A sentence, a tree and a trace; as `random` makes them, the sentence has single words, the tree derives it and the trace is that of the
 /// tree.
-#[derive(Clone, Debug)]
+#[derive(Clone)]
 pub struct Analysis {
     pub sentence: Vec<u32>,
     pub tree: Vec<u16>,

@@ -173,6 +173,19 @@ fn counted_by_hand() {
     }
 }
 
+/// "In dictionary order of rule numbers", not clear sentence by clear sentence: rule 0 has word 2.
+#[test]
+fn order_of_entries() {
+    let file = grammar_file("S <- 2\nS <- 0\nS <- 1");
+    let mut out = [7; 96];
+    for m in 0..3 {
+        assert_eq!(Reference.entry(&file, &[words(0, 2)], 1, 4, m, &mut out), Answer::Accepted(1));
+        assert_eq!(out[0] as u64, m);
+    }
+    assert_eq!(Reference.entry(&file, &[words(0, 1)], 1, 3, 0, &mut out), Answer::Accepted(1));
+    assert_eq!(out[0], 1);
+}
+
 /// A place past the word, by one, on either side.
 #[test]
 fn just_missed() {
