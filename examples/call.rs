@@ -14,7 +14,10 @@ const EFFORT_LIMIT: u64 = 1_000_000;
 
 /// The place that is written as a word's number or as lowest-highest. What is no number of 16 bits is 65,535, which is no word.
 fn place(text: &str) -> u32 {
-    let number = |digits: &str| digits.parse().unwrap_or(u16::MAX);
+    let number = |digits: &str| match digits.parse() {
+        Ok(number) if !digits.starts_with('+') => number,
+        _ => u16::MAX,
+    };
     match text.split_once('-') {
         Some((lowest, highest)) => words(number(lowest), number(highest)),
         None => word(number(text)),
