@@ -6,7 +6,7 @@ use std::{env, fs};
 include!("faults.rs");
 
 /// The modules that a copy consists of. The calls themselves stay the reference's.
-const MODULES: [&str; 15] = [
+const MODULES: [&str; 16] = [
     "dates",
     "derivations",
     "double",
@@ -17,6 +17,7 @@ const MODULES: [&str; 15] = [
     "queue",
     "record",
     "reference",
+    "sentence",
     "survey",
     "trace",
     "tree",

@@ -1,6 +1,7 @@
 //! What is measured: a name, a grammar, a sentence and a node limit each.
 
 use reference::samples::PAIR;
+use reference::word;
 
 /// Ambiguous, of dimension 2: pairs of strings joined left to left and right to right, or the right strings turned round.
 const TWO: &str = "
@@ -21,7 +22,7 @@ P(x,y) <- A(x) A(y)
 A <- 0
 ";
 
-pub type Input = (&'static str, &'static str, Vec<u16>, usize);
+pub type Input = (&'static str, &'static str, Vec<u32>, usize);
 
 pub fn inputs() -> Vec<Input> {
     vec![pair(14), two(7), four(8)]
@@ -36,13 +37,13 @@ pub fn growing() -> Vec<Input> {
 }
 
 fn pair(words: usize) -> Input {
-    ("pair", PAIR, vec![0; words], 2 * words - 1)
+    ("pair", PAIR, vec![word(0); words], 2 * words - 1)
 }
 
 fn two(pairs: usize) -> Input {
-    ("dimension 2", TWO, vec![0; 2 * pairs], 4 * pairs)
+    ("dimension 2", TWO, vec![word(0); 2 * pairs], 4 * pairs)
 }
 
 fn four(fours: usize) -> Input {
-    ("dimension 4", FOUR, vec![0; 4 * fours], 8 * fours)
+    ("dimension 4", FOUR, vec![word(0); 4 * fours], 8 * fours)
 }

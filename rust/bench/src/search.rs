@@ -20,6 +20,11 @@ fn prediction(slot: Slot) -> Slot {
     slot / 4
 }
 
+/// Whether the word lies between the ends of the place, the lowest in the lower 16 bits and the highest in the upper 16.
+fn takes(place: u32, word: u16) -> bool {
+    place as u16 <= word && word <= (place >> 16) as u16
+}
+
 /// What `made` adds to a slot.
 const MADE: Slot = 256;
 
@@ -57,14 +62,14 @@ impl Table {
 
 pub struct Search<'a> {
     table: &'a Table,
-    sentence: &'a [u16],
+    sentence: &'a [u32],
     effort_limit: u64,
     effort: u64,
     count: u64,
 }
 
 /// Count and effort, or nothing where the effort is above the limit.
-pub fn count(table: &Table, start: usize, sentence: &[u16], node_limit: usize, effort_limit: u64) -> Option<(u64, u64)> {
+pub fn count(table: &Table, start: usize, sentence: &[u32], node_limit: usize, effort_limit: u64) -> Option<(u64, u64)> {
     let mut search = Search { table, sentence, effort_limit, effort: 0, count: 0 };
     // rows of all depths, one behind the other
     let mut rows = vec![0; ROW * (node_limit + 2)];
@@ -91,7 +96,7 @@ impl Search<'_> {
             let within = match step {
                 Step::Scan(word) => {
                     let taken = (*word != EMPTY_WORD) as usize;
-                    if taken == 1 && self.sentence.get(read) != Some(word) {
+                    if taken == 1 && !self.sentence.get(read).is_some_and(|&place| takes(place, *word)) {
                         continue;
                     }
                     self.visit(&mut rows[1..], length - 1, read + taken, spare, made)
@@ -137,20 +142,41 @@ mod tests {
     use reference::file::read;
     use reference::listing::listing;
     use reference::notation::grammar_file;
+    use reference::samples::{AGREEMENT, CHAIN, COPY, SHUFFLED};
+    use reference::{word, words};
 
-    #[test]
-    fn agrees_with_the_reference() {
-        for (_, text, sentence, _) in crate::inputs::inputs() {
-            let grammar = read(&grammar_file(text)).unwrap();
-            let table = Table::new(&grammar);
-            for words in 0..sentence.len().min(8) {
-                for node_limit in [1, 4, 7, 9, 12, 16] {
-                    let limit = 3_000;
-                    let expected = listing(&grammar, &sentence[..words], node_limit, limit).ok();
-                    let expected = expected.map(|listing| (listing.traces.len() as u64, listing.effort));
-                    assert_eq!(count(&table, grammar.start, &sentence[..words], node_limit as usize, limit), expected);
-                }
+    /// The first places of the sentence, with some node limits.
+    fn as_in_the_reference(text: &str, sentence: &[u32]) {
+        let grammar = read(&grammar_file(text)).unwrap();
+        let table = Table::new(&grammar);
+        for places in 0..=sentence.len().min(7) {
+            for node_limit in [1, 4, 5, 7, 9, 12, 16] {
+                let limit = 3_000;
+                let expected = listing(&grammar, &sentence[..places], node_limit, limit).ok();
+                let expected = expected.map(|listing| (listing.traces.len() as u64, listing.effort));
+                assert_eq!(
+                    count(&table, grammar.start, &sentence[..places], node_limit as usize, limit),
+                    expected,
+                    "{text} {places} {node_limit}"
+                );
             }
         }
+    }
+
+    #[test]
+    fn single_words() {
+        for (_, text, sentence, _) in crate::inputs::inputs() {
+            as_in_the_reference(text, &sentence);
+        }
+    }
+
+    #[test]
+    fn unclear_places() {
+        for text in [COPY, CHAIN, SHUFFLED, AGREEMENT] {
+            as_in_the_reference(text, &[words(0, 1); 6]);
+            as_in_the_reference(text, &[word(0), words(0, 1), words(0, 1), word(1)]);
+        }
+        as_in_the_reference(AGREEMENT, &[word(0), words(1, 2), words(3, 4)]);
+        as_in_the_reference(AGREEMENT, &[words(0, 4), words(2, 3), words(2, 3)]);
     }
 }

@@ -1,16 +1,30 @@
-//! Random derivation trees with their sentences and traces, and lists and sentences with something changed.
+//! Random derivation trees with their sentences and traces, and lists with something changed.
 
 use reference::grammar::{Body, Grammar, Rule};
+use reference::sentence::single_words;
 use reference::tree::{joined, tree_to_trace};
 
 use crate::rng::Rng;
+use crate::sentences::widened;
 
-/// A sentence, a tree and a trace; as `random` makes them, the tree derives the sentence and the trace is that of the tree.
-#[derive(Debug)]
+/// A sentence, a tree and a trace; as `random` makes them, the sentence has single words, the tree derives it and the trace is that of the
+/// tree.
+#[derive(Clone)]
 pub struct Analysis {
-    pub sentence: Vec<u16>,
+    pub sentence: Vec<u32>,
     pub tree: Vec<u16>,
     pub trace: Vec<u16>,
+}
+
+impl Analysis {
+    /// The same tree and trace, half of the time with wider places, which they fit.
+    pub fn heard(&self, rng: &mut Rng, grammar: &Grammar) -> Analysis {
+        let mut heard = self.clone();
+        if rng.chance(50) {
+            heard.sentence = widened(rng, grammar, &self.sentence);
+        }
+        heard
+    }
 }
 
 /// A random tree of at most this many nodes, or nothing where the start category has no tree as small.
@@ -23,7 +37,7 @@ pub fn random(rng: &mut Rng, grammar: &Grammar, most: usize) -> Option<Analysis>
     let tries = rng.pick(&[1, 3, 6, 10]);
     let trees = (0..tries).map(|_| node(rng, grammar, &least, grammar.start, most));
     let (tree, strings) = trees.max_by_key(|(tree, _)| tree.len()).expect("one at least");
-    let sentence = strings[0].clone();
+    let sentence = single_words(&strings[0]);
     let trace = tree_to_trace(grammar, &sentence, &tree).expect("the tree derives its yield");
     Some(Analysis { sentence, tree, trace })
 }
@@ -112,26 +126,4 @@ fn like(rng: &mut Rng, grammar: &Grammar, number: u16) -> u16 {
 pub fn any_list(rng: &mut Rng, grammar: &Grammar) -> Vec<u16> {
     let n = rng.pick(&[0, 1, 2, 3, 4, 6, 10, 95, 96, 97, 98, 150]);
     (0..n).map(|_| rng.below(grammar.rules.len() + 1) as u16).collect()
-}
-
-pub fn changed_sentence(rng: &mut Rng, grammar: &Grammar, sentence: &[u16]) -> Vec<u16> {
-    let words = grammar.words;
-    let mut changed = sentence.to_vec();
-    let i = rng.below(changed.len() + 1);
-    match rng.below(10) {
-        0 | 1 => changed.insert(i, rng.below(words) as u16),
-        2 | 3 if i < sentence.len() => changed[i] = rng.below(words) as u16,
-        4 if i < sentence.len() => drop(changed.remove(i)),
-        5 => drop(changed.pop()),
-        6 => changed.insert(i, rng.pick(&[words as u16, 65_535, 65_534, 4096])),
-        7 => changed.truncate(i),
-        8 => changed.resize(rng.pick(&[95, 96, 97, 98, 150, 300]), rng.below(words + 1) as u16),
-        _ => changed.push(rng.below(words) as u16),
-    }
-    changed
-}
-
-pub fn any_sentence(rng: &mut Rng, grammar: &Grammar) -> Vec<u16> {
-    let n = rng.pick(&[0, 0, 1, 1, 2, 3, 4, 8, 96, 97]);
-    (0..n).map(|_| rng.below(grammar.words) as u16).collect()
 }

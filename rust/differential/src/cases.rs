@@ -1,8 +1,10 @@
-//! One random case: a grammar with files, writer inputs, analyses and counts made from it, and some dates.
+//! One random case: a grammar with files, writer inputs, analyses and counts made from it, for sentences of single words and for unclear
+//! ones, and some dates.
 
 use reference::file::{heading_of, BLOCK};
 use reference::listing::traces_of_trees;
 use reference::live::live_prefixes;
+use reference::sentence::test_sentence;
 
 use crate::analyses::{self, Analysis};
 use crate::compare::{Difference, Done, Pair};
@@ -10,8 +12,10 @@ use crate::damage;
 use crate::dates;
 use crate::grammars::{self, Made};
 use crate::rng::Rng;
+use crate::sentences;
 use crate::show::show_file;
 use crate::tally::Call;
+use crate::unclear;
 use crate::weights;
 
 pub fn case(pair: &mut Pair, rng: &mut Rng) -> Done {
@@ -21,12 +25,14 @@ pub fn case(pair: &mut Pair, rng: &mut Rng) -> Done {
     let most = rng.pick(&[4, 6, 8, 10, 12, 16, 30, 60, 96]);
     let analysis = analyses::random(rng, &made.grammar, most);
     if let Some(analysis) = &analysis {
-        right_analysis(pair, rng, &made, analysis)?;
+        let heard = analysis.heard(rng, &made.grammar);
+        right_analysis(pair, rng, &made, &heard)?;
         wrong_analyses(pair, rng, &made, analysis)?;
+        unclear::counts(pair, rng, &made, analysis)?;
     }
     let sentence = match &analysis {
-        Some(analysis) if rng.chance(80) => analysis.sentence.clone(),
-        _ => analyses::any_sentence(rng, &made.grammar),
+        Some(analysis) if rng.chance(80) => analysis.heard(rng, &made.grammar).sentence,
+        _ => sentences::any(rng, &made.grammar),
     };
     let nodes = analysis.as_ref().map_or(3, |analysis| analysis.tree.len());
     counts(pair, rng, &made, &sentence, nodes)?;
@@ -151,10 +157,7 @@ fn round_trip_of_trace(pair: &mut Pair, made: &Made, Analysis { sentence, trace,
 
 fn wrong_analyses(pair: &mut Pair, rng: &mut Rng, made: &Made, analysis: &Analysis) -> Done {
     for _ in 0..10 {
-        let sentence = match rng.below(3) {
-            0 => analyses::changed_sentence(rng, &made.grammar, &analysis.sentence),
-            _ => analysis.sentence.clone(),
-        };
+        let sentence = sentences::near(rng, &made.grammar, &analysis.sentence);
         let trace = analyses::changed_list(rng, &made.grammar, &analysis.trace);
         let tree = analyses::changed_list(rng, &made.grammar, &analysis.tree);
         pair.check_and_weigh_trace(&made.file, &sentence, &trace)?;
@@ -163,20 +166,28 @@ fn wrong_analyses(pair: &mut Pair, rng: &mut Rng, made: &Made, analysis: &Analys
         pair.tree_to_trace(&made.file, &sentence, &tree, output(rng))?;
     }
     for _ in 0..3 {
-        let sentence = analyses::changed_sentence(rng, &made.grammar, &analysis.sentence);
+        let sentence = sentences::changed(rng, &made.grammar, &analysis.sentence);
         pair.check_and_weigh_trace(&made.file, &sentence, &analysis.trace)?;
         pair.check_and_weigh_tree(&made.file, &sentence, &analysis.tree)?;
+    }
+    for sentence in [
+        sentences::just_missed(rng, &made.grammar, &analysis.sentence),
+        sentences::with_wrong_places(rng, &made.grammar, &analysis.sentence),
+    ] {
+        pair.trace_to_tree(&made.file, &sentence, &analysis.trace, 96)?;
+        pair.tree_to_trace(&made.file, &sentence, &analysis.tree, 96)?;
     }
     Ok(())
 }
 
 /// Counts and entries around the effort and the count of one sentence.
-fn counts(pair: &mut Pair, rng: &mut Rng, made: &Made, sentence: &[u16], nodes: usize) -> Done {
+fn counts(pair: &mut Pair, rng: &mut Rng, made: &Made, sentence: &[u32], nodes: usize) -> Done {
     let any = rng.from_to(1, 96);
     let node_limit = rng.pick(&[nodes, nodes, nodes + 1, nodes + 2, nodes - 1, any]).clamp(1, 96);
     let most = if made.grammar.rules.len() < 30 { rng.pick(&[300, 300, 300, 300, 1_000, 1_000, 1_000, 4_000]) } else { 300 };
     let n = node_limit as u64;
-    let Some(live) = live_prefixes(&made.grammar, sentence, node_limit, most) else {
+    let right = test_sentence(&made.grammar, sentence).is_ok();
+    let Some(live) = right.then(|| live_prefixes(&made.grammar, sentence, node_limit, most)).flatten() else {
         for limit in [1, most / 2, most] {
             pair.count(&made.file, sentence, n, limit)?;
         }
@@ -192,8 +203,10 @@ fn counts(pair: &mut Pair, rng: &mut Rng, made: &Made, sentence: &[u16], nodes: 
     for limit in [effort - 1, effort, effort + 1, other] {
         pair.count(&made.file, sentence, n, limit)?;
     }
-    let no_sentence = [sentence, &[65_535]].concat();
+    let no_sentence = [sentence, &[sentences::wrong_place(rng, &made.grammar)]].concat();
     pair.count(&made.file, &no_sentence, n, rng.pick(&[0, 1_000_000_001, u64::MAX]))?;
+    pair.count(&made.file, &no_sentence, n, rng.pick(&[1, effort]))?;
+    pair.entry(&made.file, &no_sentence, (n, effort), rng.pick(&[0, count]), 96)?;
     let far = rng.pick(&[0, 97, 256 + n, 65_536 + n, (1 << 32) + n, u64::MAX]);
     pair.count(&made.file, sentence, far, effort)?;
     for m in [0, count.saturating_sub(1), count, rng.next() % (count + 1)] {
@@ -202,15 +215,14 @@ fn counts(pair: &mut Pair, rng: &mut Rng, made: &Made, sentence: &[u16], nodes: 
     let far = rng.pick(&[count + 1, 65_536, 1 << 32, u64::MAX]);
     pair.entry(&made.file, sentence, (n, effort), far, 96)?;
     pair.entry(&made.file, sentence, (n, effort - 1), rng.pick(&[0, count]), 96)?;
-    Ok(())
+    unclear::beside_few_clear_ones(pair, &made.file, sentence, (n, effort), count)
 }
 
 /// A sentence and lists, each right or wrong by itself.
 fn right_or_wrong(rng: &mut Rng, made: &Made, analysis: Option<&Analysis>) -> Analysis {
     let sentence = match (rng.below(4), analysis) {
-        (0 | 1, Some(analysis)) => analysis.sentence.clone(),
-        (2, Some(analysis)) => analyses::changed_sentence(rng, &made.grammar, &analysis.sentence),
-        _ => analyses::any_sentence(rng, &made.grammar),
+        (0..=2, Some(analysis)) => sentences::near(rng, &made.grammar, &analysis.sentence),
+        _ => sentences::any(rng, &made.grammar),
     };
     let (trace, tree) = match analysis {
         Some(analysis) if rng.chance(60) => (analysis.trace.clone(), analysis.tree.clone()),

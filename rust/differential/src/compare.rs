@@ -2,12 +2,14 @@
 
 use std::fmt;
 
+use reference::notation::places;
 use reference::record::Record;
 use reference::survey::survey_is_right;
 use reference::{Answer, Calls, Date, DateCalls, Heading, Reference, Refusal, TreeCalls};
 
 use crate::damage::at;
 use crate::orders::order_of_double;
+use crate::sentences::is_unclear;
 use crate::show::{show_file, show_heading};
 use crate::tally::{Call, Tally};
 
@@ -76,6 +78,20 @@ impl Pair<'_> {
         Ok(())
     }
 
+    /// As `settle`, for a call that is given this sentence.
+    fn settle_with(
+        &mut self,
+        call: Call,
+        sentence: &[u32],
+        answers: (Answer, Answer),
+        buffer: Option<String>,
+        input: impl FnOnce() -> String,
+    ) -> Done {
+        self.settle(call, answers, buffer, input)?;
+        self.tally.add_sentence(call, is_unclear(sentence), answers.1);
+        Ok(())
+    }
+
     pub fn read_grammar(&mut self, file: &[u8]) -> Done {
         let answers = (self.tested.read_grammar(file), Reference.read_grammar(file));
         self.settle(Call::ReadGrammar, answers, None, || show_file(file))?;
@@ -105,12 +121,12 @@ impl Pair<'_> {
     }
 
     /// The trace checker and the weighing. An accepted trace has the same sum as its tree.
-    pub fn check_and_weigh_trace(&mut self, file: &[u8], sentence: &[u16], trace: &[u16]) -> Done {
-        let input = || format!("sentence {sentence:?}\ntrace {trace:?}\n{}", show_file(file));
+    pub fn check_and_weigh_trace(&mut self, file: &[u8], sentence: &[u32], trace: &[u16]) -> Done {
+        let input = || format!("sentence {}\ntrace {trace:?}\n{}", places(sentence), show_file(file));
         let checked = (self.tested.check_trace(file, sentence, trace), Reference.check_trace(file, sentence, trace));
-        self.settle(Call::CheckTrace, checked, None, input)?;
+        self.settle_with(Call::CheckTrace, sentence, checked, None, input)?;
         let weighed = (self.tested.weigh_trace(file, sentence, trace), Reference.weigh_trace(file, sentence, trace));
-        self.settle(Call::WeighTrace, weighed, None, input)?;
+        self.settle_with(Call::WeighTrace, sentence, weighed, None, input)?;
         let Answer::Accepted(sum) = weighed.0 else { return Ok(()) };
         self.trace_to_tree(file, sentence, trace, 96)?;
         let mut tree = [0; 96];
@@ -120,12 +136,12 @@ impl Pair<'_> {
     }
 
     /// The tree checker and the weighing. An accepted tree has the same sum as its trace.
-    pub fn check_and_weigh_tree(&mut self, file: &[u8], sentence: &[u16], tree: &[u16]) -> Done {
-        let input = || format!("sentence {sentence:?}\ntree {tree:?}\n{}", show_file(file));
+    pub fn check_and_weigh_tree(&mut self, file: &[u8], sentence: &[u32], tree: &[u16]) -> Done {
+        let input = || format!("sentence {}\ntree {tree:?}\n{}", places(sentence), show_file(file));
         let checked = (self.tested.check_tree(file, sentence, tree), Reference.check_tree(file, sentence, tree));
-        self.settle(Call::CheckTree, checked, None, input)?;
+        self.settle_with(Call::CheckTree, sentence, checked, None, input)?;
         let weighed = (self.tested.weigh_tree(file, sentence, tree), Reference.weigh_tree(file, sentence, tree));
-        self.settle(Call::WeighTree, weighed, None, input)?;
+        self.settle_with(Call::WeighTree, sentence, weighed, None, input)?;
         let Answer::Accepted(sum) = weighed.0 else { return Ok(()) };
         self.tree_to_trace(file, sentence, tree, 96)?;
         let mut trace = [0; 96];
@@ -145,32 +161,32 @@ impl Pair<'_> {
         Ok(())
     }
 
-    pub fn trace_to_tree(&mut self, file: &[u8], sentence: &[u16], trace: &[u16], out: usize) -> Done {
+    pub fn trace_to_tree(&mut self, file: &[u8], sentence: &[u32], trace: &[u16], out: usize) -> Done {
         let sides: [&dyn Calls; 2] = [self.tested, &Reference];
         let (answers, buffer) = both(out, trace.len(), sides, |side, out| side.trace_to_tree(file, sentence, trace, out));
-        let input = || format!("output of {out}\nsentence {sentence:?}\ntrace {trace:?}\n{}", show_file(file));
-        self.settle(Call::TraceToTree, answers, buffer, input)
+        let input = || format!("output of {out}\nsentence {}\ntrace {trace:?}\n{}", places(sentence), show_file(file));
+        self.settle_with(Call::TraceToTree, sentence, answers, buffer, input)
     }
 
-    pub fn tree_to_trace(&mut self, file: &[u8], sentence: &[u16], tree: &[u16], out: usize) -> Done {
+    pub fn tree_to_trace(&mut self, file: &[u8], sentence: &[u32], tree: &[u16], out: usize) -> Done {
         let sides: [&dyn Calls; 2] = [self.tested, &Reference];
         let (answers, buffer) = both(out, tree.len(), sides, |side, out| side.tree_to_trace(file, sentence, tree, out));
-        let input = || format!("output of {out}\nsentence {sentence:?}\ntree {tree:?}\n{}", show_file(file));
-        self.settle(Call::TreeToTrace, answers, buffer, input)
+        let input = || format!("output of {out}\nsentence {}\ntree {tree:?}\n{}", places(sentence), show_file(file));
+        self.settle_with(Call::TreeToTrace, sentence, answers, buffer, input)
     }
 
-    pub fn count(&mut self, file: &[u8], sentence: &[u16], node_limit: u64, effort_limit: u64) -> Done {
+    pub fn count(&mut self, file: &[u8], sentence: &[u32], node_limit: u64, effort_limit: u64) -> Done {
         let answers =
             (self.tested.count(file, sentence, node_limit, effort_limit), Reference.count(file, sentence, node_limit, effort_limit));
-        let input = || format!("sentence {sentence:?}\nlimits {node_limit} {effort_limit}\n{}", show_file(file));
-        self.settle(Call::Count, answers, None, input)
+        let input = || format!("sentence {}\nlimits {node_limit} {effort_limit}\n{}", places(sentence), show_file(file));
+        self.settle_with(Call::Count, sentence, answers, None, input)
     }
 
-    pub fn entry(&mut self, file: &[u8], sentence: &[u16], limits: (u64, u64), m: u64, out: usize) -> Done {
+    pub fn entry(&mut self, file: &[u8], sentence: &[u32], limits: (u64, u64), m: u64, out: usize) -> Done {
         let sides: [&dyn Calls; 2] = [self.tested, &Reference];
         let (answers, buffer) = both(out, m as usize % 1000, sides, |side, out| side.entry(file, sentence, limits.0, limits.1, m, out));
-        let input = || format!("output of {out}\nsentence {sentence:?}\nlimits {limits:?} entry {m}\n{}", show_file(file));
-        self.settle(Call::Entry, answers, buffer, input)
+        let input = || format!("output of {out}\nsentence {}\nlimits {limits:?} entry {m}\n{}", places(sentence), show_file(file));
+        self.settle_with(Call::Entry, sentence, answers, buffer, input)
     }
 
     /// The figures are free within document 01's line; all else is compared.

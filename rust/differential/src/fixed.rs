@@ -3,12 +3,15 @@
 use reference::file::BLOCK;
 use reference::live::live_prefixes;
 use reference::samples::{CHAIN, COPY, PAIR, SHUFFLED, SMALL};
+use reference::sentence::single_words;
+use reference::word;
 
 use crate::compare::{Done, Pair};
 use crate::damage::{at, seal};
 use crate::dates;
 use crate::grammars::Made;
 use crate::orders;
+use crate::unclear;
 
 pub fn fixed(pair: &mut Pair) -> Done {
     known(pair)?;
@@ -25,7 +28,8 @@ pub fn fixed(pair: &mut Pair) -> Done {
     lengths_of_files(pair)?;
     bytes_of_files(pair)?;
     dates::fixed(pair)?;
-    orders::fixed(pair)
+    orders::fixed(pair)?;
+    unclear::fixed(pair)
 }
 
 fn copy() -> Made {
@@ -44,7 +48,7 @@ fn words(rules: usize) -> Made {
 /// K3 to K10.
 fn known(pair: &mut Pair) -> Done {
     let file = &copy().file;
-    let sentence = &[0, 1, 0, 1];
+    let sentence = &single_words(&[0, 1, 0, 1]);
     pair.check_and_weigh_trace(file, sentence, &[0, 1, 5, 4, 6, 5, 6])?;
     pair.trace_to_tree(file, sentence, &[0, 1, 5, 4, 6, 5, 6], 96)?;
     pair.tree_to_trace(file, sentence, &[0, 1, 5, 4, 6, 6, 5], 96)?;
@@ -52,19 +56,21 @@ fn known(pair: &mut Pair) -> Done {
     pair.count(file, sentence, 7, 13)?;
     pair.count(file, sentence, 7, 12)?;
     pair.count(file, sentence, 6, 1000)?;
-    for sentence in [&[0, 0][..], &[0, 1], &[0, 0, 0]] {
-        pair.check_and_weigh_trace(file, sentence, &[0, 3, 5, 5])?;
+    for words in [&[0, 0][..], &[0, 1], &[0, 0, 0]] {
+        pair.check_and_weigh_trace(file, &single_words(words), &[0, 3, 5, 5])?;
     }
+    let sentence = &single_words(&[0, 0]);
     for trace in [&[0, 1, 5][..], &[0, 3, 5, 5, 5]] {
-        pair.check_and_weigh_trace(file, &[0, 0], trace)?;
+        pair.check_and_weigh_trace(file, sentence, trace)?;
     }
     for tree in [&[0, 3, 5][..], &[0, 3, 5, 6], &[0, 3, 5, 5, 5], &[0, 3, 5, 5]] {
-        pair.check_and_weigh_tree(file, &[0, 0], tree)?;
+        pair.check_and_weigh_tree(file, sentence, tree)?;
     }
     let file = &pair_grammar().file;
-    pair.count(file, &[0, 0, 0], 5, 1_000_000)?;
+    let sentence = &single_words(&[0, 0, 0]);
+    pair.count(file, sentence, 5, 1_000_000)?;
     for m in 0..3 {
-        pair.entry(file, &[0, 0, 0], (5, 1_000_000), m, 96)?;
+        pair.entry(file, sentence, (5, 1_000_000), m, 96)?;
     }
     Ok(())
 }
@@ -73,7 +79,7 @@ fn known(pair: &mut Pair) -> Done {
 fn lengths_of_lists(pair: &mut Pair) -> Done {
     let file = &pair_grammar().file;
     for n in 0..=130 {
-        let sentence = vec![0; n];
+        let sentence = vec![word(0); n];
         // the trace of n words put into pairs from the left
         let mut trace = vec![0; n.saturating_sub(1)];
         trace.extend(vec![1; n]);
@@ -86,7 +92,7 @@ fn lengths_of_lists(pair: &mut Pair) -> Done {
         }
         pair.count(file, &sentence, 9, 500)?;
         pair.entry(file, &sentence, (9, 500), 0, 96)?;
-        for last in [1, 65_535] {
+        for last in [word(1), word(65_535)] {
             let mut sentence = sentence.clone();
             sentence.push(last);
             pair.check_and_weigh_trace(file, &sentence, &[0])?;
@@ -99,7 +105,7 @@ fn lengths_of_lists(pair: &mut Pair) -> Done {
 /// Outputs of every length from 0 to 200.
 fn lengths_of_outputs(pair: &mut Pair) -> Done {
     let file = &copy().file;
-    let sentence = &[0, 1, 0, 1];
+    let sentence = &single_words(&[0, 1, 0, 1]);
     for out in 0..=200 {
         pair.trace_to_tree(file, sentence, &[0, 1, 5, 4, 6, 5, 6], out)?;
         pair.trace_to_tree(file, sentence, &[0, 1, 5, 4, 6, 6, 5], out)?;
@@ -117,7 +123,8 @@ fn lengths_of_outputs(pair: &mut Pair) -> Done {
 fn limits(pair: &mut Pair) -> Done {
     for text in SMALL {
         let made = Made::of_text(text);
-        for sentence in [&[][..], &[0], &[0, 0], &[0, 1, 0, 1], &[0, 0, 0, 0, 0, 0]] {
+        for words in [&[][..], &[0], &[0, 0], &[0, 1, 0, 1], &[0, 0, 0, 0, 0, 0]] {
+            let sentence = &single_words(words);
             for node_limit in 0..=100 {
                 pair.count(&made.file, sentence, node_limit, 60)?;
                 pair.entry(&made.file, sentence, (node_limit, 60), 0, 96)?;
@@ -137,7 +144,8 @@ fn limits(pair: &mut Pair) -> Done {
 fn entries(pair: &mut Pair) -> Done {
     for text in SMALL {
         let made = Made::of_text(text);
-        for (sentence, node_limit) in [(&[0, 0, 0, 0, 0][..], 9), (&[0, 0, 0, 0], 10), (&[0, 1, 0, 1, 0, 1], 10), (&[0], 6)] {
+        for (words, node_limit) in [(&[0, 0, 0, 0, 0][..], 9), (&[0, 0, 0, 0], 10), (&[0, 1, 0, 1, 0, 1], 10), (&[0], 6)] {
+            let sentence = &single_words(words);
             let Some(live) = live_prefixes(&made.grammar, sentence, node_limit, 3_000) else { continue };
             let count = live.complete.len() as u64;
             for m in (0..40.min(count)).chain(count.saturating_sub(2)..count + 3) {
@@ -160,33 +168,35 @@ fn numbers_of_rules(pair: &mut Pair) -> Done {
             seal(&mut file);
             pair.read_grammar(&file)?;
         }
-        pair.check_and_weigh_tree(&made.file, &[rules as u16 - 1], &[rules as u16 - 1])?;
-        pair.check_and_weigh_trace(&made.file, &[rules as u16 - 1], &[rules as u16])?;
+        let last = rules as u16 - 1;
+        pair.check_and_weigh_tree(&made.file, &[word(last)], &[last])?;
+        pair.check_and_weigh_trace(&made.file, &[word(last)], &[last + 1])?;
     }
     Ok(())
 }
 
 /// Every weight on every rule of the copy grammar, up to 97 times the highest weight, and 256 rules of different weights.
 fn weights(pair: &mut Pair) -> Done {
+    let sentence = &single_words(&[0, 1, 0, 1]);
     for one in 0..7 {
         for weight in 0..=255 {
             let made = copy().with_weights(|rule| if rule == one { weight } else { 0 });
             pair.read_grammar(&made.file)?;
             pair.write_grammar(&made.heading, &made.records, made.file.len())?;
-            pair.check_and_weigh_trace(&made.file, &[0, 1, 0, 1], &[0, 1, 5, 4, 6, 5, 6])?;
-            pair.check_and_weigh_tree(&made.file, &[0, 1, 0, 1], &[0, 1, 5, 4, 6, 6, 5])?;
+            pair.check_and_weigh_trace(&made.file, sentence, &[0, 1, 5, 4, 6, 5, 6])?;
+            pair.check_and_weigh_tree(&made.file, sentence, &[0, 1, 5, 4, 6, 6, 5])?;
         }
     }
     let file = &Made::of_text(CHAIN).with_weights(|_| 255).file;
     for above in 0..=96 {
         let chain = [vec![0; above], vec![2]].concat();
-        pair.check_and_weigh_trace(file, &[0], &chain)?;
-        pair.check_and_weigh_tree(file, &[0], &chain)?;
+        pair.check_and_weigh_trace(file, &[word(0)], &chain)?;
+        pair.check_and_weigh_tree(file, &[word(0)], &chain)?;
     }
     let file = &words(256).with_weights(|rule| 255 - rule as u8).file;
     for rule in 0..256 {
-        pair.check_and_weigh_trace(file, &[rule], &[rule])?;
-        pair.check_and_weigh_tree(file, &[rule], &[rule])?;
+        pair.check_and_weigh_trace(file, &[word(rule)], &[rule])?;
+        pair.check_and_weigh_tree(file, &[word(rule)], &[rule])?;
     }
     Ok(())
 }
@@ -344,12 +354,16 @@ fn bytes_of_files(pair: &mut Pair) -> Done {
 }
 
 pub fn every_call(pair: &mut Pair, file: &[u8]) -> Done {
-    pair.check_and_weigh_trace(file, &[0, 0], &[0, 3, 5, 5])?;
-    pair.check_and_weigh_tree(file, &[0, 0], &[0, 3, 5, 5])?;
-    pair.trace_to_tree(file, &[0, 0], &[0, 3, 5, 5], 96)?;
-    pair.tree_to_trace(file, &[0, 0], &[0, 3, 5, 5], 96)?;
-    pair.count(file, &[0, 0], 4, 20)?;
-    pair.entry(file, &[0, 0], (4, 20), 0, 96)?;
-    pair.survey(file, 96)?;
-    Ok(())
+    every_call_with(pair, file, &single_words(&[0, 0]), &[0, 3, 5, 5], (4, 20))?;
+    pair.survey(file, 96)
+}
+
+/// Every call that is given a sentence, with the list as trace and as tree.
+pub fn every_call_with(pair: &mut Pair, file: &[u8], sentence: &[u32], list: &[u16], limits: (u64, u64)) -> Done {
+    pair.check_and_weigh_trace(file, sentence, list)?;
+    pair.check_and_weigh_tree(file, sentence, list)?;
+    pair.trace_to_tree(file, sentence, list, 96)?;
+    pair.tree_to_trace(file, sentence, list, 96)?;
+    pair.count(file, sentence, limits.0, limits.1)?;
+    pair.entry(file, sentence, limits, 0, 96)
 }

@@ -12,8 +12,10 @@ mod orders;
 mod printed;
 mod rng;
 mod self_test;
+mod sentences;
 mod show;
 mod tally;
+mod unclear;
 mod weights;
 
 use std::process::ExitCode;
@@ -85,6 +87,10 @@ fn run(tested: &dyn Calls, options: &Options) -> bool {
     println!(
         "{} sums along a trace and along its tree, the highest {}; {} grammars with other weights",
         tally.sums, tally.highest_sum, tally.reweighed
+    );
+    println!(
+        "{} sentences of single words, {} with unclear places; {} unclear sentences beside their clear ones, {} of them with several analysed",
+        tally.single_words(), tally.unclear(), tally.unclear_listings, tally.listings_of_several
     );
     println!("{} doubles in another order of their daughters, {} near misses", tally.doubles_in_another_order(), tally.near_misses);
     println!("{} days both ways, {} terms beside the next longer one", tally.days_both_ways(), tally.terms);

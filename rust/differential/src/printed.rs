@@ -7,11 +7,13 @@ use std::process::Command;
 use reference::live::live_prefixes;
 use reference::program::{output, sentence_file};
 use reference::samples::PAIR;
+use reference::sentence::{lowest, single_words};
 
 use crate::analyses;
 use crate::damage::damaged;
 use crate::grammars::{self, Made};
 use crate::rng::Rng;
+use crate::sentences::any_words;
 use crate::show::show_file;
 use crate::tally::Tally;
 
@@ -61,11 +63,11 @@ fn files(rng: &mut Rng) -> (Option<Vec<u8>>, Option<Vec<u8>>) {
 fn sentence(rng: &mut Rng, made: &Made) -> Option<Vec<u8>> {
     let analysis = analyses::random(rng, &made.grammar, 14);
     let (words, nodes) = match &analysis {
-        Some(analysis) => (analysis.sentence.clone(), analysis.tree.len()),
-        None => (analyses::any_sentence(rng, &made.grammar), 4),
+        Some(analysis) => (analysis.sentence.iter().map(|&place| lowest(place)).collect(), analysis.tree.len()),
+        None => (any_words(rng, &made.grammar), 4),
     };
     // a node limit that the reference gets through
-    let nodes = (1..=nodes).rev().find(|&n| live_prefixes(&made.grammar, &words, n, 3_000).is_some()).unwrap_or(1) as u8;
+    let nodes = (1..=nodes).rev().find(|&n| live_prefixes(&made.grammar, &single_words(&words), n, 3_000).is_some()).unwrap_or(1) as u8;
     let file = sentence_file(nodes, &words);
     match rng.below(12) {
         0 => None,

@@ -8,7 +8,7 @@ use crate::fixed::fixed;
 use crate::rng::Rng;
 
 /// How many random cases a fault is looked for in, before the fixed inputs.
-const CASES: u64 = 500;
+const CASES: u64 = 150;
 
 pub fn self_test(seed: u64) -> bool {
     let (by, clean) = found(faulty::unchanged().as_ref(), seed).map_or(("no difference".to_string(), true), |by| (by, false));
@@ -46,14 +46,16 @@ mod tests {
     use super::*;
     use reference::Reference;
 
-    /// The fixed inputs and some random cases meet every refusal, and the reference does not differ from itself.
+    /// Some random cases and the fixed inputs meet every refusal, and the reference does not differ from itself. At least half of the random
+    /// sentences have single words.
     #[test]
     fn every_refusal_is_met() {
         let mut pair = Pair::new(&Reference);
-        assert!(fixed(&mut pair).is_ok());
         for number in 0..150 {
             assert!(case(&mut pair, &mut Rng::new(1, number)).is_ok());
         }
+        assert!(pair.tally.single_words() >= pair.tally.unclear());
+        assert!(fixed(&mut pair).is_ok());
         assert_eq!(pair.tally.missing(), Vec::<String>::new());
     }
 }

@@ -47,8 +47,8 @@ impl Call {
     /// The refusals that the call can meet.
     pub fn refusals(self) -> Vec<u8> {
         let file = 1..=10;
-        let trace = 11..=18;
-        let tree = [11, 12, 13, 19, 20, 21, 22];
+        let trace = (11..=18).chain([29]);
+        let tree = [11, 29, 12, 13, 19, 20, 21, 22];
         match self {
             Call::ReadGrammar => file.collect(),
             Call::WriteGrammar => (4..=10).chain([23]).collect(),
@@ -56,13 +56,26 @@ impl Call {
             Call::CheckTree | Call::WeighTree => file.chain(tree).collect(),
             Call::TraceToTree => file.chain(trace).chain([23]).collect(),
             Call::TreeToTrace => file.chain(tree).chain([23]).collect(),
-            Call::Count => file.chain([11, 24, 25]).collect(),
-            Call::Entry => file.chain([11, 23, 24, 25, 26]).collect(),
+            Call::Count => file.chain([11, 24, 25, 29]).collect(),
+            Call::Entry => file.chain([11, 23, 24, 25, 26, 29]).collect(),
             Call::Survey => file.chain([23]).collect(),
             Call::DayNumber | Call::DateOf => vec![27],
             Call::OpeningDay | Call::IsOpen => vec![27, 28],
         }
     }
+
+    /// Refusal 29 is about a sentence's places.
+    fn is_given_a_sentence(self) -> bool {
+        self.refusals().contains(&29)
+    }
+}
+
+/// The sentences that a call was given.
+#[derive(Clone, Copy, Default)]
+struct Sentences {
+    single_words: u64,
+    unclear: u64,
+    unclear_accepted: u64,
 }
 
 /// The highest sum of weights: 255 for each of 96 steps or nodes.
@@ -72,7 +85,7 @@ const HIGHEST_SUM: u32 = 96 * 255;
 pub const DAYS: usize = 400 * 365 + 97;
 
 /// The refusals, from 1, and 0 for accepted.
-const NUMBERS: usize = 29;
+const NUMBERS: usize = 30;
 
 /// How many calls the table has beside each other.
 const BESIDE: usize = 11;
@@ -80,6 +93,11 @@ const BESIDE: usize = 11;
 /// For each call how often it was accepted (at 0) and how often each refusal was met.
 pub struct Tally {
     met: [[u64; NUMBERS]; CALLS.len()],
+    sentences: [Sentences; CALLS.len()],
+    /// Unclear sentences whose count and listing were compared with those of the clear sentences within their ranges, and how many of
+    /// these have analyses of more than one clear sentence.
+    pub unclear_listings: u64,
+    pub listings_of_several: u64,
     /// Listings where trees and live prefixes were compared.
     pub agreements: u64,
     /// Round trips: a file's fields written again, a trace to its tree and back.
@@ -105,6 +123,9 @@ impl Tally {
     pub fn new() -> Tally {
         Tally {
             met: [[0; NUMBERS]; CALLS.len()],
+            sentences: [Sentences::default(); CALLS.len()],
+            unclear_listings: 0,
+            listings_of_several: 0,
             agreements: 0,
             round_trips: 0,
             sums: 0,
@@ -124,6 +145,25 @@ impl Tally {
             _ => 0,
         };
         self.met[call as usize][number] += 1;
+    }
+
+    /// The call was given a sentence of single words or one with an unclear place.
+    pub fn add_sentence(&mut self, call: Call, unclear: bool, answer: Answer) {
+        let given = &mut self.sentences[call as usize];
+        if unclear {
+            given.unclear += 1;
+            given.unclear_accepted += !matches!(answer, Answer::Refused(_)) as u64;
+        } else {
+            given.single_words += 1;
+        }
+    }
+
+    pub fn single_words(&self) -> u64 {
+        self.sentences.iter().map(|given| given.single_words).sum()
+    }
+
+    pub fn unclear(&self) -> u64 {
+        self.sentences.iter().map(|given| given.unclear).sum()
     }
 
     pub fn accepted(&self, call: Call) -> u64 {
@@ -171,6 +211,12 @@ impl Tally {
                     missing.push(format!("{call:?} never met refusal {number}"));
                 }
             }
+            if call.is_given_a_sentence() && self.sentences[call as usize].unclear_accepted == 0 {
+                missing.push(format!("{call:?} never accepted an unclear sentence"));
+            }
+        }
+        if self.single_words() < self.unclear() {
+            missing.push("more unclear sentences than sentences of single words".to_string());
         }
         for (call, orders) in [Call::ReadGrammar, Call::WriteGrammar].into_iter().zip(&self.orders) {
             for (order, _) in ORDERS.iter().zip(orders).filter(|(_, &met)| met == 0) {
@@ -186,6 +232,7 @@ impl Tally {
         for (done, none) in [
             (self.round_trips, "no round trip"),
             (self.agreements, "no listing by trees and by live prefixes"),
+            (self.listings_of_several, "no unclear sentence of which several clear ones are analysed"),
             (self.reweighed, "no grammar with other weights"),
             (self.near_misses, "no near miss of a double"),
             (self.terms, "no term beside the next longer one"),
@@ -227,7 +274,7 @@ fn row(number: usize) -> String {
     match number {
         0 => "accepted".to_string(),
         1..=10 => format!("grammar's {number}"),
-        11..=22 => format!("analysis's {number}"),
+        11..=22 | 29 => format!("analysis's {number}"),
         _ => format!("desk's {number}"),
     }
 }
@@ -272,6 +319,27 @@ mod tests {
         assert_eq!(tally.doubles_in_another_order(), 13);
     }
 
+    /// Each call that is given a sentence has to accept an unclear one, and sentences of single words have to be half of all.
+    #[test]
+    fn unclear_and_single_words() {
+        let mut tally = Tally::new();
+        let missing = |tally: &Tally| tally.missing().into_iter().filter(|text| text.contains("unclear sentence")).collect::<Vec<_>>();
+        tally.listings_of_several = 1;
+        assert_eq!(missing(&tally).len(), 8);
+        for call in CALLS.into_iter().filter(|call| call.is_given_a_sentence()) {
+            tally.add_sentence(call, true, Answer::Refused(reference::Refusal::desk(25)));
+            tally.add_sentence(call, false, Answer::Accepted(1));
+        }
+        assert_eq!(missing(&tally).len(), 8);
+        for call in CALLS.into_iter().filter(|call| call.is_given_a_sentence() && *call != Call::Entry) {
+            tally.add_sentence(call, true, Answer::Accepted(1));
+            tally.add_sentence(call, false, Answer::Accepted(1));
+        }
+        assert_eq!(missing(&tally), ["Entry never accepted an unclear sentence"]);
+        tally.add_sentence(Call::Entry, true, Answer::Accepted(1));
+        assert_eq!(missing(&tally), ["more unclear sentences than sentences of single words"]);
+    }
+
     /// What was never done is missing.
     #[test]
     fn nothing_done() {
@@ -281,13 +349,14 @@ mod tests {
             "no analysis had the sum 24480",
             "no round trip",
             "no listing by trees and by live prefixes",
+            "no unclear sentence of which several clear ones are analysed",
             "no grammar with other weights",
             "no near miss of a double",
             "no term beside the next longer one",
         ];
         assert_eq!(none(&tally), all);
         (tally.round_trips, tally.agreements, tally.reweighed, tally.highest_sum) = (1, 1, 1, HIGHEST_SUM);
-        tally.near_misses = 1;
+        (tally.near_misses, tally.listings_of_several) = (1, 1);
         assert_eq!(none(&tally), ["no term beside the next longer one"]);
         tally.terms = 1;
         assert_eq!(none(&tally), Vec::<String>::new());

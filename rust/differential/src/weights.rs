@@ -1,5 +1,6 @@
 //! Weights change the sums and nothing else.
 
+use reference::notation::places;
 use reference::{Answer, Calls};
 
 use crate::analyses::Analysis;
@@ -13,7 +14,9 @@ pub fn change_sums_alone(pair: &mut Pair, one: &Made, other: &Made, input: &Anal
     let answers = [one, other].map(|made| answers_but_sums(pair.tested, made, input));
     if let Some((a, b)) = answers[0].iter().zip(&answers[1]).find(|(a, b)| a != b) {
         let files = [one, other].map(|made| show_file(&made.file)).concat();
-        let text = format!("other weights change the answer\n{a:?}\n{b:?}\n{input:?}\n{files}");
+        let Analysis { sentence, tree, trace } = input;
+        let input = format!("sentence {}\ntree {tree:?}\ntrace {trace:?}", places(sentence));
+        let text = format!("other weights change the answer\n{a:?}\n{b:?}\n{input}\n{files}");
         return Err(Difference { call: a.0, text });
     }
     pair.tally.reweighed += 1;

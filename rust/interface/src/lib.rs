@@ -64,23 +64,35 @@ pub struct Date {
     pub day: u32,
 }
 
-/// The public calls. A refused call changes no buffer, and an accepted one nothing past the last entry that it writes.
+/// A sentence's place that holds one word.
+pub fn word(word: u16) -> u32 {
+    words(word, word)
+}
+
+/// A sentence's place that holds a lowest and a highest word number, as the calls take it: the highest in the upper 16 bits (document 02,
+/// paper 5).
+pub fn words(lowest: u16, highest: u16) -> u32 {
+    (highest as u32) << 16 | lowest as u32
+}
+
+/// The public calls. A sentence is a row of places. A refused call changes no buffer, and an accepted one nothing past the last entry that
+/// it writes.
 pub trait Calls: TreeCalls + DateCalls {
     fn read_grammar(&self, file: &[u8]) -> Answer;
     fn write_grammar(&self, heading: &Heading, records: &[u8], out: &mut [u8]) -> Answer;
-    fn check_trace(&self, file: &[u8], sentence: &[u16], trace: &[u16]) -> Answer;
-    fn weigh_trace(&self, file: &[u8], sentence: &[u16], trace: &[u16]) -> Answer;
-    fn count(&self, file: &[u8], sentence: &[u16], node_limit: u64, effort_limit: u64) -> Answer;
-    fn entry(&self, file: &[u8], sentence: &[u16], node_limit: u64, effort_limit: u64, entry: u64, out: &mut [u16]) -> Answer;
+    fn check_trace(&self, file: &[u8], sentence: &[u32], trace: &[u16]) -> Answer;
+    fn weigh_trace(&self, file: &[u8], sentence: &[u32], trace: &[u16]) -> Answer;
+    fn count(&self, file: &[u8], sentence: &[u32], node_limit: u64, effort_limit: u64) -> Answer;
+    fn entry(&self, file: &[u8], sentence: &[u32], node_limit: u64, effort_limit: u64, entry: u64, out: &mut [u16]) -> Answer;
     fn survey(&self, file: &[u8], out: &mut [u16]) -> Answer;
 }
 
 /// The public calls on derivation trees.
 pub trait TreeCalls {
-    fn check_tree(&self, file: &[u8], sentence: &[u16], tree: &[u16]) -> Answer;
-    fn weigh_tree(&self, file: &[u8], sentence: &[u16], tree: &[u16]) -> Answer;
-    fn trace_to_tree(&self, file: &[u8], sentence: &[u16], trace: &[u16], out: &mut [u16]) -> Answer;
-    fn tree_to_trace(&self, file: &[u8], sentence: &[u16], tree: &[u16], out: &mut [u16]) -> Answer;
+    fn check_tree(&self, file: &[u8], sentence: &[u32], tree: &[u16]) -> Answer;
+    fn weigh_tree(&self, file: &[u8], sentence: &[u32], tree: &[u16]) -> Answer;
+    fn trace_to_tree(&self, file: &[u8], sentence: &[u32], trace: &[u16], out: &mut [u16]) -> Answer;
+    fn tree_to_trace(&self, file: &[u8], sentence: &[u32], tree: &[u16], out: &mut [u16]) -> Answer;
 }
 
 /// The public calls on dates and the days that deposits open (document 02, paper 3). They take no grammar and no buffer.
@@ -91,4 +103,19 @@ pub trait DateCalls {
     fn opening_day(&self, date: Date, term: u64) -> Answer;
     /// Whether that deposit is open on the day with the number asked.
     fn is_open(&self, date: Date, term: u64, asked: u64) -> Answer;
+}
+
+#[cfg(test)]
+mod tests {
+    use super::*;
+
+    #[test]
+    fn places() {
+        assert_eq!(word(0), 0);
+        assert_eq!(word(3), 0x0003_0003);
+        assert_eq!(word(65_535), u32::MAX);
+        assert_eq!(words(1, 2), 0x0002_0001);
+        assert_eq!(words(65_535, 0), 0x0000_ffff);
+        assert_eq!(words(0, 65_535), 0xffff_0000);
+    }
 }

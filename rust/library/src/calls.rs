@@ -20,13 +20,13 @@ extern "C" {
         out: *mut u8,
         out_len: usize,
     ) -> u64;
-    fn dg_check_trace(file: *const u8, file_len: usize, sentence: *const u16, words: usize, trace: *const u16, trace_len: usize) -> u64;
-    fn dg_weigh_trace(file: *const u8, file_len: usize, sentence: *const u16, words: usize, trace: *const u16, trace_len: usize) -> u64;
-    fn dg_count(file: *const u8, file_len: usize, sentence: *const u16, words: usize, node_limit: u64, effort_limit: u64) -> u64;
+    fn dg_check_trace(file: *const u8, file_len: usize, sentence: *const u32, words: usize, trace: *const u16, trace_len: usize) -> u64;
+    fn dg_weigh_trace(file: *const u8, file_len: usize, sentence: *const u32, words: usize, trace: *const u16, trace_len: usize) -> u64;
+    fn dg_count(file: *const u8, file_len: usize, sentence: *const u32, words: usize, node_limit: u64, effort_limit: u64) -> u64;
     fn dg_entry(
         file: *const u8,
         file_len: usize,
-        sentence: *const u16,
+        sentence: *const u32,
         words: usize,
         node_limit: u64,
         effort_limit: u64,
@@ -81,19 +81,19 @@ impl Calls for Library {
         })
     }
 
-    fn check_trace(&self, file: &[u8], sentence: &[u16], trace: &[u16]) -> Answer {
+    fn check_trace(&self, file: &[u8], sentence: &[u32], trace: &[u16]) -> Answer {
         verdict(unsafe { dg_check_trace(at(file), file.len(), at(sentence), sentence.len(), at(trace), trace.len()) })
     }
 
-    fn weigh_trace(&self, file: &[u8], sentence: &[u16], trace: &[u16]) -> Answer {
+    fn weigh_trace(&self, file: &[u8], sentence: &[u32], trace: &[u16]) -> Answer {
         verdict(unsafe { dg_weigh_trace(at(file), file.len(), at(sentence), sentence.len(), at(trace), trace.len()) })
     }
 
-    fn count(&self, file: &[u8], sentence: &[u16], node_limit: u64, effort_limit: u64) -> Answer {
+    fn count(&self, file: &[u8], sentence: &[u32], node_limit: u64, effort_limit: u64) -> Answer {
         counted(unsafe { dg_count(at(file), file.len(), at(sentence), sentence.len(), node_limit, effort_limit) })
     }
 
-    fn entry(&self, file: &[u8], sentence: &[u16], node_limit: u64, effort_limit: u64, m: u64, out: &mut [u16]) -> Answer {
+    fn entry(&self, file: &[u8], sentence: &[u32], node_limit: u64, effort_limit: u64, m: u64, out: &mut [u16]) -> Answer {
         verdict(unsafe {
             dg_entry(at(file), file.len(), at(sentence), sentence.len(), node_limit, effort_limit, m, at_mut(out), out.len())
         })

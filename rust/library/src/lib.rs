@@ -9,7 +9,7 @@ mod dates;
 mod trees;
 
 pub use answer::{counted, dated, verdict};
-pub use interface::{Answer, Calls, Date, DateCalls, Heading, Refusal, TreeCalls, Whose};
+pub use interface::{word, words, Answer, Calls, Date, DateCalls, Heading, Refusal, TreeCalls, Whose};
 
 /// The proved library, or nothing where it was not there when this crate was built.
 pub fn library() -> Option<Box<dyn Calls>> {

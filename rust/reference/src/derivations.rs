@@ -3,6 +3,7 @@
 use std::rc::Rc;
 
 use crate::grammar::{Body, Grammar};
+use crate::sentence::fits;
 use crate::tree::joined;
 
 /// A tree as a list, and its yield.
@@ -14,13 +15,13 @@ struct Derived {
 
 /// The lists of all trees with at most this many nodes that derive the sentence, or nothing where looking for them takes more than
 /// `most` steps of putting trees together.
-pub fn trees_of(grammar: &Grammar, sentence: &[u16], node_limit: usize, most: usize) -> Option<Vec<Vec<u16>>> {
+pub fn trees_of(grammar: &Grammar, sentence: &[u32], node_limit: usize, most: usize) -> Option<Vec<Vec<u16>>> {
     let made = vec![vec![None; node_limit + 1]; grammar.dimensions.len()];
     let mut trees = Trees { grammar, sentence, most, made };
     let mut found = Vec::new();
     for nodes in 1..=node_limit {
         for tree in trees.of(grammar.start, nodes)?.iter() {
-            if tree.strings == [sentence] {
+            if fits(&tree.strings[0], sentence) {
                 found.push(tree.list.clone());
             }
         }
@@ -30,15 +31,15 @@ pub fn trees_of(grammar: &Grammar, sentence: &[u16], node_limit: usize, most: us
 
 struct Trees<'a> {
     grammar: &'a Grammar,
-    sentence: &'a [u16],
+    sentence: &'a [u32],
     most: usize,
     /// By category and number of nodes, as far as known.
     made: Vec<Vec<Option<Rc<Vec<Derived>>>>>,
 }
 
 impl Trees<'_> {
-    /// All trees of a category with exactly this many nodes, but for those with a string that is no part of the sentence: no tree that
-    /// derives the sentence has them in it.
+    /// All trees of a category with exactly this many nodes, but for those with a string that fits no part of the sentence: no tree
+    /// that derives the sentence has them in it.
     fn of(&mut self, category: usize, nodes: usize) -> Option<Rc<Vec<Derived>>> {
         if let Some(known) = &self.made[category][nodes] {
             return Some(known.clone());
@@ -97,7 +98,7 @@ impl Trees<'_> {
     }
 }
 
-/// Whether the string stands in the sentence, in one piece.
-fn occurs(string: &[u16], sentence: &[u16]) -> bool {
-    string.is_empty() || sentence.windows(string.len()).any(|window| window == string)
+/// Whether the string fits a part of the sentence, in one piece.
+fn occurs(string: &[u16], sentence: &[u32]) -> bool {
+    string.is_empty() || sentence.windows(string.len()).any(|window| fits(string, window))
 }

@@ -1,4 +1,4 @@
-//! Document 01 and papers 1, 3 and 4 of document 02 a second time, in plain Rust and from the documents alone: literal, simple and not
+//! Document 01 and papers 1, 3, 4 and 5 of document 02 a second time, in plain Rust and from the documents alone: literal, simple and not
 //! fast; paper 2 changes no answer. Indices are lists of digits, the queue is sorted, trees are enumerated one by one, so are the dates of
 //! four hundred years, and a rule is compared with every earlier one in every order of its daughters. The proved library is compared with
 //! it, call by call.
@@ -16,6 +16,7 @@ pub mod queue;
 pub mod record;
 pub mod reference;
 pub mod samples;
+pub mod sentence;
 pub mod survey;
 pub mod trace;
 pub mod tree;
@@ -23,5 +24,5 @@ pub mod weight;
 pub mod writer;
 
 pub use interface as calls;
-pub use interface::{Answer, Calls, Date, DateCalls, Heading, Refusal, TreeCalls, Whose};
+pub use interface::{word, words, Answer, Calls, Date, DateCalls, Heading, Refusal, TreeCalls, Whose};
 pub use reference::Reference;

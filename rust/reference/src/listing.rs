@@ -4,7 +4,7 @@ use crate::calls::Refusal;
 use crate::derivations::trees_of;
 use crate::grammar::Grammar;
 use crate::live::live_prefixes;
-use crate::trace::{test_sentence, MOST};
+use crate::sentence::{test_sentence, MOST};
 use crate::tree::tree_to_trace;
 
 /// Trees are looked for in at most this many steps. Past it the complete live prefixes are the listing; the tests show that both are
@@ -16,8 +16,8 @@ pub struct Listing {
     pub traces: Vec<Vec<u16>>,
 }
 
-/// 24, 11, 25, or the listing.
-pub fn listing(grammar: &Grammar, sentence: &[u16], node_limit: u64, effort_limit: u64) -> Result<Listing, Refusal> {
+/// 24, 11, 29, 25, or the listing.
+pub fn listing(grammar: &Grammar, sentence: &[u32], node_limit: u64, effort_limit: u64) -> Result<Listing, Refusal> {
     if !(1..=MOST as u64).contains(&node_limit) || !(1..=1_000_000_000).contains(&effort_limit) {
         return Err(Refusal::desk(24));
     }
@@ -30,7 +30,7 @@ pub fn listing(grammar: &Grammar, sentence: &[u16], node_limit: u64, effort_limi
 }
 
 /// The traces of all trees that derive the sentence, in dictionary order, or nothing where the trees are too many to look through.
-pub fn traces_of_trees(grammar: &Grammar, sentence: &[u16], node_limit: usize, most: usize) -> Option<Vec<Vec<u16>>> {
+pub fn traces_of_trees(grammar: &Grammar, sentence: &[u32], node_limit: usize, most: usize) -> Option<Vec<Vec<u16>>> {
     let trees = trees_of(grammar, sentence, node_limit, most)?;
     let traces: Result<Vec<_>, _> = trees.iter().map(|tree| tree_to_trace(grammar, sentence, tree)).collect();
     let mut traces = traces.expect("an enumerated tree derives the sentence");
@@ -38,8 +38,8 @@ pub fn traces_of_trees(grammar: &Grammar, sentence: &[u16], node_limit: usize, m
     Some(traces)
 }
 
-/// Entry m: 24, 11, 25, 26, or the trace.
-pub fn entry(grammar: &Grammar, sentence: &[u16], node_limit: u64, effort_limit: u64, m: u64) -> Result<Vec<u16>, Refusal> {
+/// Entry m: 24, 11, 29, 25, 26, or the trace.
+pub fn entry(grammar: &Grammar, sentence: &[u32], node_limit: u64, effort_limit: u64, m: u64) -> Result<Vec<u16>, Refusal> {
     let traces = listing(grammar, sentence, node_limit, effort_limit)?.traces;
     if m >= traces.len() as u64 {
         return Err(Refusal::desk(26));

@@ -11,7 +11,7 @@ pub struct Live {
 }
 
 /// All live prefixes for this node limit, or nothing where they are more than the effort limit.
-pub fn live_prefixes(grammar: &Grammar, sentence: &[u16], node_limit: usize, effort_limit: u64) -> Option<Live> {
+pub fn live_prefixes(grammar: &Grammar, sentence: &[u32], node_limit: usize, effort_limit: u64) -> Option<Live> {
     let search = Search { grammar, sentence, node_limit, effort_limit };
     let mut live = Live { effort: 0, complete: vec![] };
     if search.visit(&mut vec![], &State::start(grammar), &mut live) {
@@ -23,7 +23,7 @@ pub fn live_prefixes(grammar: &Grammar, sentence: &[u16], node_limit: usize, eff
 
 struct Search<'a> {
     grammar: &'a Grammar,
-    sentence: &'a [u16],
+    sentence: &'a [u32],
     node_limit: usize,
     effort_limit: u64,
 }

@@ -8,11 +8,22 @@
 //! ```
 //!
 //! Categories and rules are numbered as they appear, the first category is the start, a variable is one letter, a word is its number.
+//! A sentence in writing is its places in turn: 3 is word 3, 1-2 is word 1 or 2.
 
 use crate::calls::Heading;
 use crate::grammar::EMPTY_WORD;
 use crate::record::{RECORD, WEIGHT};
+use crate::sentence::{highest, lowest};
 use crate::writer::write;
+
+/// The places of a sentence, a single word as its number, any other place as lowest-highest.
+pub fn places(sentence: &[u32]) -> String {
+    let place = |&place: &u32| match (lowest(place), highest(place)) {
+        (one, other) if one == other => one.to_string(),
+        (lowest, highest) => format!("{lowest}-{highest}"),
+    };
+    sentence.iter().map(place).collect::<Vec<_>>().join(" ")
+}
 
 /// The grammar file of a text. A test that gives a wrong text stops.
 pub fn grammar_file(text: &str) -> Vec<u8> {

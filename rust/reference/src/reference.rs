@@ -4,8 +4,9 @@ use crate::calls::{Answer, Calls, Date, DateCalls, Heading, Refusal, TreeCalls};
 use crate::dates::{date_of, day_number, is_open, opening_day};
 use crate::file::read;
 use crate::listing::{entry, listing};
+use crate::sentence::MOST;
 use crate::survey::least_heights;
-use crate::trace::{check_trace, trace_to_tree, MOST};
+use crate::trace::{check_trace, trace_to_tree};
 use crate::tree::{check_tree, tree_to_trace};
 use crate::weight::{weigh_trace, weigh_tree};
 use crate::writer::write;
@@ -34,21 +35,21 @@ fn put(list: &[u16], out: &mut [u16]) -> usize {
 }
 
 impl Reference {
-    fn written_tree(&self, file: &[u8], sentence: &[u16], trace: &[u16], out: &mut [u16]) -> Result<usize, Refusal> {
+    fn written_tree(&self, file: &[u8], sentence: &[u32], trace: &[u16], out: &mut [u16]) -> Result<usize, Refusal> {
         let grammar = read(file)?;
         test_output(out)?;
         let tree = trace_to_tree(&grammar, sentence, trace)?;
         Ok(put(&tree, out))
     }
 
-    fn written_trace(&self, file: &[u8], sentence: &[u16], tree: &[u16], out: &mut [u16]) -> Result<usize, Refusal> {
+    fn written_trace(&self, file: &[u8], sentence: &[u32], tree: &[u16], out: &mut [u16]) -> Result<usize, Refusal> {
         let grammar = read(file)?;
         test_output(out)?;
         let trace = tree_to_trace(&grammar, sentence, tree)?;
         Ok(put(&trace, out))
     }
 
-    fn written_entry(&self, file: &[u8], sentence: &[u16], limits: (u64, u64), m: u64, out: &mut [u16]) -> Result<usize, Refusal> {
+    fn written_entry(&self, file: &[u8], sentence: &[u32], limits: (u64, u64), m: u64, out: &mut [u16]) -> Result<usize, Refusal> {
         let grammar = read(file)?;
         test_output(out)?;
         let trace = entry(&grammar, sentence, limits.0, limits.1, m)?;
@@ -80,22 +81,22 @@ impl Calls for Reference {
         answer(self.written_file(heading, records, out))
     }
 
-    fn check_trace(&self, file: &[u8], sentence: &[u16], trace: &[u16]) -> Answer {
+    fn check_trace(&self, file: &[u8], sentence: &[u32], trace: &[u16]) -> Answer {
         answer(read(file).and_then(|grammar| check_trace(&grammar, sentence, trace)).map(|_| trace.len()))
     }
 
-    fn weigh_trace(&self, file: &[u8], sentence: &[u16], trace: &[u16]) -> Answer {
+    fn weigh_trace(&self, file: &[u8], sentence: &[u32], trace: &[u16]) -> Answer {
         answer(read(file).and_then(|grammar| weigh_trace(&grammar, sentence, trace)))
     }
 
-    fn count(&self, file: &[u8], sentence: &[u16], node_limit: u64, effort_limit: u64) -> Answer {
+    fn count(&self, file: &[u8], sentence: &[u32], node_limit: u64, effort_limit: u64) -> Answer {
         match read(file).and_then(|grammar| listing(&grammar, sentence, node_limit, effort_limit)) {
             Ok(listing) => Answer::Counted { count: listing.traces.len() as u32, effort: listing.effort as u32 },
             Err(refusal) => Answer::Refused(refusal),
         }
     }
 
-    fn entry(&self, file: &[u8], sentence: &[u16], node_limit: u64, effort_limit: u64, m: u64, out: &mut [u16]) -> Answer {
+    fn entry(&self, file: &[u8], sentence: &[u32], node_limit: u64, effort_limit: u64, m: u64, out: &mut [u16]) -> Answer {
         answer(self.written_entry(file, sentence, (node_limit, effort_limit), m, out))
     }
 
@@ -105,19 +106,19 @@ impl Calls for Reference {
 }
 
 impl TreeCalls for Reference {
-    fn check_tree(&self, file: &[u8], sentence: &[u16], tree: &[u16]) -> Answer {
+    fn check_tree(&self, file: &[u8], sentence: &[u32], tree: &[u16]) -> Answer {
         answer(read(file).and_then(|grammar| check_tree(&grammar, sentence, tree)).map(|_| tree.len()))
     }
 
-    fn weigh_tree(&self, file: &[u8], sentence: &[u16], tree: &[u16]) -> Answer {
+    fn weigh_tree(&self, file: &[u8], sentence: &[u32], tree: &[u16]) -> Answer {
         answer(read(file).and_then(|grammar| weigh_tree(&grammar, sentence, tree)))
     }
 
-    fn trace_to_tree(&self, file: &[u8], sentence: &[u16], trace: &[u16], out: &mut [u16]) -> Answer {
+    fn trace_to_tree(&self, file: &[u8], sentence: &[u32], trace: &[u16], out: &mut [u16]) -> Answer {
         answer(self.written_tree(file, sentence, trace, out))
     }
 
-    fn tree_to_trace(&self, file: &[u8], sentence: &[u16], tree: &[u16], out: &mut [u16]) -> Answer {
+    fn tree_to_trace(&self, file: &[u8], sentence: &[u32], tree: &[u16], out: &mut [u16]) -> Answer {
         answer(self.written_trace(file, sentence, tree, out))
     }
 }

@@ -77,5 +77,18 @@ A <- 0
 A <- 1
 ";
 
+/// Singular and plural that agree: the, dog, dogs, barks, bark, as words 0 to 4. An unclear ending leaves open which it is.
+pub const AGREEMENT: &str = "
+S(xy) <- NS(x) VS(y)
+S(xy) <- NP(x) VP(y)
+NS(xy) <- D(x) CS(y)
+NP(xy) <- D(x) CP(y)
+D <- 0
+CS <- 1
+CP <- 2
+VS <- 3
+VP <- 4
+";
+
 /// Small grammars with several analyses, empty words, empty components and components out of order.
 pub const SMALL: [&str; 8] = [COPY, PAIR, CROSSING, CHAIN, SILENT, SWAPPED, SHUFFLED, TWELVE];

@@ -1,13 +1,11 @@
-//! The trace checker: refusals 11 to 18, and the tree that belongs to an accepted trace.
+//! The trace checker: refusals 11, 29 and 12 to 18, and the tree that belongs to an accepted trace.
 
 use std::collections::BTreeMap;
 
 use crate::calls::Refusal;
 use crate::grammar::{Body, Grammar};
 use crate::queue::{apply, start, Address, Prediction};
-
-/// The longest sentence, trace and tree, and the highest node limit.
-pub const MOST: usize = 96;
+use crate::sentence::{takes, test_sentence, MOST};
 
 /// Where the recognizer stands: the queue, and how many words are read.
 #[derive(Clone, Debug)]
@@ -22,17 +20,6 @@ impl State {
     }
 }
 
-/// 11: over 96 words, or no such word.
-pub fn test_sentence(grammar: &Grammar, sentence: &[u16]) -> Result<(), Refusal> {
-    if sentence.len() > MOST {
-        return Err(Refusal::analysis(11, MOST));
-    }
-    match sentence.iter().position(|&word| word as usize >= grammar.words) {
-        Some(place) => Err(Refusal::analysis(11, place)),
-        None => Ok(()),
-    }
-}
-
 /// 12: a trace or tree over 96.
 pub fn test_length(list: &[u16]) -> Result<(), Refusal> {
     if list.len() > MOST {
@@ -42,7 +29,7 @@ pub fn test_length(list: &[u16]) -> Result<(), Refusal> {
 }
 
 /// Step k with this rule: 13 to 16, or the state after it.
-pub fn step(grammar: &Grammar, sentence: &[u16], state: &State, rule: u16, k: usize) -> Result<State, Refusal> {
+pub fn step(grammar: &Grammar, sentence: &[u32], state: &State, rule: u16, k: usize) -> Result<State, Refusal> {
     let Some(applied) = grammar.rules.get(rule as usize) else {
         return Err(Refusal::analysis(13, k));
     };
@@ -54,7 +41,7 @@ pub fn step(grammar: &Grammar, sentence: &[u16], state: &State, rule: u16, k: us
     }
     let mut read = state.read;
     if let Body::Lexical(Some(word)) = applied.body {
-        if sentence.get(read) != Some(&word) {
+        if !sentence.get(read).is_some_and(|&place| takes(place, word)) {
             return Err(Refusal::analysis(16, k));
         }
         read += 1;
@@ -62,8 +49,8 @@ pub fn step(grammar: &Grammar, sentence: &[u16], state: &State, rule: u16, k: us
     Ok(State { queue: apply(grammar, &state.queue, applied), read })
 }
 
-/// Runs the whole trace: 11 to 18, or the nodes of its tree with their rules.
-pub fn check_trace(grammar: &Grammar, sentence: &[u16], trace: &[u16]) -> Result<BTreeMap<Address, u16>, Refusal> {
+/// Runs the whole trace: 11, 29, 12 to 18, or the nodes of its tree with their rules.
+pub fn check_trace(grammar: &Grammar, sentence: &[u32], trace: &[u16]) -> Result<BTreeMap<Address, u16>, Refusal> {
     test_sentence(grammar, sentence)?;
     test_length(trace)?;
     let n = trace.len();
@@ -88,7 +75,7 @@ pub fn check_trace(grammar: &Grammar, sentence: &[u16], trace: &[u16]) -> Result
 
 /// The list of the tree that belongs to an accepted trace. In the order of addresses a parent stands before its daughters, and the
 /// daughters in rule order.
-pub fn trace_to_tree(grammar: &Grammar, sentence: &[u16], trace: &[u16]) -> Result<Vec<u16>, Refusal> {
+pub fn trace_to_tree(grammar: &Grammar, sentence: &[u32], trace: &[u16]) -> Result<Vec<u16>, Refusal> {
     let nodes = check_trace(grammar, sentence, trace)?;
     Ok(nodes.into_values().collect())
 }

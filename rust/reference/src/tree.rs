@@ -1,9 +1,10 @@
-//! The tree checker: refusals 11 to 13 and 19 to 22, yields, and the trace that belongs to an accepted tree.
+//! The tree checker: refusals 11, 29, 12, 13 and 19 to 22, yields, and the trace that belongs to an accepted tree.
 
 use crate::calls::Refusal;
 use crate::grammar::{Body, Grammar, Rule};
 use crate::queue::{apply, start};
-use crate::trace::{test_length, test_sentence};
+use crate::sentence::{fits, test_sentence};
+use crate::trace::test_length;
 
 #[derive(Clone, Debug, PartialEq, Eq)]
 pub struct Tree {
@@ -56,22 +57,22 @@ pub fn joined(rule: &Rule, daughters: &[Vec<Vec<u16>>]) -> Vec<Vec<u16>> {
     }
 }
 
-/// The tree of the list, which derives the sentence: or 11, 12, 19, 13, 20, 21, 22.
-pub fn check_tree(grammar: &Grammar, sentence: &[u16], list: &[u16]) -> Result<Tree, Refusal> {
+/// The tree of the list, which derives the sentence: or 11, 29, 12, 19, 13, 20, 21, 22.
+pub fn check_tree(grammar: &Grammar, sentence: &[u32], list: &[u16]) -> Result<Tree, Refusal> {
     test_sentence(grammar, sentence)?;
     test_length(list)?;
     let (tree, after) = read_node(grammar, list, 0, grammar.start)?;
     if after != list.len() {
         return Err(Refusal::analysis(21, after));
     }
-    if yield_of(grammar, &tree) != [sentence] {
+    if !fits(&yield_of(grammar, &tree)[0], sentence) {
         return Err(Refusal::analysis(22, 0));
     }
     Ok(tree)
 }
 
 /// The trace that belongs to an accepted tree.
-pub fn tree_to_trace(grammar: &Grammar, sentence: &[u16], list: &[u16]) -> Result<Vec<u16>, Refusal> {
+pub fn tree_to_trace(grammar: &Grammar, sentence: &[u32], list: &[u16]) -> Result<Vec<u16>, Refusal> {
     let tree = check_tree(grammar, sentence, list)?;
     Ok(trace_of(grammar, &tree))
 }

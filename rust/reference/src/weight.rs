@@ -7,13 +7,13 @@ use crate::trace::check_trace;
 use crate::tree::{check_tree, Tree};
 
 /// The trace checker's refusal, or the sum taken along the trace.
-pub fn weigh_trace(grammar: &Grammar, sentence: &[u16], trace: &[u16]) -> Result<usize, Refusal> {
+pub fn weigh_trace(grammar: &Grammar, sentence: &[u32], trace: &[u16]) -> Result<usize, Refusal> {
     check_trace(grammar, sentence, trace)?;
     Ok(trace.iter().map(|&rule| weight_of(grammar, rule)).sum())
 }
 
 /// The tree checker's refusal, or the sum taken along the tree.
-pub fn weigh_tree(grammar: &Grammar, sentence: &[u16], list: &[u16]) -> Result<usize, Refusal> {
+pub fn weigh_tree(grammar: &Grammar, sentence: &[u32], list: &[u16]) -> Result<usize, Refusal> {
     let tree = check_tree(grammar, sentence, list)?;
     Ok(sum_from(grammar, &tree))
 }

@@ -6,6 +6,7 @@ use reference::grammar::{Body, Rule};
 use reference::notation::{grammar_file, parts, put_weights};
 use reference::record::{read_records, Record, Setting, RECORD};
 use reference::samples::PAIR;
+use reference::sentence::single_words;
 use reference::tree::joined;
 use reference::writer::file_of;
 use reference::{Answer, Calls, Heading, Reference, Refusal, TreeCalls};
@@ -310,7 +311,7 @@ fn makes_the_same_strings(one: &Rule, other: &Rule) -> bool {
 fn every_call_is_refused() {
     let (heading, records) = parts(&[PAIR.trim(), "\nS(yx) <- S(x) S(y)"].concat());
     let file = file_of(&heading, &records);
-    let (sentence, list) = (&[0, 0], &[0, 1, 1]);
+    let (sentence, list) = (&single_words(&[0, 0]), &[0, 1, 1]);
     let mut out = [7; 96];
     assert_eq!(Reference.check_trace(&grammar_file(PAIR), sentence, list), Answer::Accepted(3));
     assert_eq!(Reference.check_trace(&file, sentence, list), refused(10, 2));
@@ -319,7 +320,7 @@ fn every_call_is_refused() {
     assert_eq!(Reference.weigh_tree(&file, sentence, list), refused(10, 2));
     assert_eq!(Reference.trace_to_tree(&file, sentence, list, &mut out), refused(10, 2));
     assert_eq!(Reference.tree_to_trace(&file, sentence, list, &mut out[..3]), refused(10, 2));
-    assert_eq!(Reference.count(&file, &[9], 0, 0), refused(10, 2));
+    assert_eq!(Reference.count(&file, &single_words(&[9]), 0, 0), refused(10, 2));
     assert_eq!(Reference.entry(&file, sentence, 3, 100, 0, &mut out), refused(10, 2));
     assert_eq!(Reference.survey(&file, &mut out), refused(10, 2));
     assert_eq!(out, [7; 96]);

@@ -1,10 +1,11 @@
 //! Every refusal of document 01 at least once, with its place and whose it is, as paper 1 of document 02 has them; `doubles.rs` has 10 as
-//! paper 4 has it.
+//! paper 4 has it, `unclear.rs` 11 as paper 5 has it.
 
 use reference::file::{check, BLOCK};
 use reference::notation::{grammar_file, parts, weighted_file};
 use reference::program::{output, sentence_file};
 use reference::samples::{COPY, PAIR};
+use reference::sentence::single_words;
 use reference::{Answer, Calls, Reference, Refusal, TreeCalls};
 
 fn grammar(number: u8, place: usize) -> Answer {
@@ -173,7 +174,7 @@ fn refusal_10_equal_records() {
 #[test]
 fn the_grammar_comes_first() {
     let file = with_bytes(COPY, &[(2, 2)]);
-    let sentence = [9; 200];
+    let sentence = single_words(&[9; 200]);
     let mut out = [7; 200];
     assert_eq!(Reference.check_trace(&file, &sentence, &[]), grammar(3, 0));
     assert_eq!(Reference.check_tree(&file, &sentence, &[]), grammar(3, 0));
@@ -191,19 +192,20 @@ fn the_grammar_comes_first() {
 fn refusal_11_sentence() {
     let file = grammar_file(COPY);
     for check in [Reference::check_trace, Reference::weigh_trace, Reference::check_tree, Reference::weigh_tree] {
-        assert_eq!(check(&Reference, &file, &[9; 97], &[0; 97]), analysis(11, 96));
-        assert_eq!(check(&Reference, &file, &[0, 1, 2, 3], &[0; 97]), analysis(11, 2));
-        assert_eq!(check(&Reference, &file, &[0, 65_535], &[]), analysis(11, 1));
+        assert_eq!(check(&Reference, &file, &single_words(&[9; 97]), &[0; 97]), analysis(11, 96));
+        assert_eq!(check(&Reference, &file, &single_words(&[0, 1, 2, 3]), &[0; 97]), analysis(11, 2));
+        assert_eq!(check(&Reference, &file, &single_words(&[0, 65_535]), &[]), analysis(11, 1));
     }
-    assert_eq!(Reference.count(&file, &[2], 1, 1), analysis(11, 0));
+    assert_eq!(Reference.count(&file, &single_words(&[2]), 1, 1), analysis(11, 0));
 }
 
 #[test]
 fn refusals_12_to_18_trace() {
     let file = weighted_file(COPY, &[3; 7]);
-    let check = |sentence: &[u16], trace: &[u16]| {
-        let refused = Reference.check_trace(&file, sentence, trace);
-        assert_eq!(Reference.weigh_trace(&file, sentence, trace), refused);
+    let check = |words: &[u16], trace: &[u16]| {
+        let sentence = single_words(words);
+        let refused = Reference.check_trace(&file, &sentence, trace);
+        assert_eq!(Reference.weigh_trace(&file, &sentence, trace), refused);
         refused
     };
     assert_eq!(check(&[], &[9; 97]), analysis(12, 0));
@@ -224,9 +226,10 @@ fn refusals_12_to_18_trace() {
 #[test]
 fn refusals_12_to_22_tree() {
     let file = weighted_file(COPY, &[3; 7]);
-    let check = |sentence: &[u16], tree: &[u16]| {
-        let refused = Reference.check_tree(&file, sentence, tree);
-        assert_eq!(Reference.weigh_tree(&file, sentence, tree), refused);
+    let check = |words: &[u16], tree: &[u16]| {
+        let sentence = single_words(words);
+        let refused = Reference.check_tree(&file, &sentence, tree);
+        assert_eq!(Reference.weigh_tree(&file, &sentence, tree), refused);
         refused
     };
     assert_eq!(check(&[], &[9; 97]), analysis(12, 0));
@@ -243,9 +246,9 @@ fn refusals_12_to_22_tree() {
 fn refusal_23_output() {
     let file = grammar_file(COPY);
     let mut out = [7; 95];
-    assert_eq!(Reference.trace_to_tree(&file, &[9], &[], &mut out), desk(23));
-    assert_eq!(Reference.tree_to_trace(&file, &[9], &[], &mut out), desk(23));
-    assert_eq!(Reference.entry(&file, &[9], 0, 0, 0, &mut out), desk(23));
+    assert_eq!(Reference.trace_to_tree(&file, &single_words(&[9]), &[], &mut out), desk(23));
+    assert_eq!(Reference.tree_to_trace(&file, &single_words(&[9]), &[], &mut out), desk(23));
+    assert_eq!(Reference.entry(&file, &single_words(&[9]), 0, 0, 0, &mut out), desk(23));
     assert_eq!(Reference.survey(&file, &mut out), desk(23));
     assert_eq!(out, [7; 95]);
 }
@@ -254,9 +257,9 @@ fn refusal_23_output() {
 fn refusals_24_to_26_count_and_entry() {
     let file = grammar_file(PAIR);
     for (node_limit, effort_limit) in [(0, 9), (97, 9), (1 << 32, 9), (5, 0), (5, 1_000_000_001), (5, u64::MAX)] {
-        assert_eq!(Reference.count(&file, &[9], node_limit, effort_limit), desk(24));
+        assert_eq!(Reference.count(&file, &single_words(&[9]), node_limit, effort_limit), desk(24));
     }
-    let sentence = [0, 0, 0];
+    let sentence = single_words(&[0, 0, 0]);
     let mut out = [7; 97];
     assert_eq!(Reference.count(&file, &sentence, 5, 11), desk(25));
     assert_eq!(Reference.entry(&file, &sentence, 5, 11, 9, &mut out), desk(25));

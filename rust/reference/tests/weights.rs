@@ -3,6 +3,7 @@
 use reference::notation::{grammar_file, parts, put_weights, weighted_file};
 use reference::record::{RECORD, WEIGHT};
 use reference::samples::{CHAIN, COPY, SMALL};
+use reference::sentence::single_words;
 use reference::{Answer, Calls, Reference, TreeCalls};
 
 #[test]
@@ -15,8 +16,8 @@ fn every_weight_on_every_rule() {
             assert_eq!(Reference.read_grammar(&file), Answer::Accepted(7));
             // the trace and the tree of K3 and K4: rules 5 and 6 twice, rules 0, 1 and 4 once, rules 2 and 3 not at all
             let sum = Answer::Accepted([1, 1, 0, 0, 1, 2, 2][r] * weight as u32);
-            assert_eq!(Reference.weigh_trace(&file, &[0, 1, 0, 1], &[0, 1, 5, 4, 6, 5, 6]), sum);
-            assert_eq!(Reference.weigh_tree(&file, &[0, 1, 0, 1], &[0, 1, 5, 4, 6, 6, 5]), sum);
+            assert_eq!(Reference.weigh_trace(&file, &single_words(&[0, 1, 0, 1]), &[0, 1, 5, 4, 6, 5, 6]), sum);
+            assert_eq!(Reference.weigh_tree(&file, &single_words(&[0, 1, 0, 1]), &[0, 1, 5, 4, 6, 6, 5]), sum);
         }
     }
 }
@@ -29,8 +30,8 @@ fn weights_in_every_block() {
     let file = weighted_file(&text, &weights);
     for r in 0..256 {
         let sum = Answer::Accepted(255 - r as u32);
-        assert_eq!(Reference.weigh_trace(&file, &[r], &[r]), sum);
-        assert_eq!(Reference.weigh_tree(&file, &[r], &[r]), sum);
+        assert_eq!(Reference.weigh_trace(&file, &single_words(&[r]), &[r]), sum);
+        assert_eq!(Reference.weigh_tree(&file, &single_words(&[r]), &[r]), sum);
     }
 }
 
@@ -38,15 +39,15 @@ fn weights_in_every_block() {
 fn sums_of_the_copy_grammar() {
     let file = weighted_file(COPY, &[1, 10, 20, 40, 80, 160, 255]);
     // 1 + 10 + 160 + 80 + 255 + 160 + 255
-    assert_eq!(Reference.weigh_trace(&file, &[0, 1, 0, 1], &[0, 1, 5, 4, 6, 5, 6]), Answer::Accepted(921));
+    assert_eq!(Reference.weigh_trace(&file, &single_words(&[0, 1, 0, 1]), &[0, 1, 5, 4, 6, 5, 6]), Answer::Accepted(921));
     // 1 + 10 + 160 + 80 + 255 + 255 + 160
-    assert_eq!(Reference.weigh_tree(&file, &[0, 1, 0, 1], &[0, 1, 5, 4, 6, 6, 5]), Answer::Accepted(921));
+    assert_eq!(Reference.weigh_tree(&file, &single_words(&[0, 1, 0, 1]), &[0, 1, 5, 4, 6, 6, 5]), Answer::Accepted(921));
     // 1 + 40 + 160 + 160
-    assert_eq!(Reference.weigh_trace(&file, &[0, 0], &[0, 3, 5, 5]), Answer::Accepted(361));
-    assert_eq!(Reference.weigh_tree(&file, &[0, 0], &[0, 3, 5, 5]), Answer::Accepted(361));
+    assert_eq!(Reference.weigh_trace(&file, &single_words(&[0, 0]), &[0, 3, 5, 5]), Answer::Accepted(361));
+    assert_eq!(Reference.weigh_tree(&file, &single_words(&[0, 0]), &[0, 3, 5, 5]), Answer::Accepted(361));
     // 1 + 20 + 255 + 80 + 255 + 255 + 255
-    assert_eq!(Reference.weigh_trace(&file, &[1, 1, 1, 1], &[0, 2, 6, 4, 6, 6, 6]), Answer::Accepted(1121));
-    assert_eq!(Reference.weigh_tree(&file, &[1, 1, 1, 1], &[0, 2, 6, 4, 6, 6, 6]), Answer::Accepted(1121));
+    assert_eq!(Reference.weigh_trace(&file, &single_words(&[1, 1, 1, 1]), &[0, 2, 6, 4, 6, 6, 6]), Answer::Accepted(1121));
+    assert_eq!(Reference.weigh_tree(&file, &single_words(&[1, 1, 1, 1]), &[0, 2, 6, 4, 6, 6, 6]), Answer::Accepted(1121));
 }
 
 /// 96 times 255: the longest analysis with the highest weights.
@@ -55,15 +56,15 @@ fn the_highest_sum() {
     let file = weighted_file(CHAIN, &[255; 4]);
     let mut list = [0; 96];
     list[95] = 2;
-    assert_eq!(Reference.weigh_trace(&file, &[0], &list), Answer::Accepted(24_480));
-    assert_eq!(Reference.weigh_tree(&file, &[0], &list), Answer::Accepted(24_480));
+    assert_eq!(Reference.weigh_trace(&file, &single_words(&[0]), &list), Answer::Accepted(24_480));
+    assert_eq!(Reference.weigh_tree(&file, &single_words(&[0]), &list), Answer::Accepted(24_480));
 }
 
 #[test]
 fn no_weights_no_sum() {
     let file = grammar_file(COPY);
-    assert_eq!(Reference.weigh_trace(&file, &[0, 1, 0, 1], &[0, 1, 5, 4, 6, 5, 6]), Answer::Accepted(0));
-    assert_eq!(Reference.weigh_tree(&file, &[0, 1, 0, 1], &[0, 1, 5, 4, 6, 6, 5]), Answer::Accepted(0));
+    assert_eq!(Reference.weigh_trace(&file, &single_words(&[0, 1, 0, 1]), &[0, 1, 5, 4, 6, 5, 6]), Answer::Accepted(0));
+    assert_eq!(Reference.weigh_tree(&file, &single_words(&[0, 1, 0, 1]), &[0, 1, 5, 4, 6, 6, 5]), Answer::Accepted(0));
 }
 
 /// The writer takes byte 23 as it is, and nothing else of the file changes but the checks.
@@ -81,7 +82,7 @@ fn weights_are_written() {
 }
 
 /// What every call but the weighing ones answers and writes for this file.
-fn other_answers(file: &[u8], sentence: &[u16], list: &[u16]) -> (Vec<Answer>, [[u16; 96]; 4]) {
+fn other_answers(file: &[u8], sentence: &[u32], list: &[u16]) -> (Vec<Answer>, [[u16; 96]; 4]) {
     let mut out = [[7; 96]; 4];
     let answers = vec![
         Reference.read_grammar(file),
@@ -102,11 +103,11 @@ fn weights_change_no_other_answer() {
         let without = grammar_file(text);
         for weights in [[1; 12], [255; 12], [0, 9, 0, 80, 3, 255, 0, 0, 7, 1, 1, 2]] {
             let with = weighted_file(text, &weights);
-            for sentence in [&[][..], &[0], &[0, 0], &[0, 1, 0, 1], &[9]] {
+            for sentence in [&[][..], &[0], &[0, 0], &[0, 1, 0, 1], &[9]].map(single_words) {
                 for list in [&[][..], &[1], &[2], &[0, 3, 5, 5], &[0, 1, 1], &[0, 1, 5, 4, 6, 5, 6], &[0, 1, 5, 4, 6, 6, 5]] {
                     assert_eq!(
-                        other_answers(&with, sentence, list),
-                        other_answers(&without, sentence, list),
+                        other_answers(&with, &sentence, list),
+                        other_answers(&without, &sentence, list),
                         "{text} {sentence:?} {list:?}"
                     );
                 }
