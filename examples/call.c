@@ -1,6 +1,6 @@
 /* Counts and lists the analyses of the sentence in the folder DIR by the grammar there, through the C interface. Prints count and effort, then one trace a
- * line; or R with the number and the place of the refusal. With places after DIR, it takes these in place of the sentence's words: a place is a word, or the
- * lowest and the highest that may have been said.
+ * line; or R with the number and the place of the refusal. With places after DIR, it takes these in place of the sentence's words, with the node limit of its
+ * file: a place is a word, or the lowest and the highest that may have been said.
  *
  *     cc -Iinclude examples/call.c target/staticlib/libdowngrater.a -o call && ./call examples/pair
  *     ./call examples/unclear 0 1-2 3-4 */

@@ -1,6 +1,6 @@
 //! Counts and lists the analyses of the sentence in the folder DIR by the grammar there, through libdowngrater. Prints count and effort, then one trace a
-//! line; or R with the number and the place of the refusal. Places after DIR stand for words heard unclearly and take the place of the sentence's words, with
-//! its node limit: 3 is word 3, 1-2 is word 1 or 2.
+//! line; or R with the number and the place of the refusal. With places after DIR, it takes these in place of the sentence's words, with the node limit of its
+//! file: a place is a word, or the lowest and the highest that may have been said.
 //!
 //!     cd rust && cargo run --release -p downgrater --example call -- ../examples/pair
 //!     cd rust && cargo run --release -p downgrater --example call -- ../examples/unclear 0 1-2 3-4

@@ -25,7 +25,8 @@ extern "C" {
 #endif
 
 /* A sentence is a list of places, as many as `words` says, each a number of 32 bits: the lowest word that may stand there in the lower 16 bits and the highest in
- * the upper 16, both included. Where a word is heard clearly the two are the same (dg_word, below). */
+ * the upper 16, both included. Where a word is heard clearly the two are the same (dg_word, below). An end that is no word of the grammar is refused with 11,
+ * and then a lowest word above the highest with 29, at the place. C cuts a number to 16 bits before dg_word or dg_words is given it. */
 
 /* The reader; its value is the number of rules. */
 uint64_t dg_read_grammar(const uint8_t *file, size_t file_len);

@@ -76,6 +76,6 @@ pub record TreeSays (g : Grammar) (sentence list after : List ℕ) (v : Verdict)
   pub answer : v ≡ verdict (treeRefusal g sentence list) (length list)
   pub stored : treeRefusal g sentence list ≡ none → (length after ≡ 96) × (take (length list) after ≡ traceOf g sentence list)
 
--- the tests of a conversion before those of its input: the grammar, 23, 11
+-- the tests of a conversion before those of its input: the grammar, 23, 11 and 29
 abbrev pub beforeInput : List ℕ → List ℕ → List ℕ → Option Refusal
 beforeInput file sentence out = grammarRefusal file orElse roomRefusal out orElse sentenceRefusal (grammarOf file) sentence

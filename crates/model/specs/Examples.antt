@@ -164,8 +164,8 @@ wideComponent =
     verdictAnswer (checkTraceVerdict wideFile (singles (0 ∷ 1 ∷ 2 ∷ [])) (0 ∷ 1 ∷ 4 ∷ 2 ∷ 5 ∷ 3 ∷ 6 ∷ [])) is values (7 ∷ [])
     ∷ []
 
--- words heard unclearly (document 02, paper 5), with the copy grammar, whose words are 0 and 1: K3 and the tree of K4 where the second word is 0 or 1, and where it
--- is 0; four words of which nothing is clear; either end that is no word, lowest above highest, over 96 places, and
+-- words heard unclearly (document 02, paper 5), with the copy grammar, whose words are 0 and 1: K3 and the tree of K4 where the second word is 0 or 1; that tree where
+-- it is 0; four words of which nothing is clear; either end that is no word, lowest above highest, over 96 places, and
 -- their order
 abbrev pub unclearWords : List Claim
 unclearWords =

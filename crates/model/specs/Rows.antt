@@ -50,7 +50,7 @@ expandSlot rule made front s = if eqb (s .owner) front then block rule made (s .
 abbrev pub expandRow : Rule → ℕ → ℕ → List Slot → List Slot
 expandRow rule made front row = each (expandSlot rule made front) row
 
--- the word must be the next one
+-- the word must be the next one, which it is where it fits the next place
 abbrev pub readWordRow : ℕ → List Slot → ℕ → ℕ → List ℕ → RowOutcome
 readWordRow w row made pending [] = halts 16
 readWordRow w row made pending (x ∷ xs) = if wordFits w x then moves (record { row = row; made = made; pending = pending; words = xs }) else halts 16

@@ -1,8 +1,8 @@
 -- Grammar files from before the weights: "All files accepted before have weight 0 and keep their verdicts." (document 02, paper 1); "An older file with such
--- a double loses the verdicts that paper 1 left it." (paper 4). Paper 1 changes refusals 9 and 10 and gives rules a weight, paper 4 changes refusal 10; every
--- other definition is as it was. So what a call answered before is its definition over the refusals as they were (`grammarRefusalBefore`) and over rules without
+-- a double loses the verdicts that paper 1 left it." (paper 4). Paper 1 changes refusals 9 and 10 and gives rules a weight, paper 4 changes refusal 10; they
+-- change no other definition. So what a call answered before is its definition over the refusals as they were (`grammarRefusalBefore`) and over rules without
 -- weights (`grammarBefore`). Sentences are those of paper 5; that on single words these definitions are what they were before it, for every grammar and so for
--- `grammarBefore`, is said in the crate `singles`.
+-- `grammarBefore`, is proved in the crate `singles` (`single-words`, `parts`).
 -- Assumes nothing.
 use mathlib.Core.Path.{_≡_}
 use mathlib.Core.Logic.{_⊎_}

@@ -44,7 +44,7 @@ pub fn single_word(word: Word) -> u32
     place_with(Word(word.0), Word(word.0))
 }
 
-// Whether a rule's word takes a place of the sentence: it lies between the ends of the place.
+// Whether a rule's word takes a place of the sentence: it lies between the ends of the place, ends included.
 pub fn fits(word: Word, place: u32) -> bool
     ensures { λ b. ⌜ b ≡ wordFits (word .0) place ⌝ }
 {
@@ -90,7 +90,7 @@ fn place_refusal(words: u16, k: u16, place: u32) -> Tested
     Tested::Passed
 }
 
-// Tests the sentence.
+// Tests the sentence: over 96 places, and then place by place.
 pub fn sentence_refusal(file: &[u8], sentence: &[u32]) -> Tested
     ensures { λ t. ⌜ t ≡ tested (sentenceRefusal (grammarOf (now (file .entry))) (now (sentence .entry))) ⌝ }
 {

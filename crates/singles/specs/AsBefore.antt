@@ -24,7 +24,7 @@ Below n list = (k : ℕ) → getD list k 0 < n
 abbrev pub Words : List ℕ → Type 0
 Words ws = Below 65536 ws
 
--- for every grammar, also one that no file holds today: what each call asks of a grammar and a sentence
+-- for every grammar, also one that no accepted file holds: what each call asks of a grammar and a sentence
 pub record PartsAsBefore (g : Grammar) (ws : List ℕ) : Type 0 where
   pub refused : sentenceRefusal g (singles ws) ≡ before.sentenceRefusal g ws
   pub trace-refused : (trace : List ℕ) → traceRefusal g (singles ws) trace ≡ before.traceRefusal g ws trace

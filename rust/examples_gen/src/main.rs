@@ -1,5 +1,5 @@
 //! Writes the folders of `examples/` at the top of the repository, each with the files `grammar` and `sentence`, with `expected`, which is
-//! what the program prints for them, and with a line in `README` that says what one sees. A folder with words heard unclearly also has the
+//! what the program prints for them, and with a `README` that says what one sees. A folder with words heard unclearly also has the
 //! file `heard` with its places in writing, and `expected_heard`, which is what `call` prints for them.
 
 use std::path::{Path, PathBuf};

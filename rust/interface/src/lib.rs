@@ -75,7 +75,7 @@ pub fn words(lowest: u16, highest: u16) -> u32 {
     (highest as u32) << 16 | lowest as u32
 }
 
-/// The public calls. A sentence is a row of places. A refused call changes no buffer, and an accepted one nothing past the last entry that
+/// The public calls. A sentence is a list of places. A refused call changes no buffer, and an accepted one nothing past the last entry that
 /// it writes.
 pub trait Calls: TreeCalls + DateCalls {
     fn read_grammar(&self, file: &[u8]) -> Answer;

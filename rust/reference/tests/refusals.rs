@@ -1,5 +1,5 @@
 //! Every refusal of document 01 at least once, with its place and whose it is, as paper 1 of document 02 has them; `doubles.rs` has 10 as
-//! paper 4 has it, `unclear.rs` 11 as paper 5 has it.
+//! paper 4 has it, `unclear.rs` 11 and 29 as paper 5 has them.
 
 use reference::file::{check, BLOCK};
 use reference::notation::{grammar_file, parts, weighted_file};
