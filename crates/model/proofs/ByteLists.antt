@@ -5,10 +5,10 @@ use mathlib.Core.List.{List, [], _∷_, _++_}
 use Prim.Native.Nat.{ℕ, zero, suc, _+_, _-_, _*_, _/_, _%_, _<_, _≤_}
 use native.Mathlib.Nat.{mul-le-mul-left}
 use native.Mathlib.Omega.{arith}
-use native.Mathlib.Decide.{decLt}
+use native.Mathlib.Decide.{decLt, ℕ-discrete}
 use lib.Dec.{T, ltb, eqb, eqb→eq, ltb→lt, lt→ltb}
-use lib.ListN.{length, getD, replicate, length-append, length-take, length-drop, length-replicate, List·getD-append, List·getD-eq-default}
-use lib.Seq.{getD-take, getD-drop, getD-append-add, ext-getD}
+use lib.ListN.{length, getD, set, replicate, length-append, length-take, length-drop, length-replicate, List·getD-append, List·getD-eq-default}
+use lib.Seq.{getD-take, getD-drop, getD-append-add, ext-getD, getD-set-same, getD-set-other}
 use Rattle.model.specs.Base.{each, numbersFrom}
 use Rattle.model.specs.GrammarFile.{fields, weighted, allZero}
 use Rattle.model.specs.Writer.{allBytes, little2, little4, padded}
@@ -159,3 +159,11 @@ four-again a b c d n ha hb hc hd e =
     let high : n / 65536 ≡ c + 256 * d = omega arith in
     let x = two-again c d (n / 65536) hc hd (sym high) in
     cc (low .0, low .1, x .0, x .1)
+
+-- a list filled by what f gives, one byte further
+pub filled-more : (f : ℕ → ℕ) (out : List ℕ) (p v : ℕ) → p < length out → v ≡ f p → ((q : ℕ) → q < p → getD out q 0 ≡ f q) → (q : ℕ) → q < p + 1 → getD (set out p v) q 0 ≡ f q
+filled-more f out p v h e before q l = go (ℕ-discrete q p)
+  where
+    go : Dec (q ≡ p) → getD (set out p v) q 0 ≡ f q
+    go (yes s) = ap (λ (x : ℕ). getD (set out p v) x 0) s ∙ getD-set-same out p v 0 h ∙ e ∙ ap f (sym s)
+    go (no d) = getD-set-other out p q v 0 d ∙ before q (omega arith)

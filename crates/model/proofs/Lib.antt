@@ -52,5 +52,6 @@ pub mod WriterAgain
 pub mod WriterBack
 pub mod WriterHeading
 pub mod Verdicts
+pub mod TestLoops
 pub mod Room
 pub mod Refusals

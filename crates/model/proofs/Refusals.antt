@@ -151,7 +151,7 @@ count-by (some r) c e = refl
 pub by-tests : (ts : List Test) (o : Option Refusal) (n : ℕ) → firstMet ts ≡ o → Decided ts (n ∷ []) (verdictAnswer (verdict o n))
 by-tests ts o n e = subst (Decided ts (n ∷ [])) (verdict-by o n) (decided ts (n ∷ []) o e)
 
-wrote : (ts : List Test) (o : Option Refusal) (list out : List ℕ) → firstMet ts ≡ o → (o ≡ none → length list ≤ length out) → Wrote ts list out (written o list out)
+pub wrote : (ts : List Test) (o : Option Refusal) (list out : List ℕ) → firstMet ts ≡ o → (o ≡ none → length list ≤ length out) → Wrote ts list out (written o list out)
 wrote ts none list out e room = record { as-it-was = λ a n p f. none-some (sym (first-some ts a n p f) ∙ e); written = λ h. refl; fits = λ h. room refl }
 wrote ts (some r) list out e room =
     record { as-it-was = λ a n p f. refl; written = λ h. none-some (sym e ∙ none-met ts h); fits = λ h. none-some (sym e ∙ none-met ts h) }
@@ -177,7 +177,7 @@ alone : (b : Bool) (r : Refusal) → refuseIf b r orElse none ≡ refuseIf b r
 alone true r = refl
 alone false r = refl
 
-grammar-one : (n p : ℕ) (b : Bool) → Gives (ofGrammar n p b ∷ []) (refuseIf b (Refusal.Grammar n p))
+pub grammar-one : (n p : ℕ) (b : Bool) → Gives (ofGrammar n p b ∷ []) (refuseIf b (Refusal.Grammar n p))
 grammar-one n p b = record { first = alone b (Refusal.Grammar n p) }
 
 analysis-one : (n p : ℕ) (b : Bool) → Gives (ofAnalysis n p b ∷ []) (refuseIf b (Refusal.Analysis n p))
@@ -191,7 +191,7 @@ from-map : (n : ℕ) (test : ℕ → Bool) (from count : ℕ)
 from-map n test from zero = refl
 from-map n test from (suc count) = ap (λ (o : Option Refusal). refuseIf (test from) (Refusal.Grammar n from) orElse o) (from-map n test (suc from) count)
 
-grammar-each : (n : ℕ) (test : ℕ → Bool) (from count : ℕ)
+pub grammar-each : (n : ℕ) (test : ℕ → Bool) (from count : ℕ)
     → Gives (map (λ k. ofGrammar n k (test k)) (numbersFrom from count)) (firstFrom (λ k. refuseIf (test k) (Refusal.Grammar n k)) from count)
 grammar-each n test from count = record { first = from-map n test from count }
 

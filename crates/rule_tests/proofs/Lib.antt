@@ -1,4 +1,3 @@
 pub mod Hashes
 pub mod Chains
-pub mod Answers
 pub mod RuleTests

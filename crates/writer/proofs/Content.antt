@@ -4,10 +4,9 @@ use mathlib.Core.Path.{_≡_, refl, sym, ap, _∙_}
 use mathlib.Core.List.{List, [], _∷_, _++_}
 use Prim.Native.Nat.{ℕ, zero, suc, _+_, _-_, _*_, _<_, _≤_}
 use native.Mathlib.Omega.{arith}
-use native.Mathlib.Decide.{decLt, ℕ-discrete}
+use native.Mathlib.Decide.{decLt}
 use lib.Dec.{ltb}
-use lib.ListN.{length, getD, set, replicate, List·getD-append, List·getD-eq-default}
-use lib.Seq.{getD-set-same, getD-set-other}
+use lib.ListN.{length, getD, replicate, List·getD-append, List·getD-eq-default}
 use borrow.Author.Tests.{ltb-false}
 use mathlib.Core.Bool.{Bool, true, false}
 use Rattle.model.specs.Base.{if_then_else_}
@@ -64,11 +63,3 @@ held-few rules k = go (ltb (21 * k) rules) refl
 pub rule-content : (h : Heading) (records : List ℕ) (k i : ℕ) → (k ≡ 0 → ⊥) → getD (ruleContent (h .rules) records k) i 0 ≡ contentAt h records k i
 rule-content h records zero i d = absurd (d refl)
 rule-content h records (suc k) i d = refl
-
--- a list filled by what f gives, one byte further
-pub filled-more : (f : ℕ → ℕ) (out : List ℕ) (p v : ℕ) → p < length out → v ≡ f p → ((q : ℕ) → q < p → getD out q 0 ≡ f q) → (q : ℕ) → q < p + 1 → getD (set out p v) q 0 ≡ f q
-filled-more f out p v h e before q l = go (ℕ-discrete q p)
-  where
-    go : Dec (q ≡ p) → getD (set out p v) q 0 ≡ f q
-    go (yes s) = ap (λ (x : ℕ). getD (set out p v) x 0) s ∙ getD-set-same out p v 0 h ∙ e ∙ ap f (sym s)
-    go (no d) = getD-set-other out p q v 0 d ∙ before q (omega arith)

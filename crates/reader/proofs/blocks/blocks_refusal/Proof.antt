@@ -6,7 +6,7 @@ use Rattle.model.specs.declared.Refusal.{Refusal}
 use Rattle.model.specs.declared.Tested.{Tested}
 use Rattle.model.specs.Verdict.{tested}
 use Rattle.reader.specs.Reading.{testNumber, blockMeets, blockRefusal, blocksRefusal}
-use Rattle.rule_tests.proofs.Answers.{refuse-on, refuse-off, left, left-pass, left-stop, left-end}
+use Rattle.model.proofs.TestLoops.{refuse-on, refuse-off, left, left-pass, left-stop, left-end}
 use borrow.Author.Needs.{needs}
 use Rattle.reader.proofs.blocks.blocks_refusal.Statement.{statement}
 use Rattle.reader.proofs.blocks.blocks_refusal.Tie as tie

@@ -10,7 +10,7 @@ use Rattle.model.proofs.Tests.{stop}
 use Rattle.model.proofs.FileTests.{right-heading}
 use Rattle.reader.specs.declared.blocks.BlockTest.{BlockTest}
 use Rattle.reader.specs.Reading.{blocksRefusal, fromCounts}
-use Rattle.rule_tests.proofs.Answers.{refuse-off}
+use Rattle.model.proofs.TestLoops.{refuse-off}
 use Rattle.reader.proofs.BlockTests.{all-blocks}
 use borrow.Author.Needs.{needs}
 use Rattle.reader.proofs.reader.from_blocks.Statement.{statement}

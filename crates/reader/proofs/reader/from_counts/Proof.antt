@@ -9,7 +9,7 @@ use Rattle.model.proofs.Verdicts.{met-is, tests-pass, tests-stop, tests-after}
 use Rattle.model.proofs.Tests.{stop}
 use Rattle.reader.specs.declared.blocks.BlockTest.{BlockTest}
 use Rattle.reader.specs.Reading.{blocksRefusal, fromRules}
-use Rattle.rule_tests.proofs.Answers.{refuse-off}
+use Rattle.model.proofs.TestLoops.{refuse-off}
 use Rattle.reader.proofs.BlockTests.{all-blocks}
 use borrow.Author.Needs.{needs}
 use Rattle.reader.proofs.reader.from_counts.Statement.{statement}

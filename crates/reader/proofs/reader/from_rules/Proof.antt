@@ -10,7 +10,7 @@ use Rattle.model.specs.Verdict.{refuseIf, tested}
 use Rattle.model.specs.GrammarFile.{dimensionsOf, wordsOf, recordOf, rulesOf, wrongRest}
 use Rattle.model.proofs.Verdicts.{tests-pass, tests-stop, tests-after}
 use Rattle.rule_tests.specs.Rules.{rulesRefusal}
-use Rattle.rule_tests.proofs.Answers.{refuse-on, refuse-off}
+use Rattle.model.proofs.TestLoops.{refuse-on, refuse-off}
 use borrow.Author.Needs.{needs}
 use Rattle.reader.proofs.reader.from_rules.Statement.{statement}
 use Rattle.reader.proofs.reader.from_rules.Tie as tie

@@ -11,7 +11,7 @@ use Rattle.model.specs.GrammarFile.{blocks, wrongLength, grammarRefusal}
 use Rattle.model.proofs.Verdicts.{met-is, tests-after}
 use Rattle.model.proofs.Tests.{stop}
 use Rattle.reader.specs.Reading.{fromBlocks}
-use Rattle.rule_tests.proofs.Answers.{refuse-off}
+use Rattle.model.proofs.TestLoops.{refuse-off}
 use Rattle.reader.proofs.BlockTests.{few-blocks}
 use borrow.Author.Needs.{needs}
 use Rattle.reader.proofs.reader.grammar_refusal.Statement.{statement}

@@ -7,7 +7,7 @@ use Rattle.model.specs.declared.Refusal.{Refusal}
 use Rattle.model.specs.GrammarFile.{repeated}
 use Rattle.model.specs.Verdict.{tested}
 use Rattle.record_tests.specs.RecordTests.{recordTests}
-use Rattle.rule_tests.proofs.Answers.{refuse-on, refuse-off}
+use Rattle.model.proofs.TestLoops.{refuse-on, refuse-off}
 use Rattle.rule_tests.specs.Layout.{recordIn}
 use Rattle.rule_tests.proofs.RuleTests.{record-stop, record-pass}
 use borrow.Author.Needs.{needs}

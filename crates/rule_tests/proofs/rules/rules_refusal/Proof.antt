@@ -11,7 +11,7 @@ use Rattle.model.proofs.Verdicts.{tests-pass, tests-met}
 use Rattle.rule_tests.specs.Chains.{hashOf, Chained, hashAt}
 use Rattle.rule_tests.specs.Layout.{recordIn}
 use Rattle.rule_tests.specs.Rules.{rulesRefusal}
-use Rattle.rule_tests.proofs.Answers.{left, left-all, left-pass, left-stop, left-end}
+use Rattle.model.proofs.TestLoops.{left, left-all, left-pass, left-stop, left-end}
 use Rattle.rule_tests.proofs.Chains.{Latest, latest-none, chain-none, entered}
 use borrow.Author.Needs.{needs}
 use Rattle.rule_tests.proofs.rules.rules_refusal.Statement.{statement}

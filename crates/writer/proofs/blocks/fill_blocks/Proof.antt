@@ -5,7 +5,7 @@ use Prim.Native.Nat.{ℕ, _-_, _/_, _%_, _<_, _≤_}
 use native.Mathlib.Omega.{arith}
 use lib.ListN.{length, getD}
 use Rattle.writer.specs.Writing.{heading, contentAt}
-use Rattle.writer.proofs.Content.{filled-more}
+use Rattle.model.proofs.ByteLists.{filled-more}
 use borrow.Author.Needs.{needs}
 use Rattle.writer.proofs.blocks.fill_blocks.Statement.{statement}
 use Rattle.writer.proofs.blocks.fill_blocks.Tie as tie
