@@ -1,0 +1,17 @@
+pub mod Agree
+pub mod Harmless
+pub mod FromTrees
+pub mod Derivations
+pub mod NoneEnds
+pub mod Counts
+pub mod Forms
+pub mod Canonical
+pub mod Right
+pub mod WellMade
+pub mod Size
+pub mod NoDoubles
+pub mod MadeFiles
+pub mod Entries
+pub mod SameLength
+pub mod MakeGrammar
+pub mod Examples

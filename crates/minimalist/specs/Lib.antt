@@ -1,0 +1,9 @@
+pub mod Once
+pub mod Lexicon
+pub mod Derivations
+pub mod Schemes
+pub mod Made
+pub mod Closure
+pub mod Numbering
+pub mod MakeGrammar
+pub mod Examples
