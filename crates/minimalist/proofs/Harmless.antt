@@ -119,10 +119,13 @@ module _ (m : ℕ) where
           (or-none (anySameFirst c cs) (wrongMoving cs) (passing c f u (or-l (anySameFirst c (movingAfter m cs)) (wrongMoving (movingAfter m cs)) j))
           (ih (omega arith) (or-r (anySameFirst c (movingAfter m cs)) (wrongMoving (movingAfter m cs)) j)))
 
+within-bounds : (a b x : ℕ) → a ≤ x → x ≤ b → T (within a b x)
+within-bounds a b x lo hi = and-both (leb a x) (leb x b) (le→leb a x lo) (le→leb x b hi)
+
 licensee-of : (p : ℕ) → T (isLicensor p) → T (isLicensee (p + 16))
 licensee-of p t =
     let (lo, hi) = within-low 33 35 p t in
-    and-both (leb 49 (p + 16)) (leb (p + 16) 51) (le→leb 49 (p + 16) (omega arith)) (le→leb (p + 16) 51 (omega arith))
+    within-bounds _ _ (p + 16) (omega arith) (omega arith)
 
 pub move-harmless : (a : Form) (s : Instance) → moveScheme a ≡ some s → leftOut (s .result) ≡ false → leftOut a ≡ false
 move-harmless a s e f = heads (a .head) refl e
