@@ -33,6 +33,10 @@ use Rattle.calendar.specs.declared.Date.{Date}
 use Rattle.calendar.specs.Calendar.{days, dayNumber}
 use Rattle.dates.specs.Dates.{opening, openOn, dateRefusal, openingRefusal, openRefusal, numberVerdict, openingVerdict, openVerdict}
 use Rattle.dates.proofs.OneDate.{kept-date, one-date}
+use Rattle.minimalist.specs.Lexicon.{lexiconOf, entriesRefusal}
+use Rattle.minimalist.specs.Closure.{formsOf, madeRules}
+use Rattle.minimalist.specs.MakeGrammar.{madeTooLarge, lexiconRefusal, madeLength, makeRefusal, makeVerdict}
+use Rattle.minimalist.proofs.Size.{rules-few}
 use Rattle.packing.specs.Packing.{ValueFits, CountsFit}
 use Rattle.downgrater.specs.Exports.{surveyVerdict}
 
@@ -73,6 +77,16 @@ write-fits h records out = value (writeRefusal h records out) (length (fileOf h 
         let w = first-of (writerRefusal h records) (refuseIf (ltb (length out) (length (fileOf h records))) (Refusal.Desk 23 0)) e in
         let r = no-refusal (ltb 256 (h .rules)) (Refusal.Grammar 4 0) (first-of R rest (rest-of D (R orElse rest) w)) in
         rw (file-length h records) (blocks-few (h .rules) (ltb-false 256 (h .rules) r))
+
+pub make-fits : (lexicon : List ℕ) (words start : ℕ) (out : List ℕ) → ValueFits (makeVerdict lexicon words start out)
+make-fits lexicon words start out = value (makeRefusal lexicon words start out) (madeLength lexicon words start) few
+  where
+    few : makeRefusal lexicon words start out ≡ none → madeLength lexicon words start ≤ 7168
+    few e =
+        let large = madeTooLarge lexicon words start in
+        let passed = first-of (lexiconRefusal lexicon words start) (refuseIf (ltb (length out) (madeLength lexicon words start)) (Refusal.Desk 23 0)) e in
+        let small = no-refusal large (Refusal.Grammar 31 0) (rest-of (entriesRefusal lexicon words start) (refuseIf large (Refusal.Grammar 31 0)) passed) in
+        blocks-few (length (madeRules (lexiconOf lexicon) start (formsOf (lexiconOf lexicon)))) (rules-few (lexiconOf lexicon) start (formsOf (lexiconOf lexicon)) small)
 
 count-short : (g : Grammar) (sentence : List ℕ) (n : ℕ) → count g sentence n ≤ effort g sentence n
 count-short g sentence n = keep-short (complete g sentence) (live g sentence n)

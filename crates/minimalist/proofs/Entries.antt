@@ -107,11 +107,14 @@ module _ (bytes : List ℕ) (words start : ℕ) (all : T (allBytes bytes)) (acce
   two-tests : T (eqb (length bytes % 8) 0 && within 1 32 n)
   two-tests = and-l (eqb (length bytes % 8) 0 && within 1 32 n) (within 1 4096 words) three-tests
 
-  words-in : (1 ≤ words) × (words ≤ 4096)
+  pub words-in : (1 ≤ words) × (words ≤ 4096)
   words-in = within-low 1 4096 words (and-r (eqb (length bytes % 8) 0 && within 1 32 n) (within 1 4096 words) three-tests)
 
-  some-entry : 1 ≤ n
-  some-entry = within-low 1 32 n (and-r (eqb (length bytes % 8) 0) (within 1 32 n) two-tests) .0
+  pub start-in : (1 ≤ start) × (start ≤ 15)
+  start-in = within-low 1 15 start (and-r (eqb (length bytes % 8) 0 && within 1 32 n && within 1 4096 words) (within 1 15 start) tests)
+
+  pub entries-in : (1 ≤ n) × (n ≤ 32)
+  entries-in = within-low 1 32 n (and-r (eqb (length bytes % 8) 0) (within 1 32 n) two-tests)
 
   whole : length bytes ≡ 8 * n
   whole = let r = eqb→eq (length bytes % 8) 0 (and-l (eqb (length bytes % 8) 0) (within 1 32 n) two-tests) in omega arith
@@ -155,7 +158,7 @@ module _ (bytes : List ℕ) (words start : ℕ) (all : T (allBytes bytes)) (acce
       subst (λ (y : Entry). (y .word < words) ⊎ (y .word ≡ emptyWord)) (sym q) (word-known i (omega (arith, numbers-low 0 n k .1)))
 
   first-entry : (e : Entry) × (l : List Entry) × (lexiconOf bytes ≡ e ∷ l)
-  first-entry = go n some-entry
+  first-entry = go n (entries-in .0)
     where
       go : (k : ℕ) → 1 ≤ k → (e : Entry) × (l : List Entry) × (map (λ i. entryOf (entryBytes bytes i)) (numbersFrom 0 k) ≡ e ∷ l)
       go zero h = let z : ⊥ = omega arith in absurd z

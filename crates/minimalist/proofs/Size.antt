@@ -49,6 +49,12 @@ module _ {A : Type 0} where
       rest s y i (inl j) = mem-left (s .back) j
       rest s y i (inr j) = ⊎-elim (λ e. absurd (p .0 (subst (λ (z : A). List·Memᴰ z l) e i))) (λ k. mem-right (s .front) k) (List·Memᴰ·cases-cons j)
 
+-- where 31 does not meet the lexicon, there are at most 256 rules
+pub rules-few : (lexicon : List Entry) (start : ℕ) (forms : List Form) → tooLarge lexicon start forms ≡ false → length (madeRules lexicon start forms) ≤ 256
+rules-few lexicon start forms u =
+    let many = ltb 256 (length (madeRules lexicon start forms)) in
+    ltb-false 256 (length (madeRules lexicon start forms)) (or-r (ltb 63 (length forms)) many (or-l (ltb 63 (length forms) || many) (eqb (length (startRules lexicon start forms)) 0) u))
+
 module _ (lexicon : List Entry) (words start : ℕ) (e₀ : Entry) (l₀ : List Entry) (entries : lexicon ≡ e₀ ∷ l₀) (once : Once lexicon) where
   some-start : (forms : List Form) → ((a : Form) → List·Memᴰ a forms ⇔ Derivable lexicon a) → Once forms → (x : Bool) → Derivable lexicon (startForm start x) → (length (startRules lexicon start forms) ≡ 0) → ⊥
   some-start forms are apart x d z =
@@ -112,7 +118,7 @@ module _ (lexicon : List Entry) (words start : ℕ) (e₀ : Entry) (l₀ : List 
         few = few;
         are = are;
         rules-some = omega arith;
-        rules-few = ltb-false 256 (length (madeRules lexicon start forms)) (or-r (ltb 63 (length forms)) (ltb 256 (length (madeRules lexicon start forms))) v);
+        rules-few = rules-few lexicon start forms u;
         x = x;
         start-form = d;
       }

@@ -62,8 +62,8 @@ pub record Wrote (tests : List Test) (list out after : List ℕ) : Type 0 where
 -- Demand 1: "A malformed grammar, an overlong sentence or an unknown word in it, a broken trace or tree, a limit out of range, an effort limit that doesn't
 -- suffice, an entry past the count, a short buffer or what a later paper turns away is refused with the number and place in document 01 or that paper, and
 -- the refusal changes no buffer. Everything else is accepted, and every call comes to an end on every input."
--- The tests of each call are in specs/Refusals.antt; the calls for the sum of weights and those on dates have statements of their own, `Demand1Weighed` in the
--- crate `weights` and `Demand1Dated` in the crate `dates`.
+-- The tests of each call are in specs/Refusals.antt; the calls for the sum of weights, those on dates and the one that makes a grammar have statements of their
+-- own, `Demand1Weighed` in the crate `weights`, `Demand1Dated` in the crate `dates`, `Demand1Made` in the crate `minimalist`.
 -- That every call comes to an end on every input is part of what the toolchain proves of a function.
 pub record Demand1 : Type 0 where
   pub reader : (file : List ℕ) → Decided (fileTests file) (rulesOf file ∷ []) (verdictAnswer (readVerdict file))

@@ -1,6 +1,6 @@
 -- The tests of every call of document 01, one for each number and place at which it can refuse, in document 01's order ("Who can cause a refusal"), with 29 of document 02, paper 5. Demand 1
 -- (specs/Demands.antt) says that the first of them that meets a call is its answer. The calls for the sum of weights have the tests of the checkers,
--- and those on dates have theirs in the crate `dates`.
+-- those on dates have theirs in the crate `dates`, and the one that makes a grammar in the crate `minimalist`.
 -- Assumes nothing.
 use Prim.Native.Nat.{ℕ, suc, _-_, _*_}
 use mathlib.Core.Bool.{Bool, true, false, not, _&&_}

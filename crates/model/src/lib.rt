@@ -10,8 +10,8 @@ pub enum Refusal {
     Desk(u8, u16),
 }
 
-// A node count (of the reader R, of the survey C, of the writer the file's length; of the weighing calls the sum of weights; of
-// the calls on dates a day's number, or 1 or 0), or a refusal.
+// A node count (of the reader R, of the survey C, of the writer and of the call that makes a grammar the file's length; of the weighing calls the sum of
+// weights; of the calls on dates a day's number, or 1 or 0), or a refusal.
 pub enum Verdict {
     Accepted(u64),
     Refused(Refusal),

@@ -3,4 +3,5 @@ mod blocks;
 mod heading;
 mod writer;
 
+pub use blocks::put_file;
 pub use writer::write_grammar;

@@ -1,0 +1,4 @@
+pub mod TableLaws
+pub mod RoundLaws
+pub mod Growing
+pub mod SchemeRows

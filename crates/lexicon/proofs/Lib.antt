@@ -1,0 +1,2 @@
+pub mod FeatureKinds
+pub mod EntryWalks

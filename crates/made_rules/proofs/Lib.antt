@@ -1,0 +1,5 @@
+pub mod Listing
+pub mod Places
+pub mod Components
+pub mod RuleLaws
+pub mod DimensionLaws

@@ -1,0 +1,46 @@
+// The numbers of the categories, and their dimensions.
+ghost use mathlib.Core.Path.{_≡_};
+ghost use Prim.Native.Nat.{_+_, _<_, _≤_};
+ghost use lib.ListN.{length};
+ghost use Rattle.derivable.specs.Tables.{rowAt, firstSame};
+ghost use Rattle.made_rules.specs.Listed.{dimensionByte, Dimensions};
+use derivable::find_row;
+use derivable::row_of;
+use forms::movers;
+
+// There are at most so many categories.
+const CATEGORIES: usize = 64;
+
+// The number of the category whose form has this row; n + 1 if none of the n forms has it.
+pub fn number_of(table: &[u8], n: usize, row: &[u8]) -> u8
+    requires { ⌜ n ≤ 63 ⌝ }
+    ensures { λ r. ⌜ r ≡ firstSame (rowAt (now (table .entry))) (now (row .entry)) 0 n + 1 ⌝ }
+{
+    (find_row(table, n, row) + 1) as u8
+}
+
+// The dimension of category q, 0 where there is none.
+fn dimension_byte(table: &[u8], n: usize, q: usize) -> u8
+    requires { ⌜ q < 64 ⌝ }
+    ensures { λ r. ⌜ r ≡ dimensionByte (now (table .entry)) n q ⌝ }
+{
+    if q == 0 {
+        return 1;
+    }
+    if n < q {
+        return 0;
+    }
+    ((movers(row_of(table, q - 1)) + 1) % 256) as u8
+}
+
+// Puts the dimensions of the new start and of the n forms.
+pub fn put_dimensions(table: &[u8], n: usize, dims: &mut [u8])
+    requires { ⌜ (n ≤ 63) × (length (now dims) ≡ 64) ⌝ }
+    ensures { λ r. ⌜ Dimensions (now (table .entry)) n (now (dims .exit)) ⌝ }
+{
+    let mut q: usize = 0;
+    while q < CATEGORIES {
+        dims[q] = dimension_byte(table, n, q);
+        q += 1;
+    }
+}

@@ -1,0 +1,98 @@
+// The rules of the schemes: merges and moves of the forms.
+ghost use mathlib.Core.Path.{_≡_};
+ghost use Prim.Native.Nat.{_<_, _≤_};
+ghost use lib.ListN.{length};
+ghost use Rattle.made_rules.specs.Listed.{Lists, withMerge, withMerges, withMove, withSchemes};
+use crate::numbers::number_of;
+use derivable::row_of;
+use forms::left_out;
+use forms::merge_rows;
+use forms::move_row;
+use forms::movers;
+use made_records::MadeRule;
+use made_records::add_rule;
+
+// Adds the rule of the merge of forms i and j, if there is one.
+fn add_merge_rule(table: &[u8], n: usize, i: usize, j: usize, records: &mut [u8], k: usize) -> usize
+    requires { ⌜ (n ≤ 63) × (i < n) × (j < n) × (length (now records) ≡ 6144) ⌝ }
+    ensures { λ r. ⌜ Lists (withMerge i j) (now (table .entry)) n (now (records .entry)) k r (now (records .exit)) ⌝ }
+{
+    let a = row_of(table, i);
+    let b = row_of(table, j);
+    let mut row = [0u8; 64];
+    let scheme = merge_rows(a, b, &mut row);
+    if scheme == 0 {
+        return k;
+    }
+    if left_out(&row) {
+        return k;
+    }
+    add_rule(
+        records,
+        k,
+        MadeRule::Merge {
+            category: number_of(table, n, &row),
+            selecting: (i + 1) as u8,
+            selected: (j + 1) as u8,
+            scheme,
+            first: movers(a) as u8,
+            second: movers(b) as u8,
+        },
+    )
+}
+
+// Adds the rule of the move of form i, if there is one.
+fn add_move_rule(table: &[u8], n: usize, i: usize, records: &mut [u8], k: usize) -> usize
+    requires { ⌜ (n ≤ 63) × (i < n) × (length (now records) ≡ 6144) ⌝ }
+    ensures { λ r. ⌜ Lists (withMove i) (now (table .entry)) n (now (records .entry)) k r (now (records .exit)) ⌝ }
+{
+    let a = row_of(table, i);
+    let mut row = [0u8; 64];
+    let code = move_row(a, &mut row);
+    if code == 0 {
+        return k;
+    }
+    if left_out(&row) {
+        return k;
+    }
+    add_rule(
+        records,
+        k,
+        MadeRule::Move {
+            category: number_of(table, n, &row),
+            daughter: (i + 1) as u8,
+            scheme: code / 8,
+            chains: movers(a) as u8,
+            chain: code % 8,
+        },
+    )
+}
+
+// Adds the rules of the merges of form i with each form.
+fn add_merge_rules(table: &[u8], n: usize, i: usize, records: &mut [u8], k: usize) -> usize
+    requires { ⌜ (n ≤ 63) × (i < n) × (length (now records) ≡ 6144) ⌝ }
+    ensures { λ r. ⌜ Lists (withMerges i n) (now (table .entry)) n (now (records .entry)) k r (now (records .exit)) ⌝ }
+{
+    let mut at = k;
+    let mut j: usize = 0;
+    while j < n {
+        at = add_merge_rule(table, n, i, j, records, at);
+        j += 1;
+    }
+    at
+}
+
+// Adds the rules of the schemes.
+pub fn add_scheme_rules(table: &[u8], n: usize, records: &mut [u8], k: usize) -> usize
+    requires { ⌜ (n ≤ 63) × (length (now records) ≡ 6144) ⌝ }
+    ensures { λ r. ⌜ Lists withSchemes (now (table .entry)) n (now (records .entry)) k r (now (records .exit)) ⌝ }
+{
+    let mut at = k;
+    let mut i: usize = 0;
+    while i < n {
+        at = add_merge_rules(table, n, i, records, at);
+        at = add_move_rule(table, n, i, records, at);
+        i += 1;
+    }
+    at
+}

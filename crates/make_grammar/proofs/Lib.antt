@@ -1,0 +1,2 @@
+pub mod RulesOfAll
+pub mod Outcome
