@@ -14,7 +14,7 @@ use Rattle.model.specs.Base.{if_then_else_, each, sameList}
 use Rattle.model.specs.Grammar.{Variable, Rule, Grammar, ruleAt, isLexical}
 use Rattle.model.specs.WellFormed.{WellFormed}
 use Rattle.model.specs.Tree.{Tree, Forest, node, nil, cons, hasRoot, hasRoots, preorder, preorders, yield, yields, yieldBy, stringOf, wordString}
-use Rattle.model.proofs.Tests.{and-l, and-r, and-both, passes, none-some, not-both}
+use Rattle.model.proofs.Tests.{and-l, and-r, and-both, passes, none-some, not-both, same-list, list-same, or-cases, or-left, or-right}
 use Rattle.model.proofs.Traces.{root}
 use Rattle.minimalist.specs.Lexicon.{Entry}
 use Rattle.minimalist.specs.Derivations.{Chain, Expression, Derivation, leaf, merge, move, nodes, lexicalExpression, merged, moved, sameEntry, isEntry, both, one, derived}
@@ -25,33 +25,11 @@ use Rattle.minimalist.proofs.Harmless.{some-one, merge-harmless, move-h
 use Rattle.minimalist.proofs.FromTrees.{form-one, fromTree, LeafShape, MergeShape, MoveShape, ShapeOf, shape, no-names, one-name, two-names, category-in, daughters-in, unique, headOf, entryBy}
 
 -- entries by test
-same-list : (a b : List ℕ) → T (sameList a b) → a ≡ b
-same-list [] [] t = refl
-same-list [] (y ∷ b) t = absurd t
-same-list (x ∷ a) [] t = absurd t
-same-list (x ∷ a) (y ∷ b) t = ap₂ (λ (z : ℕ) (l : List ℕ). z ∷ l) (eqb→eq x y (and-l (eqb x y) (sameList a b) t)) (same-list a b (and-r (eqb x y) (sameList a b) t))
-
-list-same : (a : List ℕ) → T (sameList a a)
-list-same [] = tt
-list-same (x ∷ a) = and-both (eqb x x) (sameList a a) (rw (eq-eqb x x refl) tt) (list-same a)
-
 same-entry : (d e : Entry) → T (sameEntry d e) → e ≡ d
 same-entry d e t =
     let w = sym (eqb→eq (d .word) (e .word) (and-l (eqb (d .word) (e .word)) (sameList (d .features) (e .features)) t)) in
     let f = sym (same-list (d .features) (e .features) (and-r (eqb (d .word) (e .word)) (sameList (d .features) (e .features)) t)) in
     λ i. record { word = w i; features = f i }
-
-or-cases : (a b : Bool) → T (a || b) → T a ⊎ T b
-or-cases true b t = inl tt
-or-cases false b t = inr t
-
-or-left : (a b : Bool) → T a → T (a || b)
-or-left true b t = tt
-or-left false b t = absurd t
-
-or-right : (a b : Bool) → T b → T (a || b)
-or-right true b t = tt
-or-right false b t = t
 
 pub entry-out : (l : List Entry) (e : Entry) → T (isEntry l e) → List·Memᴰ e l
 entry-out [] e t = absurd t

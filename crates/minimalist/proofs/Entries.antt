@@ -19,7 +19,7 @@ use Rattle.model.specs.Grammar.{emptyWord}
 use Rattle.model.specs.WellFormed.{WellFormed}
 use Rattle.model.specs.GrammarFile.{within, allZero, fields}
 use Rattle.model.specs.Writer.{allBytes, little2, padded}
-use Rattle.model.proofs.Tests.{or-l, or-r, and-l, and-r, and-both, and-false, not-off, not-both, no-refusal, first-of, rest-of, first-none, any-none, within-low}
+use Rattle.model.proofs.Tests.{or-l, or-r, and-l, and-r, and-both, and-false, not-off, not-both, no-refusal, first-of, rest-of, first-none, any-none, within-low, list-same}
 use Rattle.model.proofs.Lists.{map-out, map-in}
 use Rattle.model.proofs.Once.{numbers-low}
 use Rattle.model.proofs.ByteLists.{fields-length, fields-at, after-front, padded-length, padded-at, zeros-at, Bytes, bytes-at, bytes-fields, two-again}
@@ -73,10 +73,6 @@ entry-again e q bytes z = ext-getD 0 (entryFor (entryOf e)) e (long ∙ sym q) (
         let s : 2 + j ≡ p = omega arith in
         after-front (little2 (wordIn e)) (padded 6 (featuresIn e)) 2 p j refl (sym s) ∙ padded-at 6 (featuresIn e) j (omega arith) ∙ feature j (omega arith) (decLt j (length (featuresIn e)))
         ∙ fields-at e 2 6 j (omega arith) ∙ ap (λ (y : ℕ). getD e y 0) s
-
-list-same : (a : List ℕ) → T (sameList a a)
-list-same [] = tt
-list-same (x ∷ a) = and-both (eqb x x) (sameList a a) (eqb-refl x) (list-same a)
 
 once-numbers : (F : ℕ → Entry) (a n : ℕ) → ((i j : ℕ) → a ≤ i → i < j → j < a + n → F i ≡ F j → ⊥) → Once (map F (numbersFrom a n))
 once-numbers F a zero h = tt

@@ -12,7 +12,7 @@ use lib.ListN.{length, length-append}
 use borrow.Author.Tests.{eq-eqb, lt-ltb, le-ltb, ltb-true, ltb-false}
 use Rattle.model.specs.Base.{if_then_else_, each, sameList}
 use Rattle.model.specs.Demands.{_⇔_}
-use Rattle.model.proofs.Tests.{and-l, and-r, and-both, passes, none-some, or-l, or-r}
+use Rattle.model.proofs.Tests.{and-l, and-r, and-both, passes, none-some, or-l, or-r, same-list, list-same, or-cases, or-left, or-right}
 use Rattle.model.proofs.Lists.{mem-left, mem-right, each-in, each-out, map-in, map-out}
 use Rattle.minimalist.specs.Once.{Once}
 use Rattle.minimalist.specs.Lexicon.{Entry}
@@ -21,16 +21,6 @@ use Rattle.minimalist.specs.Closure.{sameLists, sameBool, sameForm, isAm
 use Rattle.minimalist.proofs.Harmless.{some-one}
 
 -- forms compared
-same-list : (a b : List ℕ) → T (sameList a b) → a ≡ b
-same-list [] [] t = refl
-same-list [] (y ∷ b) t = absurd t
-same-list (x ∷ a) [] t = absurd t
-same-list (x ∷ a) (y ∷ b) t = ap₂ (λ (z : ℕ) (l : List ℕ). z ∷ l) (eqb→eq x y (and-l (eqb x y) (sameList a b) t)) (same-list a b (and-r (eqb x y) (sameList a b) t))
-
-list-same : (a : List ℕ) → T (sameList a a)
-list-same [] = tt
-list-same (x ∷ a) = and-both (eqb x x) (sameList a a) (rw (eq-eqb x x refl) tt) (list-same a)
-
 same-lists : (a b : List (List ℕ)) → T (sameLists a b) → a ≡ b
 same-lists [] [] t = refl
 same-lists [] (y ∷ b) t = absurd t
@@ -64,18 +54,6 @@ pub form-same : (a : Form) → T (sameForm a a)
 form-same a =
     and-both (sameBool (a .lexical) (a .lexical) && sameList (a .head) (a .head)) (sameLists (a .moving) (a .moving))
     (and-both (sameBool (a .lexical) (a .lexical)) (sameList (a .head) (a .head)) (bool-same (a .lexical)) (list-same (a .head))) (lists-same (a .moving))
-
-or-cases : (a b : Bool) → T (a || b) → T a ⊎ T b
-or-cases true b t = inl tt
-or-cases false b t = inr t
-
-or-left : (a b : Bool) → T a → T (a || b)
-or-left true b t = tt
-or-left false b t = absurd t
-
-or-right : (a b : Bool) → T b → T (a || b)
-or-right true b t = tt
-or-right false b t = t
 
 pub among-out : (l : List Form) (a : Form) → T (isAmong l a) → List·Memᴰ a l
 among-out [] a t = absurd t

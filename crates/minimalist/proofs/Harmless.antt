@@ -11,7 +11,7 @@ use lib.Dec.{T, eqb, eqb→eq, leb, le→leb}
 use borrow.Author.Tests.{eq-eqb, ne-eqb}
 use Rattle.model.specs.Base.{if_then_else_}
 use Rattle.model.specs.GrammarFile.{within}
-use Rattle.model.proofs.Tests.{or-l, or-r, not-both, none-some, and-l, and-r, and-both, passes, within-low}
+use Rattle.model.proofs.Tests.{or-l, or-r, not-both, none-some, and-l, and-r, and-both, passes, within-low, or-off}
 use Rattle.minimalist.specs.Lexicon.{selects, isLicensor, isLicensee}
 use Rattle.minimalist.specs.Derivations.{begins}
 use Rattle.minimalist.specs.Schemes.{Form, Instance, mergeBy, mergeIf, mergeScheme, howManyBegin, leftOver, movingAfter, moveBy, moveIf, moveScheme, noFeatures, beginsLicensee, sameFirst, anySameFirst, wrongMoving, leftOut}
@@ -19,14 +19,10 @@ use Rattle.minimalist.specs.Schemes.{Form, Instance, mergeBy, mergeIf, m
 pub some-one : {A : Type 0} {a b : A} → some a ≡ some b → a ≡ b
 some-one {A} {a} e = ap (λ (o : Option A). elim o [ none ↦ a | some x ↦ x ]) e
 
-or-none : (a b : Bool) → a ≡ false → b ≡ false → a || b ≡ false
-or-none true b e f = e
-or-none false b e f = f
-
 -- parts of a list of moving chains
 any-left : (c : List ℕ) (xs ys : List (List ℕ)) → anySameFirst c (xs ++ ys) ≡ false → anySameFirst c xs ≡ false
 any-left c [] ys e = refl
-any-left c (x ∷ xs) ys e = or-none (sameFirst c x) (anySameFirst c xs) (or-l (sameFirst c x) (anySameFirst c (xs ++ ys)) e) (any-left c xs ys (or-r (sameFirst c x) (anySameFirst c (xs ++ ys)) e))
+any-left c (x ∷ xs) ys e = or-off (sameFirst c x) (anySameFirst c xs) (or-l (sameFirst c x) (anySameFirst c (xs ++ ys)) e) (any-left c xs ys (or-r (sameFirst c x) (anySameFirst c (xs ++ ys)) e))
 
 any-right : (c : List ℕ) (xs ys : List (List ℕ)) → anySameFirst c (xs ++ ys) ≡ false → anySameFirst c ys ≡ false
 any-right c [] ys e = e
@@ -36,8 +32,8 @@ wrong-left : (xs ys : List (List ℕ)) → wrongMoving (xs ++ ys) ≡ false → 
 wrong-left [] ys e = refl
 wrong-left (x ∷ xs) ys e =
     let f = or-r (not (beginsLicensee x)) (anySameFirst x (xs ++ ys) || wrongMoving (xs ++ ys)) e in
-    or-none (not (beginsLicensee x)) (anySameFirst x xs || wrongMoving xs) (or-l (not (beginsLicensee x)) (anySameFirst x (xs ++ ys) || wrongMoving (xs ++ ys)) e)
-    (or-none (anySameFirst x xs) (wrongMoving xs) (any-left x xs ys (or-l (anySameFirst x (xs ++ ys)) (wrongMoving (xs ++ ys)) f)) (wrong-left xs ys (or-r (anySameFirst x (xs ++ ys)) (wrongMoving (xs ++ ys)) f)))
+    or-off (not (beginsLicensee x)) (anySameFirst x xs || wrongMoving xs) (or-l (not (beginsLicensee x)) (anySameFirst x (xs ++ ys) || wrongMoving (xs ++ ys)) e)
+    (or-off (anySameFirst x xs) (wrongMoving xs) (any-left x xs ys (or-l (anySameFirst x (xs ++ ys)) (wrongMoving (xs ++ ys)) f)) (wrong-left xs ys (or-r (anySameFirst x (xs ++ ys)) (wrongMoving (xs ++ ys)) f)))
 
 wrong-right : (xs ys : List (List ℕ)) → wrongMoving (xs ++ ys) ≡ false → wrongMoving ys ≡ false
 wrong-right [] ys e = e
@@ -77,7 +73,7 @@ module _ (m : ℕ) where
     where
       go : (b : Bool) → begins m c ≡ b → (howManyBegin m cs ≡ 0 → anySameFirst (x ∷ xs) cs ≡ false) → begins x c || anySameFirst (x ∷ xs) cs ≡ false
       go true f ih = let z : ⊥ = omega (arith, subst (λ (b : Bool). (if b then 1 else 0) + howManyBegin m cs ≡ 0) f h) in absurd z
-      go false f ih = or-none (begins x c) (anySameFirst (x ∷ xs) cs) (ap (λ (k : ℕ). begins k c) e ∙ f) (ih (omega (arith, subst (λ (b : Bool). (if b then 1 else 0) + howManyBegin m cs ≡ 0) f h)))
+      go false f ih = or-off (begins x c) (anySameFirst (x ∷ xs) cs) (ap (λ (k : ℕ). begins k c) e ∙ f) (ih (omega (arith, subst (λ (b : Bool). (if b then 1 else 0) + howManyBegin m cs ≡ 0) f h)))
 
   -- a chain that begins with another feature
   others-begin : (x : ℕ) (xs : List ℕ) → (x ≡ m → ⊥) → (cs : List (List ℕ)) → anySameFirst (x ∷ xs) (movingAfter m cs) ≡ false → anySameFirst (x ∷ xs) cs ≡ false
@@ -90,8 +86,8 @@ module _ (m : ℕ) where
 
       go : (b : Bool) → begins m c ≡ b → anySameFirst (x ∷ xs) (if b then leftOver c ++ cs else c ∷ movingAfter m cs) ≡ false
           → (anySameFirst (x ∷ xs) (movingAfter m cs) ≡ false → anySameFirst (x ∷ xs) cs ≡ false) → begins x c || anySameFirst (x ∷ xs) cs ≡ false
-      go true f i ih = or-none (begins x c) (anySameFirst (x ∷ xs) cs) (other c f) (any-right (x ∷ xs) (leftOver c) cs i)
-      go false f i ih = or-none (begins x c) (anySameFirst (x ∷ xs) cs) (or-l (begins x c) (anySameFirst (x ∷ xs) (movingAfter m cs)) i) (ih (or-r (begins x c) (anySameFirst (x ∷ xs) (movingAfter m cs)) i))
+      go true f i ih = or-off (begins x c) (anySameFirst (x ∷ xs) cs) (other c f) (any-right (x ∷ xs) (leftOver c) cs i)
+      go false f i ih = or-off (begins x c) (anySameFirst (x ∷ xs) cs) (or-l (begins x c) (anySameFirst (x ∷ xs) (movingAfter m cs)) i) (ih (or-r (begins x c) (anySameFirst (x ∷ xs) (movingAfter m cs)) i))
 
   moving-harmless : T (isLicensee m) → (cs : List (List ℕ)) → howManyBegin m cs ≡ 1 → wrongMoving (movingAfter m cs) ≡ false → wrongMoving cs ≡ false
   moving-harmless l [] h w = refl
@@ -111,12 +107,12 @@ module _ (m : ℕ) where
           → (howManyBegin m cs ≡ 1 → wrongMoving (movingAfter m cs) ≡ false → wrongMoving cs ≡ false) → wrongMoving (c ∷ cs) ≡ false
       go true f k i ih =
           let x = landing c f (omega arith) in
-          or-none (not (beginsLicensee c)) (anySameFirst c cs || wrongMoving cs) (x .0) (or-none (anySameFirst c cs) (wrongMoving cs) (x .1) (wrong-right (leftOver c) cs i))
+          or-off (not (beginsLicensee c)) (anySameFirst c cs || wrongMoving cs) (x .0) (or-off (anySameFirst c cs) (wrongMoving cs) (x .1) (wrong-right (leftOver c) cs i))
       go false f k i ih =
           let j = or-r (not (beginsLicensee c)) (anySameFirst c (movingAfter m cs) || wrongMoving (movingAfter m cs)) i in
           let u = or-l (not (beginsLicensee c)) (anySameFirst c (movingAfter m cs) || wrongMoving (movingAfter m cs)) i in
-          or-none (not (beginsLicensee c)) (anySameFirst c cs || wrongMoving cs) u
-          (or-none (anySameFirst c cs) (wrongMoving cs) (passing c f u (or-l (anySameFirst c (movingAfter m cs)) (wrongMoving (movingAfter m cs)) j))
+          or-off (not (beginsLicensee c)) (anySameFirst c cs || wrongMoving cs) u
+          (or-off (anySameFirst c cs) (wrongMoving cs) (passing c f u (or-l (anySameFirst c (movingAfter m cs)) (wrongMoving (movingAfter m cs)) j))
           (ih (omega arith) (or-r (anySameFirst c (movingAfter m cs)) (wrongMoving (movingAfter m cs)) j)))
 
 within-bounds : (a b x : ℕ) → a ≤ x → x ≤ b → T (within a b x)

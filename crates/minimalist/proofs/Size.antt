@@ -14,7 +14,7 @@ use Rattle.model.specs.Base.{if_then_else_, each}
 use Rattle.model.specs.Grammar.{Rule, Grammar, ruleAt, emptyWord}
 use Rattle.model.specs.WellFormed.{WellFormed}
 use Rattle.model.specs.Demands.{_⇔_}
-use Rattle.model.proofs.Tests.{or-l, or-r, not-both, not-off}
+use Rattle.model.proofs.Tests.{or-l, or-r, or-cases, not-both, not-off}
 use Rattle.model.proofs.Lists.{mem-left, mem-right, map-in, map-out, each-in}
 use Rattle.minimalist.specs.Once.{Once}
 use Rattle.minimalist.specs.Lexicon.{Entry}
@@ -69,10 +69,6 @@ module _ (lexicon : List Entry) (words start : ℕ) (e₀ : Entry) (l₀ : List 
   large-means : T (tooLarge lexicon start (formsOf lexicon)) → TooLarge lexicon start
   large-means t = at (formsOf lexicon) (rounds-apart lexicon 63) (ltb 63 (length (formsOf lexicon))) refl (forms-are lexicon e₀ l₀ entries) t
     where
-      or-cases : (a b : Bool) → T (a || b) → T a ⊎ T b
-      or-cases true b t = inl tt
-      or-cases false b t = inr t
-
       categories : TooMany lexicon → MoreThan 64 (IsCategory lexicon start)
       categories t =
           record {

@@ -50,7 +50,7 @@ returns-2 c =
     let all = c .before .before .before .before .before .before .before .known-bytes .ensures in
     let k = c .before .before .before .before .before .before .entries-refusal in
     let pass = tests-pass (entriesRefusal (a .lexicon .now) (a .words) (a .start)) (k .result) (k .ensures) (c .before .before .before .before .enum-told .given .1) in
-    over-forms (a .lexicon .now) (a .words) (a .start) all pass (a .out .now) _ _ (c .before .before .derivable-forms .ensures .1) (c .if1 .taken)
+    over-forms (a .lexicon .now) (a .words) (a .start) all pass (a .out .now) _ _ (c .before .before .derivable-forms .ensures .1) (omega arith)
 
 slice-aggregate-put-rules : tie.Need-slice-aggregate-put-rules
 slice-aggregate-put-rules c = search needs
@@ -81,7 +81,7 @@ returns-3 c =
     let all = c .before .before .before .before .before .before .before .before .before .before .before .before .known-bytes .ensures in
     let k = c .before .before .before .before .before .before .before .before .before .before .before .entries-refusal in
     let pass = tests-pass (entriesRefusal (a .lexicon .now) (a .words) (a .start)) (k .result) (k .ensures) (c .before .before .before .before .before .before .before .before .before .enum-told .given .1) in
-    not-started (a .lexicon .now) (a .words) (a .start) all pass (a .out .now) _ _ (c .before .before .before .before .before .before .before .derivable-forms .ensures .1) (c .before .before .before .before .before .if1 .left) (c .before .before .put-rules .ensures) (c .if2 .taken)
+    not-started (a .lexicon .now) (a .words) (a .start) all pass (a .out .now) _ _ (c .before .before .before .before .before .before .before .derivable-forms .ensures .1) (omega arith) (c .before .before .put-rules .ensures) (omega arith)
 
 returns-4 : tie.Need-returns-4
 returns-4 c =
@@ -89,7 +89,7 @@ returns-4 c =
     let all = c .before .before .before .before .before .before .before .before .before .before .before .before .before .known-bytes .ensures in
     let k = c .before .before .before .before .before .before .before .before .before .before .before .before .entries-refusal in
     let pass = tests-pass (entriesRefusal (a .lexicon .now) (a .words) (a .start)) (k .result) (k .ensures) (c .before .before .before .before .before .before .before .before .before .before .enum-told .given .1) in
-    over-rules (a .lexicon .now) (a .words) (a .start) all pass (a .out .now) _ _ (c .before .before .before .before .before .before .before .before .derivable-forms .ensures .1) (c .before .before .before .before .before .before .if1 .left) (c .before .before .before .put-rules .ensures) (c .if3 .taken)
+    over-rules (a .lexicon .now) (a .words) (a .start) all pass (a .out .now) _ _ (c .before .before .before .before .before .before .before .before .derivable-forms .ensures .1) (omega arith) (c .before .before .before .put-rules .ensures) (omega arith)
 
 slice-aggregate-write-made : tie.Need-slice-aggregate-write-made
 slice-aggregate-write-made c = search needs
@@ -129,7 +129,7 @@ returns-5 c =
     let all = c .before .before .before .before .before .before .before .before .before .before .before .before .before .before .before .before .before .before .before .before .known-bytes .ensures in
     let k = c .before .before .before .before .before .before .before .before .before .before .before .before .before .before .before .before .before .before .before .entries-refusal in
     let pass = tests-pass (entriesRefusal (a .lexicon .now) (a .words) (a .start)) (k .result) (k .ensures) (c .before .before .before .before .before .before .before .before .before .before .before .before .before .before .before .before .before .enum-told .given .1) in
-    written-made (a .lexicon .now) (a .words) (a .start) all pass (a .out .now) _ _ (c .before .before .before .before .before .before .before .before .before .before .before .before .before .before .before .derivable-forms .ensures .1) (c .before .before .before .before .before .before .before .before .before .before .before .before .before .if1 .left) (c .before .before .before .before .before .before .before .before .before .before .put-rules .ensures) (c .before .before .before .before .before .before .before .before .if2 .left) (c .before .before .before .before .before .before .before .if3 .left)
+    written-made (a .lexicon .now) (a .words) (a .start) all pass (a .out .now) _ _ (c .before .before .before .before .before .before .before .before .before .before .before .before .before .before .before .derivable-forms .ensures .1) (omega arith) (c .before .before .before .before .before .before .before .before .before .before .put-rules .ensures) (c .before .before .before .before .before .before .before .before .if2 .left) (c .before .before .before .before .before .before .before .if3 .left)
     (c .before .before .write-made .ensures)
 
 pub make-grammar-spec : {M : Type 1} → statement M
