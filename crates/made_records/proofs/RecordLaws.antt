@@ -137,16 +137,7 @@ counted n k e = go (decLt 256 n)
     go (yes h) = let z : k ≡ 257 = e ∙ rw (lt-ltb 256 n h) in (λ l. absurd (omega arith), λ l. omega arith)
     go (no h) = let z : k ≡ n = e ∙ rw (le-ltb 256 n (omega arith)) in (λ l. z, λ l. omega arith)
 
--- more than 256 rules by the count, and how many they are where they are not
-pub count-over : {records : List ℕ} {k : ℕ} {rules : List Rule} → Held records k rules → ltb 256 k ≡ ltb 256 (length rules)
-count-over {records} {k} {rules} held = go (decLt 256 (length rules))
-  where
-    go : Dec (256 < length rules) → ltb 256 k ≡ ltb 256 (length rules)
-    go (yes h) =
-        let z : k ≡ 257 = held .count ∙ rw (lt-ltb 256 (length rules) h) in
-        lt-ltb 256 k (omega arith) ∙ sym (lt-ltb 256 (length rules) h)
-    go (no h) = let z : k ≡ length rules = held .count ∙ rw (le-ltb 256 (length rules) (omega arith)) in ap (ltb 256) z
-
+-- how many rules there are, where they are at most 256
 pub count-is : {records : List ℕ} {k : ℕ} {rules : List Rule} → Held records k rules → length rules ≤ 256 → k ≡ length rules
 count-is {rules = rules} held h = held .count ∙ rw (le-ltb 256 (length rules) h)
 

@@ -12,7 +12,7 @@ use Rattle.model.specs.Base.{if_then_else_, each, numbersFrom}
 use Rattle.model.specs.Grammar.{Rule}
 use Rattle.model.proofs.Lists.{each-append, map-append}
 use Rattle.minimalist.specs.Once.{Once}
-use Rattle.minimalist.specs.Lexicon.{Entry, entryOf, entryBytes, entries, lexiconOf}
+use Rattle.minimalist.specs.Lexicon.{Entry, entryOf, entryBytes, lexiconOf}
 use Rattle.minimalist.specs.Schemes.{Form, mergeScheme, moveScheme}
 use Rattle.minimalist.specs.Made.{NamedRule, startForm, startRule, entryRule, mergeRule, moveRule}
 use Rattle.minimalist.specs.Closure.{isAmong, ruleIf, madeRules}

@@ -6,15 +6,14 @@ use mathlib.Core.Option.{none}
 use mathlib.Core.List.{List, _∷_, _++_, map}
 use Prim.Native.Nat.{ℕ, suc, _+_, _-_, _*_, _<_, _≤_}
 use native.Mathlib.Omega.{arith}
-use lib.Dec.{T, ltb, eqb, ltb→lt}
+use lib.Dec.{T, ltb, eqb}
 use lib.ListN.{length, take, drop, length-map, length-append}
-use borrow.Author.Tests.{ltb-true, ltb-false, lt-ltb, le-ltb, eq-eqb, ne-eqb}
+use borrow.Author.Tests.{ltb-true, ltb-false, lt-ltb, le-ltb, eq-eqb}
 use Rattle.model.specs.declared.Refusal.{Refusal}
 use Rattle.model.specs.declared.Verdict.{Verdict}
 use Rattle.model.specs.Base.{if_then_else_, each}
-use Rattle.model.specs.Grammar.{Rule}
 use Rattle.model.specs.GrammarFile.{blocksFor}
-use Rattle.model.specs.Writer.{Heading, allBytes, padded, fileOf}
+use Rattle.model.specs.Writer.{allBytes, padded, fileOf}
 use Rattle.model.proofs.Tests.{not-both}
 use Rattle.grammar_to_file.specs.FileFor.{recordFor, headingFor, fileFor}
 use Rattle.minimalist.specs.Lexicon.{Entry, lexiconOf, entriesRefusal}

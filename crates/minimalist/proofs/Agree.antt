@@ -8,7 +8,7 @@ use Prim.Native.Nat.{ℕ, zero, suc, _+_}
 use native.Mathlib.Omega.{arith}
 use lib.Dec.{eqb}
 use lib.ListN.{length, getD, drop, length-map}
-use Rattle.model.specs.Base.{if_then_else_, each, numbersFrom}
+use Rattle.model.specs.Base.{if_then_else_, each}
 use Rattle.model.specs.Grammar.{Variable, variable}
 use Rattle.model.specs.Tree.{stringOf}
 use Rattle.model.proofs.Lists.{map-append, each-append}

@@ -1,24 +1,23 @@
 -- The grammar in that one numbering is one made from the lexicon.
 -- Assumes nothing.
-use mathlib.Core.Path.{_≡_, refl, ap, ap₂, sym, subst, _∙_}
-use mathlib.Core.Logic.{_⊎_, inl, inr, ⊎-elim}
-use mathlib.Core.Bool.{Bool, true, false, _&&_, _||_, not}
+use mathlib.Core.Path.{_≡_, refl, ap, sym, subst, _∙_}
+use mathlib.Core.Logic.{⊎-elim}
+use mathlib.Core.Bool.{Bool, true, false}
 use mathlib.Core.Option.{Option, none, some}
 use mathlib.Core.List.{List, [], _∷_, _++_, map, List·Memᴰ, List·Memᴰ·head, List·Memᴰ·tail, List·Memᴰ·cases-cons, List·Memᴰ·append-cases, List·Memᴰ·eq-of-singleton}
 use Prim.Native.Nat.{ℕ, zero, suc, _<_, _≤_}
 use native.Mathlib.Omega.{arith}
-use native.Mathlib.Decide.{ℕ-discrete}
 use lib.Dec.{T}
 use lib.ListN.{length, getD, getElem?, length-map}
 use Rattle.model.specs.Base.{if_then_else_, each}
-use Rattle.model.specs.Grammar.{Variable, Rule, Grammar, ruleAt, dimension}
+use Rattle.model.specs.Grammar.{Rule}
 use Rattle.model.specs.Demands.{_⇔_}
 use Rattle.model.proofs.Tests.{passes, none-some, not-both}
 use Rattle.model.proofs.Lists.{mem-left, mem-right, each-in, each-out, map-in, map-out}
 use Rattle.minimalist.specs.Once.{Once}
 use Rattle.minimalist.specs.Lexicon.{Entry}
 use Rattle.minimalist.specs.Schemes.{Form, Instance, formDimension, mergeScheme, moveScheme, leftOut, lexicalForm, Derivable, by-entry, by-merge, by-move}
-use Rattle.minimalist.specs.Made.{Name, newStart, form, dimensionOf, NamedRule, startForm, startRule, entryRule, mergeRule, moveRule, Made, of-start, of-entry, of-merge, of-move, IsCategory, nameOf, namedRule, Numbered, MadeFrom}
+use Rattle.minimalist.specs.Made.{Name, newStart, form, dimensionOf, NamedRule, startForm, startRule, entryRule, mergeRule, moveRule, Made, of-start, of-entry, of-merge, of-move, IsCategory, nameOf, namedRule, MadeFrom}
 use Rattle.minimalist.specs.Closure.{sameForm, isAmong, formsOf, ruleIf, startRules, schemeRules, madeRules}
 use Rattle.minimalist.specs.Numbering.{placeOf, numberOf, numberedRule, madeBy, madeGrammar}
 use Rattle.minimalist.proofs.Harmless.{some-one}

@@ -1,25 +1,24 @@
 -- The count of a made grammar is the number of minimalist derivations.
 -- Assumes nothing.
-use mathlib.Core.Path.{_≡_, refl, ap, ap₂, sym, subst, _∙_}
-use mathlib.Core.Bool.{Bool, true, false, _&&_}
+use mathlib.Core.Path.{_≡_, refl, ap, sym, subst, _∙_}
+use mathlib.Core.Bool.{Bool, true, false}
 use mathlib.Core.Option.{Option, none, some}
 use mathlib.Core.List.{List, [], _∷_, _++_, map, append-nil, List·Memᴰ, List·Memᴰ·head, List·Memᴰ·tail}
-use Prim.Native.Nat.{ℕ, suc, _+_, _<_, _≤_}
+use Prim.Native.Nat.{ℕ, suc, _+_, _≤_}
 use native.Mathlib.Omega.{arith}
-use lib.Dec.{T, ltb, eqb}
+use lib.Dec.{T, ltb}
 use lib.ListN.{length, getD, length-append, length-map}
-use borrow.Author.Tests.{eq-eqb, le-ltb}
+use borrow.Author.Tests.{le-ltb}
 use Rattle.model.specs.declared.CountVerdict.{CountVerdict}
-use Rattle.model.specs.Grammar.{Rule, Grammar, ruleAt, variable}
+use Rattle.model.specs.Grammar.{Rule, Grammar, ruleAt}
 use Rattle.model.specs.WellFormed.{WellFormed}
 use Rattle.model.specs.GrammarFile.{grammarRefusal, grammarOf}
-use Rattle.model.specs.Trace.{sentenceRefusal}
-use Rattle.model.specs.Tree.{Tree, Forest, node, nil, cons, hasRoot, hasRoots, preorder, yield, stringFits, spells, derives}
+use Rattle.model.specs.Tree.{Tree, node, nil, cons, hasRoot, hasRoots, preorder, yield, stringFits, spells, derives}
 use Rattle.model.specs.Conversions.{label}
-use Rattle.model.specs.Counting.{limitsRefusal, effort, count}
+use Rattle.model.specs.Counting.{effort, count}
 use Rattle.model.specs.LivePrefixes.{Different}
 use Rattle.model.specs.Calls.{countCall}
-use Rattle.model.specs.Demands.{_⇔_, Analysis}
+use Rattle.model.specs.Demands.{Analysis}
 use Rattle.model.proofs.Tests.{and-l, and-r, and-both}
 use Rattle.model.proofs.Lists.{map-in, map-out}
 use Rattle.model.proofs.Traces.{Root, root}
@@ -28,12 +27,12 @@ use Rattle.model.proofs.Analyses.{Analyses, analyses}
 use Rattle.model.proofs.FromFile.{accepted-right}
 use Rattle.minimalist.specs.Once.{Once}
 use Rattle.minimalist.specs.Lexicon.{Entry}
-use Rattle.minimalist.specs.Derivations.{Chain, Expression, Derivation, leaf, merge, move, nodes, derived, Counted}
+use Rattle.minimalist.specs.Derivations.{Chain, Expression, Derivation, leaf, nodes, derived, Counted}
 use Rattle.minimalist.specs.Schemes.{formOf, featuresOf, Form, Derivable, leftOut}
-use Rattle.minimalist.specs.Made.{Name, newStart, form, NamedRule, startForm, startRule, Made, of-start, of-entry, of-merge, of-move, nameOf, namedRule, Numbered, MadeFrom, MadeFile}
-use Rattle.minimalist.specs.MakeGrammar.{CountsDerivations, CountsAgree}
-use Rattle.minimalist.proofs.Agree.{strings, valued, stringsOf}
-use Rattle.minimalist.proofs.FromTrees.{not-start, form-one, nil-cons, fromTree, fromForest, ShapeOf, shape, OneName, one-name, OneTree, one-tree, SameRule, same-rule, category-in, daughters-in, unique}
+use Rattle.minimalist.specs.Made.{Name, newStart, form, NamedRule, startForm, startRule, Made, of-start, of-entry, of-merge, of-move, nameOf, namedRule, Numbered, MadeFrom}
+use Rattle.minimalist.specs.MakeGrammar.{CountsAgree}
+use Rattle.minimalist.proofs.Agree.{valued}
+use Rattle.minimalist.proofs.FromTrees.{not-start, form-one, nil-cons, fromTree, fromForest, ShapeOf, shape, OneName, one-name, one-tree, same-rule, category-in, daughters-in, unique}
 use Rattle.minimalist.proofs.Derivations.{yield-nonlexical, Sound, sound, Grown, grow, rooted-at, moved-to}
 
 -- the derivation below the new start

@@ -1,28 +1,28 @@
 -- A tree of a made grammar derives what its derivation derives; and every derivation of a category that is not left out has a tree.
 -- Assumes nothing.
 use mathlib.Core.Path.{_≡_, refl, ap, ap₂, sym, subst, _∙_}
-use mathlib.Core.Logic.{_⊎_, inl, inr, ⊎-elim}
-use mathlib.Core.Bool.{Bool, true, false, _&&_, _||_}
+use mathlib.Core.Logic.{⊎-elim}
+use mathlib.Core.Bool.{Bool, true, false, _&&_}
 use mathlib.Core.Option.{Option, none, some}
 use mathlib.Core.List.{List, [], _∷_, _++_, map, List·Memᴰ, List·Memᴰ·head, List·Memᴰ·tail}
 use Prim.Native.Nat.{ℕ, _+_, _<_}
 use native.Mathlib.Omega.{arith}
 use lib.Dec.{T, eqb, eqb→eq}
-use lib.ListN.{length, getD, length-append}
+use lib.ListN.{length, length-append}
 use borrow.Author.Tests.{eq-eqb}
 use Rattle.model.specs.Base.{if_then_else_, each, sameList}
-use Rattle.model.specs.Grammar.{Variable, Rule, Grammar, ruleAt, isLexical}
+use Rattle.model.specs.Grammar.{Rule, Grammar, ruleAt}
 use Rattle.model.specs.WellFormed.{WellFormed}
-use Rattle.model.specs.Tree.{Tree, Forest, node, nil, cons, hasRoot, hasRoots, preorder, preorders, yield, yields, yieldBy, stringOf, wordString}
-use Rattle.model.proofs.Tests.{and-l, and-r, and-both, passes, none-some, not-both, same-list, list-same, or-cases, or-left, or-right}
+use Rattle.model.specs.Tree.{Tree, Forest, node, nil, cons, hasRoot, hasRoots, preorder, yield, yields, yieldBy, stringOf, wordString}
+use Rattle.model.proofs.Tests.{and-l, and-r, and-both, passes, none-some, same-list, list-same, or-cases, or-left, or-right}
 use Rattle.model.proofs.Traces.{root}
 use Rattle.minimalist.specs.Lexicon.{Entry}
-use Rattle.minimalist.specs.Derivations.{Chain, Expression, Derivation, leaf, merge, move, nodes, lexicalExpression, merged, moved, sameEntry, isEntry, both, one, derived}
-use Rattle.minimalist.specs.Schemes.{formOf, Form, Instance, mergeScheme, moveScheme, leftOut, lexicalForm, Derivable, by-entry, by-merge, by-move}
-use Rattle.minimalist.specs.Made.{Name, newStart, form, NamedRule, entryRule, mergeRule, moveRule, Made, of-entry, of-merge, of-move, nameOf, namedRule, Numbered, MadeFrom}
+use Rattle.minimalist.specs.Derivations.{Expression, Derivation, leaf, merge, move, nodes, lexicalExpression, merged, moved, sameEntry, isEntry, both, one, derived}
+use Rattle.minimalist.specs.Schemes.{formOf, Instance, mergeScheme, moveScheme, leftOut, Derivable, by-entry, by-merge, by-move}
+use Rattle.minimalist.specs.Made.{Name, form, NamedRule, entryRule, mergeRule, moveRule, of-entry, of-merge, of-move, nameOf, MadeFrom}
 use Rattle.minimalist.proofs.Agree.{strings, valued, Agree, merge-agrees, move-agrees}
 use Rattle.minimalist.proofs.Harmless.{some-one, merge-harmless, move-harmless}
-use Rattle.minimalist.proofs.FromTrees.{form-one, fromTree, LeafShape, MergeShape, MoveShape, ShapeOf, shape, no-names, one-name, two-names, category-in, daughters-in, unique, headOf, entryBy}
+use Rattle.minimalist.proofs.FromTrees.{form-one, fromTree, ShapeOf, shape, no-names, one-name, two-names, category-in, daughters-in, headOf, entryBy}
 
 -- entries by test
 same-entry : (d e : Entry) → T (sameEntry d e) → e ≡ d

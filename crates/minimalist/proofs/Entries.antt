@@ -1,26 +1,26 @@
 -- What a lexicon that 30 and 10 do not meet has: entries, none twice, whose words exist. So refusal 31 decides whether there is a file as promised.
 -- Assumes nothing.
-use mathlib.Core.Path.{_≡_, refl, ap, ap₂, sym, subst, _∙_}
+use mathlib.Core.Path.{_≡_, refl, ap, sym, subst, _∙_}
 use mathlib.Core.Logic.{_⊎_, inl, inr, ⊎-elim}
 use mathlib.Core.Bool.{Bool, true, false, _&&_, _||_, not}
-use mathlib.Core.Option.{Option, none, some}
-use mathlib.Core.List.{List, [], _∷_, _++_, map, List·Memᴰ, List·Memᴰ·head, List·Memᴰ·tail}
+use mathlib.Core.Option.{Option, none}
+use mathlib.Core.List.{List, [], _∷_, _++_, map, List·Memᴰ}
 use Prim.Native.Nat.{ℕ, zero, suc, _+_, _-_, _*_, _/_, _%_, _<_, _≤_}
 use native.Mathlib.Omega.{arith}
 use native.Mathlib.Decide.{ℕ-discrete, decLt}
-use lib.Dec.{T, ltb, leb, eqb, eqb→eq, eqb-refl}
+use lib.Dec.{T, leb, eqb, eqb→eq}
 use lib.ListN.{length, getD, drop, length-append, List·getD-eq-default}
 use lib.Seq.{ext-getD, getD-drop}
 use borrow.Author.Tests.{leb-false}
 use Rattle.model.specs.declared.Refusal.{Refusal}
-use Rattle.model.specs.Base.{if_then_else_, _orElse_, firstFrom, every, numbersFrom, anyBelow, sameList}
+use Rattle.model.specs.Base.{if_then_else_, firstFrom, every, numbersFrom, anyBelow, sameList}
 use Rattle.model.specs.Verdict.{refuseIf}
 use Rattle.model.specs.Grammar.{emptyWord}
 use Rattle.model.specs.WellFormed.{WellFormed}
 use Rattle.model.specs.GrammarFile.{within, allZero, fields}
 use Rattle.model.specs.Writer.{allBytes, little2, padded}
-use Rattle.model.proofs.Tests.{or-l, or-r, and-l, and-r, and-both, and-false, not-off, not-both, no-refusal, first-of, rest-of, first-none, any-none, within-low, list-same}
-use Rattle.model.proofs.Lists.{map-out, map-in}
+use Rattle.model.proofs.Tests.{or-l, or-r, and-l, and-r, and-false, not-off, no-refusal, first-of, rest-of, first-none, any-none, within-low, list-same}
+use Rattle.model.proofs.Lists.{map-out}
 use Rattle.model.proofs.Once.{numbers-low}
 use Rattle.model.proofs.ByteLists.{fields-length, fields-at, after-front, padded-length, padded-at, zeros-at, Bytes, bytes-at, bytes-fields, two-again}
 use Rattle.model.specs.Demands.{_⇔_}

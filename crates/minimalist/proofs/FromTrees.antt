@@ -1,23 +1,23 @@
 -- The minimalist derivation that a tree of a made grammar spells: what a tree is by its derivation, and that no other tree has it.
 -- Assumes nothing.
 use mathlib.Core.Path.{_≡_, refl, ap, ap₂, sym, subst, _∙_}
-use mathlib.Core.Bool.{Bool, true, false, _&&_}
+use mathlib.Core.Bool.{Bool, true, false}
 use mathlib.Core.Option.{Option, none, some}
-use mathlib.Core.List.{List, [], _∷_, _++_, map, List·Memᴰ, List·Memᴰ·head, List·Memᴰ·tail}
+use mathlib.Core.List.{List, [], _∷_, map, List·Memᴰ, List·Memᴰ·head, List·Memᴰ·tail}
 use Prim.Native.Nat.{ℕ, _<_}
 use native.Mathlib.Omega.{arith}
-use lib.Dec.{T, eqb}
-use lib.ListN.{length, getD}
-use Rattle.model.specs.Grammar.{Variable, Rule, Grammar, ruleAt}
+use lib.Dec.{T}
+use lib.ListN.{length}
+use Rattle.model.specs.Grammar.{Rule, Grammar, ruleAt}
 use Rattle.model.specs.WellFormed.{WellFormed}
 use Rattle.model.specs.Tree.{Tree, Forest, node, nil, cons, hasRoot, hasRoots}
 use Rattle.model.specs.Conversions.{label}
-use Rattle.model.proofs.Tests.{and-l, and-r, and-both}
+use Rattle.model.proofs.Tests.{and-l, and-r}
 use Rattle.model.proofs.Traces.{Root, root}
 use Rattle.minimalist.specs.Lexicon.{Entry}
 use Rattle.minimalist.specs.Derivations.{Derivation, leaf, merge, move}
-use Rattle.minimalist.specs.Schemes.{Form, Instance, mergeScheme, moveScheme, leftOut, lexicalForm}
-use Rattle.minimalist.specs.Made.{Name, newStart, form, NamedRule, startForm, startRule, entryRule, mergeRule, moveRule, Made, of-start, of-entry, of-merge, of-move, nameOf, namedRule, MadeFrom}
+use Rattle.minimalist.specs.Schemes.{Form, Instance, mergeScheme, moveScheme}
+use Rattle.minimalist.specs.Made.{Name, newStart, form, NamedRule, entryRule, mergeRule, moveRule, Made, of-start, of-entry, of-merge, of-move, nameOf, namedRule, MadeFrom}
 use Rattle.minimalist.proofs.Harmless.{some-one}
 
 -- names told apart

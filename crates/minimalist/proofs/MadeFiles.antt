@@ -2,13 +2,11 @@
 -- Assumes nothing.
 use mathlib.Core.Path.{_≡_, refl, sym, subst, _∙_}
 use mathlib.Core.Bool.{Bool, true, false}
-use mathlib.Core.Option.{some}
 use mathlib.Core.List.{List, [], _∷_, map}
 use Prim.Native.Nat.{ℕ}
 use native.Mathlib.Omega.{arith}
-use Rattle.model.specs.Grammar.{Rule, Grammar, ruleAt, isLexical}
+use Rattle.model.specs.Grammar.{Rule, Grammar, isLexical}
 use Rattle.model.specs.WellFormed.{WellFormed}
-use Rattle.model.specs.GrammarFile.{grammarOf}
 use Rattle.model.proofs.Tests.{not-both}
 use Rattle.grammar_to_file.specs.FileFor.{fileFor, Storable}
 use Rattle.grammar_to_file.proofs.GrammarsAndFiles.{grammars-and-files}

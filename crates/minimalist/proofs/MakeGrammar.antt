@@ -1,11 +1,10 @@
 -- The call that makes a grammar file: for every input there is an outcome as promised, demand 1 holds of every such outcome, and 31 is what the paper says of it.
 -- Assumes nothing.
-use mathlib.Core.Path.{_≡_, refl, ap, sym, subst, _∙_}
+use mathlib.Core.Path.{_≡_, ap, sym, subst, _∙_}
 use mathlib.Core.Bool.{Bool, true, false}
 use mathlib.Core.Option.{Option, none, some}
 use mathlib.Core.List.{List, [], _∷_, _++_}
 use Prim.Native.Nat.{ℕ, _*_, _<_, _≤_}
-use native.Mathlib.Omega.{arith}
 use lib.Dec.{T, ltb}
 use lib.ListN.{length, drop, length-map}
 use borrow.Author.Tests.{ltb-false, lt-ltb, le-ltb}
@@ -14,7 +13,7 @@ use Rattle.model.specs.declared.Verdict.{Verdict}
 use Rattle.model.specs.Base.{_orElse_}
 use Rattle.model.specs.Verdict.{refuseIf, verdict, verdictAnswer}
 use Rattle.model.specs.Grammar.{Grammar}
-use Rattle.model.specs.GrammarFile.{grammarOf, blocksFor}
+use Rattle.model.specs.GrammarFile.{blocksFor}
 use Rattle.model.specs.WellFormed.{WellFormed}
 use Rattle.model.specs.Writer.{allBytes}
 use Rattle.model.specs.Calls.{written}
@@ -29,7 +28,7 @@ use Rattle.minimalist.specs.Lexicon.{lexiconOf, entries, wrongLexicon, r
 use Rattle.minimalist.specs.Made.{MadeFrom, MadeFile}
 use Rattle.minimalist.specs.Closure.{formsOf, madeRules}
 use Rattle.minimalist.specs.Numbering.{numberedRule, madeGrammar}
-use Rattle.minimalist.specs.MakeGrammar.{madeTooLarge, lexiconRefusal, madeLength, makeRefusal, makeVerdict, MakeOutcome, makeTests, Demand1Made, SizeTested}
+use Rattle.minimalist.specs.MakeGrammar.{madeTooLarge, lexiconRefusal, madeLength, makeRefusal, MakeOutcome, makeTests, Demand1Made, SizeTested}
 use Rattle.minimalist.proofs.Entries.{size-met, well-made-from}
 use Rattle.minimalist.proofs.MadeFiles.{made-stored, made-file-of}
 

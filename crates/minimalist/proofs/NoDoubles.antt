@@ -1,24 +1,24 @@
 -- No rule of a made grammar is another one with its daughters in some order: refusal 10 meets no made file.
 -- Assumes nothing.
-use mathlib.Core.Path.{_≡_, refl, ap, ap₂, sym, subst, _∙_}
+use mathlib.Core.Path.{_≡_, refl, ap, ap₂, sym, _∙_}
 use mathlib.Core.Logic.{_⊎_, inl, inr, ⊎-elim}
 use mathlib.Core.Bool.{Bool, true, false}
-use mathlib.Core.Option.{Option, none, some}
-use mathlib.Core.List.{List, [], _∷_, map, List·Memᴰ, List·Memᴰ·cases-cons, List·Memᴰ·eq-of-singleton}
-use Prim.Native.Nat.{ℕ, _+_, _<_, _≤_}
+use mathlib.Core.Option.{none, some}
+use mathlib.Core.List.{List, [], _∷_, map, List·Memᴰ·cases-cons, List·Memᴰ·eq-of-singleton}
+use Prim.Native.Nat.{ℕ, _+_, _≤_}
 use native.Mathlib.Omega.{arith}
 use lib.Dec.{T, eqb, eqb→eq}
 use lib.ListN.{length, getD}
 use Rattle.model.specs.Base.{if_then_else_, numbersFrom}
-use Rattle.model.specs.Grammar.{Rule, Grammar, ruleAt}
+use Rattle.model.specs.Grammar.{Grammar}
 use Rattle.model.specs.GrammarFile.{within}
 use Rattle.model.specs.WellFormed.{WellFormed, Perm}
 use Rattle.model.proofs.Tests.{and-l, and-r, none-some, within-low}
-use Rattle.doubles.specs.Doubles.{Reordered, NoDoubles}
+use Rattle.doubles.specs.Doubles.{NoDoubles}
 use Rattle.doubles.proofs.Orders.{order-length, order-low, is-among}
 use Rattle.minimalist.specs.Lexicon.{Entry, selects}
-use Rattle.minimalist.specs.Schemes.{Form, Instance, mergeBy, mergeIf, mergeScheme, moveScheme, lexicalForm}
-use Rattle.minimalist.specs.Made.{Name, form, NamedRule, startForm, startRule, entryRule, mergeRule, moveRule, Made, of-start, of-entry, of-merge, of-move, nameOf, namedRule, MadeFrom}
+use Rattle.minimalist.specs.Schemes.{Form, Instance, mergeBy, mergeIf, mergeScheme, moveScheme}
+use Rattle.minimalist.specs.Made.{Name, NamedRule, startRule, entryRule, mergeRule, moveRule, Made, of-start, of-entry, of-merge, of-move, nameOf, namedRule, MadeFrom}
 use Rattle.minimalist.proofs.Harmless.{some-one}
 use Rattle.minimalist.proofs.FromTrees.{not-start, form-one, cons-head, cons-tail, nil-cons, headOf, same-rule}
 

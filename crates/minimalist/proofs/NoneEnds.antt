@@ -1,12 +1,12 @@
 -- What is left out can end in no sentence: no derivation of the wanted category has a part whose category is left out.
 -- Assumes nothing.
 use mathlib.Core.Path.{_≡_, ap, sym, _∙_}
-use mathlib.Core.Bool.{Bool, false, _||_}
+use mathlib.Core.Bool.{false, _||_}
 use mathlib.Core.Option.{some}
 use mathlib.Core.List.{List, [], _∷_}
 use Prim.Native.Nat.{ℕ}
 use Rattle.minimalist.specs.Lexicon.{Entry}
-use Rattle.minimalist.specs.Derivations.{Chain, Expression, Derivation, merge, move, merged, moved, derived}
+use Rattle.minimalist.specs.Derivations.{Chain, Expression, Derivation, merged, moved, derived}
 use Rattle.minimalist.specs.Schemes.{featuresOf, formOf, mergeScheme, moveScheme, noFeatures, wrongMoving, leftOut, PartOf, the-whole, of-selecting, of-selected, of-moved, NoneEnds}
 use Rattle.minimalist.proofs.Agree.{strings, merge-agrees, move-agrees}
 use Rattle.minimalist.proofs.Harmless.{some-one, merge-harmless, move-harmless}

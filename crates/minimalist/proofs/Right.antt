@@ -1,25 +1,24 @@
 -- The grammar made from a lexicon is all that document 01 says of a grammar: dimensions from 1 to 4, and every variable of every daughter once.
 -- Assumes nothing.
 use mathlib.Core.Path.{_≡_, refl, ap, ap₂, sym, subst, _∙_}
-use mathlib.Core.Logic.{_⊎_, inl, inr, ⊎-elim}
 use mathlib.Core.Bool.{Bool, true, false, _&&_, _||_, not}
-use mathlib.Core.Option.{Option, none, some}
-use mathlib.Core.List.{List, [], _∷_, _++_, map, append-nil, append-assoc, List·Memᴰ, List·Memᴰ·head, List·Memᴰ·tail, List·Memᴰ·cases-cons}
-use Prim.Native.Nat.{ℕ, zero, suc, _+_, _<_, _≤_}
+use mathlib.Core.Option.{none, some}
+use mathlib.Core.List.{List, [], _∷_, _++_, map, append-nil, append-assoc}
+use Prim.Native.Nat.{ℕ, zero, suc, _+_, _≤_}
 use native.Mathlib.Omega.{arith}
 use native.Mathlib.Decide.{ℕ-discrete}
 use lib.Dec.{T, eqb, eqb→eq}
-use lib.ListN.{length, getD, getElem?, length-append, length-map}
-use borrow.Author.Tests.{eq-eqb, ne-eqb}
-use Rattle.model.specs.Base.{if_then_else_, each, numbersFrom}
-use Rattle.model.specs.Grammar.{Variable, Rule, Grammar, variable, ruleAt, dimension, isLexical, emptyWord}
-use Rattle.model.specs.WellFormed.{Perm, same, more, swap, chain, daughterVariables, named, RightRule, Right, InRange, WellFormed}
+use lib.ListN.{length, length-append, length-map}
+use borrow.Author.Tests.{eq-eqb}
+use Rattle.model.specs.Base.{if_then_else_, numbersFrom}
+use Rattle.model.specs.Grammar.{Variable, variable}
+use Rattle.model.specs.WellFormed.{Perm, same, more, swap, chain, named}
 use Rattle.model.proofs.Tests.{or-l, or-r, not-both, none-some, not-off, within-low}
 use Rattle.model.proofs.Lists.{each-append, length-numbers}
-use Rattle.model.proofs.Perm.{perm-move, perm-left, perm-right, perm-sym}
-use Rattle.minimalist.specs.Lexicon.{Entry, selects, isLicensor, isLicensee}
+use Rattle.model.proofs.Perm.{perm-move, perm-sym}
+use Rattle.minimalist.specs.Lexicon.{Entry, selects, isLicensor}
 use Rattle.minimalist.specs.Derivations.{begins}
-use Rattle.minimalist.specs.Schemes.{Form, Instance, formDimension, singles, joinedVariables, mergeBy, mergeIf, mergeScheme, howManyBegin, leftOver, movingAfter, landingVariable, stayingVariable, landingAt, staying, moveBy, moveIf, moveScheme, noFeatures, beginsLicensee, sameFirst, anySameFirst, wrongMoving, leftOut, lexicalForm, Derivable, by-entry, by-merge, by-move}
+use Rattle.minimalist.specs.Schemes.{Form, Instance, formDimension, singles, joinedVariables, mergeBy, mergeIf, mergeScheme, howManyBegin, leftOver, movingAfter, landingVariable, stayingVariable, landingAt, staying, moveBy, moveIf, moveScheme, noFeatures, beginsLicensee, anySameFirst, wrongMoving, Derivable, by-entry, by-merge, by-move}
 use Rattle.minimalist.proofs.Harmless.{some-one}
 
 -- components of one variable each

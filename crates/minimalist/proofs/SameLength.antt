@@ -1,21 +1,21 @@
 -- All files that the promise allows are of one length: so verdict and refusal 23 do not hang on the numbering.
 -- Assumes nothing.
 use mathlib.Core.Path.{_≡_, refl, ap, sym, subst, _∙_}
-use mathlib.Core.Option.{Option, none, some}
-use mathlib.Core.List.{List, [], _∷_, map, List·Memᴰ, List·Memᴰ·head, List·Memᴰ·tail}
-use Prim.Native.Nat.{ℕ, zero, suc, _<_, _≤_, _*_}
+use mathlib.Core.Option.{some}
+use mathlib.Core.List.{List, [], _∷_, map, List·Memᴰ}
+use Prim.Native.Nat.{ℕ, suc, _≤_, _*_}
 use native.Mathlib.Omega.{arith}
 use lib.ListN.{length, getElem?, length-map}
-use Rattle.model.specs.Grammar.{Rule, Grammar, ruleAt}
+use Rattle.model.specs.Grammar.{Grammar}
 use Rattle.model.specs.WellFormed.{WellFormed}
 use Rattle.model.specs.GrammarFile.{grammarOf, rulesOf, blocksFor}
-use Rattle.model.proofs.Lists.{map-in, map-out}
+use Rattle.model.proofs.Lists.{map-in}
 use Rattle.model.proofs.FileTests.{passed}
 use Rattle.model.proofs.WellFormed.{accepted-well, rules-length}
 use Rattle.minimalist.specs.Once.{Once}
 use Rattle.minimalist.specs.Lexicon.{Entry}
-use Rattle.minimalist.specs.Made.{NamedRule, Made, namedRule, Numbered, MadeFrom, MadeFile}
-use Rattle.minimalist.proofs.FromTrees.{SameRule, same-rule}
+use Rattle.minimalist.specs.Made.{NamedRule, Made, namedRule, MadeFrom, MadeFile}
+use Rattle.minimalist.proofs.FromTrees.{same-rule}
 use Rattle.minimalist.proofs.Canonical.{elem-in, elem-out, elem-map-out}
 use Rattle.minimalist.proofs.Size.{no-more}
 

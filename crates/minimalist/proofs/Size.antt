@@ -1,17 +1,17 @@
 -- Refusal 31 meets just the lexicons whose grammar is no grammar of document 01 by its size, or that derive no start form.
 -- Assumes nothing.
-use mathlib.Core.Path.{_≡_, refl, ap, sym, subst, _∙_}
+use mathlib.Core.Path.{_≡_, refl, ap, sym, subst}
 use mathlib.Core.Logic.{_⊎_, inl, inr, ⊎-elim}
 use mathlib.Core.Bool.{Bool, true, false, _||_, not}
-use mathlib.Core.Option.{Option, some}
+use mathlib.Core.Option.{some}
 use mathlib.Core.List.{List, [], _∷_, _++_, map, List·Memᴰ, List·Memᴰ·head, List·Memᴰ·tail, List·Memᴰ·cases-cons, List·Memᴰ·append-cases}
 use Prim.Native.Nat.{ℕ, zero, suc, _+_, _<_, _≤_}
 use native.Mathlib.Omega.{arith}
 use lib.Dec.{T, ltb, eqb, eqb→eq, ltb→lt}
 use lib.ListN.{length, length-append, length-map}
 use borrow.Author.Tests.{ltb-true, ltb-false}
-use Rattle.model.specs.Base.{if_then_else_, each}
-use Rattle.model.specs.Grammar.{Rule, Grammar, ruleAt, emptyWord}
+use Rattle.model.specs.Base.{if_then_else_}
+use Rattle.model.specs.Grammar.{emptyWord}
 use Rattle.model.specs.WellFormed.{WellFormed}
 use Rattle.model.specs.Demands.{_⇔_}
 use Rattle.model.proofs.Tests.{or-l, or-r, or-cases, not-both, not-off}
@@ -23,7 +23,7 @@ use Rattle.minimalist.specs.Made.{Name, newStart, form, NamedRule, start
 use Rattle.minimalist.specs.Closure.{formsOf, isAmong, startRules, schemeRules, madeRules, tooLarge}
 use Rattle.minimalist.specs.Numbering.{madeBy, madeGrammar}
 use Rattle.minimalist.proofs.FromTrees.{not-start, form-one}
-use Rattle.minimalist.proofs.Forms.{among-in, forms-are, rounds-apart, TooMany, too-many}
+use Rattle.minimalist.proofs.Forms.{forms-are, rounds-apart, TooMany, too-many}
 use Rattle.minimalist.proofs.Canonical.{once-map, listed-made, made-listed, rules-once, bool-in, start-in, starts-out, made-grammar}
 use Rattle.minimalist.proofs.WellMade.{well-made}
 

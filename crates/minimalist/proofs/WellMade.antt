@@ -1,28 +1,28 @@
 -- The grammar made from a lexicon, in that one numbering, is well-formed where 30 and 31 do not meet the lexicon.
 -- Assumes nothing.
 use mathlib.Core.Path.{_≡_, refl, ap, ap₂, sym, subst, _∙_}
-use mathlib.Core.Logic.{_⊎_, inl, inr, ⊎-elim}
+use mathlib.Core.Logic.{_⊎_, ⊎-elim}
 use mathlib.Core.Bool.{Bool, true, false}
-use mathlib.Core.Option.{Option, none, some}
-use mathlib.Core.List.{List, [], _∷_, _++_, map, append-nil, List·Memᴰ, List·Memᴰ·head, List·Memᴰ·tail, List·Memᴰ·cases-cons, List·Memᴰ·eq-of-singleton}
+use mathlib.Core.Option.{some}
+use mathlib.Core.List.{List, [], _∷_, _++_, map, List·Memᴰ, List·Memᴰ·head, List·Memᴰ·tail, List·Memᴰ·cases-cons, List·Memᴰ·eq-of-singleton}
 use Prim.Native.Nat.{ℕ, zero, suc, _+_, _<_, _≤_}
 use native.Mathlib.Omega.{arith}
 use lib.Dec.{T}
-use lib.ListN.{length, getD, getElem?, length-append, length-map}
+use lib.ListN.{length, getD, length-map}
 use Rattle.model.specs.Base.{if_then_else_, numbersFrom}
-use Rattle.model.specs.Grammar.{Variable, Rule, Grammar, variable, ruleAt, dimension, isLexical, emptyWord}
-use Rattle.model.specs.WellFormed.{Perm, same, chain, daughterVariables, named, RightRule, Right, InRange, WellFormed}
+use Rattle.model.specs.Grammar.{Rule, Grammar, variable, ruleAt, dimension, emptyWord}
+use Rattle.model.specs.WellFormed.{same, chain, daughterVariables, RightRule, InRange, WellFormed}
 use Rattle.model.specs.Demands.{_⇔_}
 use Rattle.model.proofs.Tests.{not-both}
 use Rattle.minimalist.specs.Once.{Once}
 use Rattle.minimalist.specs.Lexicon.{Entry}
-use Rattle.minimalist.specs.Schemes.{Form, Instance, formDimension, mergeScheme, moveScheme, leftOut, lexicalForm, Derivable, by-entry, by-merge, by-move}
-use Rattle.minimalist.specs.Made.{Name, newStart, form, dimensionOf, NamedRule, startForm, Made, of-start, of-entry, of-merge, of-move, IsCategory, entryRule}
-use Rattle.minimalist.specs.Closure.{sameForm, startRules, schemeRules, madeRules}
+use Rattle.minimalist.specs.Schemes.{Form, formDimension, lexicalForm, Derivable, by-entry, by-merge, by-move}
+use Rattle.minimalist.specs.Made.{Name, newStart, form, dimensionOf, NamedRule, startForm, Made, of-start, of-entry, of-merge, of-move, IsCategory}
+use Rattle.minimalist.specs.Closure.{sameForm, madeRules}
 use Rattle.minimalist.specs.Numbering.{placeOf, numberOf, numberedRule, madeBy}
 use Rattle.minimalist.proofs.Forms.{same-form, form-same}
 use Rattle.minimalist.proofs.Canonical.{listed-made, elem-out, elem-map-out}
-use Rattle.minimalist.proofs.Right.{variablesOf, RightInstance, merge-right, move-right, dimension-few}
+use Rattle.minimalist.proofs.Right.{variablesOf, merge-right, move-right, dimension-few}
 
 record Place (l : List Form) (a : Form) : Type 0 where
   pub below : placeOf l a < length l

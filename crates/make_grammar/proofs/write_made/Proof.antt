@@ -1,14 +1,12 @@
 -- `make_grammar::write_made` meets its contract.
 -- Assumes nothing.
 use native.Mathlib.Omega.{arith}
-use mathlib.Core.Path.{_≡_, refl, ap, ap₂, sym, subst, _∙_}
+use mathlib.Core.Path.{ap, ap₂, _∙_}
 use mathlib.Core.List.{List, _++_}
-use Prim.Native.Nat.{ℕ, suc, _*_}
-use lib.ListN.{length, drop}
-use borrow.Author.Tests.{lt-ltb, le-ltb}
+use Prim.Native.Nat.{ℕ, _*_}
+use lib.ListN.{drop}
 use borrow.Rule.Slice.PartMut.{post-is}
 use Rattle.model.specs.Writer.{Heading, fileOf}
-use Rattle.writer.specs.Writing.{heading}
 use Rattle.make_grammar.specs.Making.{madeHeading}
 use Rattle.make_grammar.proofs.Outcome.{no-room-left, room-left, heading-made}
 use borrow.Author.Needs.{needs}
