@@ -11,7 +11,7 @@ use lib.Dec.{ltb}
 use lib.ListN.{length, take, length-append, List·getD-append}
 use lib.Seq.{take-at, take-suc, take-all}
 use Rattle.model.specs.Base.{if_then_else_, each, numbersFrom}
-use Rattle.model.proofs.Lists.{each-append, map-append}
+use Rattle.model.proofs.Lists.{each-append, map-append, numbers-next}
 use Rattle.minimalist.specs.Lexicon.{Entry, entryOf, entryBytes, lexiconOf}
 use Rattle.minimalist.specs.Schemes.{Form, mergeScheme, moveScheme, lexicalForm}
 use Rattle.minimalist.specs.Closure.{isAmong, addForm, addForms, resultOf, resultsOf, formsAfter, formsOf}
@@ -164,11 +164,7 @@ no-entries table = (
 )
 
 numbers-further : (a n : ℕ) → numbersFrom a (n + 1) ≡ numbersFrom a n ++ ((a + n) ∷ [])
-numbers-further a n = ap (numbersFrom a) (add-one n) ∙ go a n
-  where
-    go : (a n : ℕ) → numbersFrom a (suc n) ≡ numbersFrom a n ++ ((a + n) ∷ [])
-    go a zero = let e : a ≡ a + 0 = omega arith in ap (λ (x : ℕ). x ∷ []) e
-    go a (suc n) = let e : suc a + n ≡ a + suc n = omega arith in ap (λ (l : List ℕ). a ∷ l) (go (suc a) n ∙ ap (λ (x : ℕ). numbersFrom (suc a) n ++ (x ∷ [])) e)
+numbers-further a n = ap (numbersFrom a) (add-one n) ∙ numbers-next a n
 
 module _ (bytes : List ℕ) where
   abbrev pub firstEntries : ℕ → List Entry

@@ -10,11 +10,10 @@ use lib.Dec.{eqb}
 use lib.ListN.{length, getD, drop, length-map}
 use borrow.Author.Tests.{eqb-true}
 use Rattle.model.specs.Base.{if_then_else_}
-use Rattle.model.proofs.Tests.{none-some, or-r}
+use Rattle.model.proofs.Tests.{none-some, or-r, some-one}
 use Rattle.minimalist.specs.Lexicon.{selects, isLicensor, entryOf}
 use Rattle.minimalist.specs.Schemes.{Form, Instance, mergeBy, mergeIf, mergeScheme, howManyBegin, movingAfter, moveBy, moveIf, moveScheme, noFeatures, wrongMoving, leftOut, lexicalForm}
 use Rattle.minimalist.specs.Closure.{addForms, resultOf}
-use Rattle.minimalist.proofs.Harmless.{some-one}
 use Rattle.minimalist.proofs.Right.{few-moving}
 use Rattle.forms.specs.Rows.{rowOf, Small, SaysLeftOut, mergeNumber, MergeIs, SaysMerge, placeIn, moveCode, MoveIs, SaysMove}
 use Rattle.forms.proofs.MoveRows.{how-many, placed}

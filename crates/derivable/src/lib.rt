@@ -3,5 +3,6 @@ mod rounds;
 mod tables;
 
 pub use rounds::derivable_forms;
+pub use tables::TABLE;
 pub use tables::find_row;
 pub use tables::row_of;

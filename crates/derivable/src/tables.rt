@@ -10,6 +10,9 @@ use grammar::same_bytes;
 // The most rows of a table: one more than a grammar has categories beside the new start.
 pub const ROWS: usize = 64;
 
+// The bytes of a table.
+pub const TABLE: usize = 4096;
+
 // Row i.
 pub fn row_of(table: &[u8], i: usize) -> &[u8]
     requires { ⌜ i ≤ 64 ⌝ }

@@ -79,12 +79,12 @@ write-fits h records out = value (writeRefusal h records out) (length (fileOf h 
         rw (file-length h records) (blocks-few (h .rules) (ltb-false 256 (h .rules) r))
 
 pub make-fits : (lexicon : List ℕ) (words start : ℕ) (out : List ℕ) → ValueFits (makeVerdict lexicon words start out)
-make-fits lexicon words start out = value (makeRefusal lexicon words start out) (madeLength lexicon words start) few
+make-fits lexicon words start out = value (makeRefusal lexicon words start out) (madeLength lexicon start) few
   where
-    few : makeRefusal lexicon words start out ≡ none → madeLength lexicon words start ≤ 7168
+    few : makeRefusal lexicon words start out ≡ none → madeLength lexicon start ≤ 7168
     few e =
-        let large = madeTooLarge lexicon words start in
-        let passed = first-of (lexiconRefusal lexicon words start) (refuseIf (ltb (length out) (madeLength lexicon words start)) (Refusal.Desk 23 0)) e in
+        let large = madeTooLarge lexicon start in
+        let passed = first-of (lexiconRefusal lexicon words start) (refuseIf (ltb (length out) (madeLength lexicon start)) (Refusal.Desk 23 0)) e in
         let small = no-refusal large (Refusal.Grammar 31 0) (rest-of (entriesRefusal lexicon words start) (refuseIf large (Refusal.Grammar 31 0)) passed) in
         blocks-few (length (madeRules (lexiconOf lexicon) start (formsOf (lexiconOf lexicon)))) (rules-few (lexiconOf lexicon) start (formsOf (lexiconOf lexicon)) small)
 

@@ -14,7 +14,7 @@ use Rattle.model.specs.Base.{if_then_else_}
 use Rattle.minimalist.specs.Lexicon.{selects}
 use Rattle.minimalist.specs.Schemes.{Form, mergeIf, mergeScheme}
 use Rattle.forms.specs.Rows.{flag, headByte, rowByte, rowOf, Small, restByte, goingByte, lateByte, mergeByte, FilledBy, mergeNumber, MergeIs, SaysMerge}
-use Rattle.forms.proofs.RowLaws.{row-by, cell-is, head-at, flag-at, count-at, chain-at}
+use Rattle.forms.proofs.RowLaws.{row-by, cell-is, head-at, flag-at, count-at, chain-at, first-at}
 use Rattle.lexicon.proofs.FeatureKinds.{no-category}
 use Rattle.model.proofs.Tests.{not-both}
 
@@ -143,10 +143,10 @@ no-head s = no-category s 0 refl
 
 module _ (x y : List ℕ) (a b : Form) (small-a : Small a) (small-b : Small b) (few : length (a .moving) + length (b .moving) ≤ 6) (ra : x ≡ rowOf a) (rb : y ≡ rowOf b) where
   first-a : getD x 0 0 ≡ getD (a .head) 0 0
-  first-a = ap (λ (l : List ℕ). getD l 0 0) ra ∙ head-at a 0 (omega arith)
+  first-a = first-at x a ra
 
   first-b : getD y 0 0 ≡ getD (b .head) 0 0
-  first-b = ap (λ (l : List ℕ). getD l 0 0) rb ∙ head-at b 0 (omega arith)
+  first-b = first-at y b rb
 
   second-b : getD y 1 0 ≡ getD (b .head) 1 0
   second-b = ap (λ (l : List ℕ). getD l 1 0) rb ∙ head-at b 1 (omega arith)

@@ -15,7 +15,7 @@ use Rattle.model.proofs.Tests.{not-both}
 use Rattle.minimalist.specs.Lexicon.{isLicensor}
 use Rattle.minimalist.specs.Schemes.{Form, howManyBegin, leftOver, movingAfter, moveIf, moveScheme}
 use Rattle.forms.specs.Rows.{headByte, rowByte, rowOf, NonZero, Small, restByte, FilledBy, firstsIn, placeIn, landByte, stayByte, moveByte, moveCode, MoveIs, SaysMove}
-use Rattle.forms.proofs.RowLaws.{row-by, row-long, cell-is, head-at, count-at, chain-at}
+use Rattle.forms.proofs.RowLaws.{row-by, row-long, cell-is, head-at, count-at, chain-at, first-at}
 use Rattle.forms.proofs.RowForms.{firsts-of, first-more, first-end}
 use Rattle.forms.proofs.MoveRows.{how-many, placed, landed, landed-long, stayed, stayed-long}
 
@@ -117,7 +117,7 @@ code-stays t (m ∷ f ∷ β) d h = omega arith
 
 module _ (x : List ℕ) (a : Form) (small : Small a) (ra : x ≡ rowOf a) where
   first-a : getD x 0 0 ≡ getD (a .head) 0 0
-  first-a = ap (λ (l : List ℕ). getD l 0 0) ra ∙ head-at a 0 (omega arith)
+  first-a = first-at x a ra
 
   none-says : (after : List ℕ) → isLicensor (getD x 0 0) ≡ false → MoveIs a (moveScheme a) 0 after
   none-says after w = go (a .head) refl

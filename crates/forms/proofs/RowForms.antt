@@ -11,6 +11,7 @@ use lib.Dec.{eqb}
 use lib.ListN.{length, getD, length-map, List·getD-eq-default, List·getD-map}
 use lib.Seq.{ext-getD}
 use borrow.Author.Tests.{lt-ltb, le-ltb, eq-eqb, ne-eqb}
+use Rattle.minimalist.proofs.Entries.{features-at}
 use Rattle.model.specs.Base.{if_then_else_, numbersFrom}
 use Rattle.model.specs.GrammarFile.{fields}
 use Rattle.model.proofs.Lists.{length-numbers}
@@ -23,15 +24,6 @@ use Rattle.lexicon.proofs.EntryWalks.{six-long}
 use Rattle.forms.proofs.RowLaws.{listed-at, row-by, cell-is, head-at, count-at, chain-at}
 
 -- the bytes before the first 0
-pub before-at : (l : List ℕ) (i : ℕ) → i < length (beforeZero l) → getD (beforeZero l) i 0 ≡ getD l i 0
-before-at [] i h = refl
-before-at (b ∷ bs) i h = go (eqb b 0) i h (λ j k. before-at bs j k)
-  where
-    go : (t : Bool) (i : ℕ) → i < length (if t then [] else b ∷ beforeZero bs) → ((j : ℕ) → j < length (beforeZero bs) → getD (beforeZero bs) j 0 ≡ getD bs j 0) → getD (if t then [] else b ∷ beforeZero bs) i 0 ≡ getD (b ∷ bs) i 0
-    go true i h ih = let z : ⊥ = omega arith in absurd z
-    go false zero h ih = refl
-    go false (suc i) h ih = ih i (omega arith)
-
 pub before-few : (l : List ℕ) → length (beforeZero l) ≤ length l
 before-few [] = omega arith
 before-few (b ∷ bs) = go (eqb b 0) (before-few bs)
@@ -86,7 +78,7 @@ module _ (e : List ℕ) where
   entry-row p = go (decLt p 6) (decLt p n) (ℕ-discrete p 6)
     where
       go : Dec (p < 6) → Dec (p < n) → Dec (p ≡ 6) → entryByte six n p ≡ rowByte (lexicalForm (entryOf e)) p
-      go (yes h) (yes k) s = rw (lt-ltb p n k) (sym (still-head (lexicalForm (entryOf e)) refl p h ∙ before-at six p k))
+      go (yes h) (yes k) s = rw (lt-ltb p n k) (sym (still-head (lexicalForm (entryOf e)) refl p h ∙ features-at six p k))
       go (yes h) (no k) s = rw (le-ltb p n (omega arith), ne-eqb p 6 (λ q. omega arith)) (sym (still-head (lexicalForm (entryOf e)) refl p h ∙ List·getD-eq-default (beforeZero six) 0 {n = p} (omega arith)))
       go (no h) k (yes s) = rw (le-ltb p n (omega (arith, n-few)), eq-eqb p 6 s) (sym (still-flag (lexicalForm (entryOf e)) refl p s))
       go (no h) k (no s) = rw (le-ltb p n (omega (arith, n-few)), ne-eqb p 6 s) (sym (still-rest (lexicalForm (entryOf e)) refl p (omega arith)))

@@ -106,3 +106,7 @@ module _ (a b : Form) (p : Small a) (q : Small b) (e : rowOf a ≡ rowOf b) wher
   -- forms with the same row are the same
   pub row-one : a ≡ b
   row-one = λ i. record { lexical = lexical-one i; head = head-one i; moving = moving-one i }
+
+-- the first feature of the head
+pub first-at : (x : List ℕ) (a : Form) → x ≡ rowOf a → getD x 0 0 ≡ getD (a .head) 0 0
+first-at x a r = ap (λ (l : List ℕ). getD l 0 0) r ∙ head-at a 0 (omega arith)

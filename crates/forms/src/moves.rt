@@ -9,6 +9,7 @@ use crate::forms::movers;
 use crate::merges::rest_byte;
 use grammar::byte;
 use grammar::less;
+use lexicon::PARTNER;
 use lexicon::is_licensor;
 
 // How many of the n moving chains begin with the byte m.
@@ -106,10 +107,10 @@ pub fn move_row(a: &[u8], row: &mut [u8]) -> u8
         return 0;
     }
     let n = movers(a);
-    if how_many(a, n, f + 16) != 1 {
+    if how_many(a, n, f + PARTNER) != 1 {
         return 0;
     }
-    let t = first_begins(a, n, f + 16);
+    let t = first_begins(a, n, f + PARTNER);
     if byte(a, 8 * (t + 1) + 1) == 0 {
         put_move(a, n, t, true, row);
         return ((33 + t) % 256) as u8;

@@ -19,7 +19,7 @@ use Rattle.model.specs.Grammar.{Variable, Rule, Grammar, ruleAt, dimension, isL
 use Rattle.model.specs.WellFormed.{WellFormed, InRange, RightRule, named}
 use Rattle.model.specs.GrammarFile.{within, allZero, fields, dimensionIn, dimensionsOf, rulesOf, recordOf, sameRule, repeated, recordRefusal, ruleOf, grammarRefusal, grammarOf, wrongCategory, wrongWord, wrongVariables, unusedSet}
 use Rattle.model.specs.Writer.{Heading, allBytes, fitsFields, little2, padded, writerRefusal}
-use Rattle.model.proofs.Tests.{passes as on, fails, and-both, on-not, every-by, none-by}
+use Rattle.model.proofs.Tests.{passes as on, fails, and-both, on-not, every-by, none-by, some-one, within-bounds}
 use Rattle.model.proofs.Lists.{number-below}
 use Rattle.model.proofs.ByteLists.{fields-length, fields-at, padded-length, padded-at, zeros-by, Bytes, all-bytes, bytes-append, bytes-padded, bytes-little2}
 use Rattle.model.proofs.WriterFile.{file-written}
@@ -31,9 +31,6 @@ use Rattle.doubles.proofs.RefusalTen.{refusal-ten}
 use Rattle.grammar_to_file.specs.FileFor.{codeOf, bytesBeforeWeight, recordFor, headingFor, fileFor, Storable}
 use Rattle.grammar_to_file.proofs.Records.{lens, codes, fromVariables, fromLengths, fromWord, fromDaughters, long}
 use Rattle.grammar_to_file.proofs.RecordTests.{category-passes, word-passes, variables-pass, unused-passes, holds-rule, word-passes-lexical, variables-pass-lexical, unused-passes-lexical, holds-lexical, codes-small, lengths-small}
-
-some-one : {A : Type 0} {a b : A} → some a ≡ some b → a ≡ b
-some-one {A} {a} e = ap (λ (o : Option A). elim o [ none ↦ a | some x ↦ x ]) e
 
 -- the records, one after the other
 pub records-long : (rules : List Rule) → length (each recordFor rules) ≡ 24 * length rules
@@ -73,9 +70,6 @@ number-in : (l : List Rule) (x : Rule) → List·Memᴰ x l → (k : ℕ) × (ge
 number-in (y ∷ l) x (List·Memᴰ·head e) = (0, ap some (sym e))
 number-in (y ∷ l) x (List·Memᴰ·tail m) = let (k, e) = number-in l x m in (suc k, e)
 
-in-range : (a b x : ℕ) → a ≤ x → x ≤ b → T (within a b x)
-in-range a b x h k = and-both (leb a x) (leb x b) (le→leb a x h) (le→leb x b k)
-
 module _ (g : Grammar) (s : Storable g) where
   abbrev heading : Heading
   heading = headingFor g
@@ -93,20 +87,20 @@ module _ (g : Grammar) (s : Storable g) where
 
   -- what `Storable` says of a rule, but for its weight
   record Sound (rule : Rule) : Type 0 where
-    pub in-range : InRange g rule
+    pub within-bounds : InRange g rule
     pub right : RightRule g rule
     pub no-word : isLexical rule ≡ false → rule .word ≡ 0
     pub no-components : isLexical rule ≡ true → rule .components ≡ []
 
   sound : (r : ℕ) (rule : Rule) → ruleAt g r ≡ some rule → Sound rule
   sound r rule e =
-      record { in-range = well .ranges r rule e; right = well .right .rules r rule e; no-word = s .no-word r rule e; no-components = s .no-components r rule e }
+      record { within-bounds = well .ranges r rule e; right = well .right .rules r rule e; no-word = s .no-word r rule e; no-components = s .no-components r rule e }
 
   passing : (rule : Rule) → Sound rule → Held rule
   passing rule a = go (rule .daughters) refl
     where
       w : InRange g rule
-      w = a .in-range
+      w = a .within-bounds
 
       rr : RightRule g rule
       rr = a .right
@@ -266,7 +260,7 @@ module _ (g : Grammar) (s : Storable g) where
       few = well .categories .1
 
       dims : T (every (within 1 4) (fields (padded 64 dimensions) 0 (length dimensions)))
-      dims = subst (λ (l : List ℕ). T (every (within 1 4) l)) (sym dims-back) (every-by (within 1 4) dimensions (λ k h. let d = well .dimensions-are k h in in-range 1 4 (getD dimensions k 0) (d .0) (d .1)))
+      dims = subst (λ (l : List ℕ). T (every (within 1 4) l)) (sym dims-back) (every-by (within 1 4) dimensions (λ k h. let d = well .dimensions-are k h in within-bounds 1 4 (getD dimensions k 0) (d .0) (d .1)))
 
       alone : T (eqb (dimensionIn (fields (padded 64 dimensions) 0 (length dimensions)) (g .start)) 1)
       alone = subst (λ (l : List ℕ). T (eqb (dimensionIn l (g .start)) 1)) (sym dims-back) (rw (eq-eqb (dimension g (g .start)) 1 (well .right .start-alone)) tt)
@@ -286,8 +280,8 @@ module _ (g : Grammar) (s : Storable g) where
           let e = ltb (g .start) (length dimensions) in
           let f = eqb (dimensionIn (fields (padded 64 dimensions) 0 (length dimensions)) (g .start)) 1 in
           let z = allZero (fields (padded 64 dimensions) (length dimensions) (64 - length dimensions)) in
-          let ab = and-both a b (in-range 1 64 (length dimensions) (well .categories .0) (well .categories .1)) (in-range 1 4096 (g .words) (well .words-are .0) (well .words-are .1)) in
-          let abc = and-both (a && b) c ab (in-range 1 256 (length (g .rules)) (well .rules-are .0) (well .rules-are .1)) in
+          let ab = and-both a b (within-bounds 1 64 (length dimensions) (well .categories .0) (well .categories .1)) (within-bounds 1 4096 (g .words) (well .words-are .0) (well .words-are .1)) in
+          let abc = and-both (a && b) c ab (within-bounds 1 256 (length (g .rules)) (well .rules-are .0) (well .rules-are .1)) in
           let abcd = and-both (a && b && c) d abc dims in
           let abcde = and-both (a && b && c && d) e abcd (lt→ltb (g .start) (length dimensions) (well .start-is)) in
           and-both (a && b && c && d && e && f) z (and-both (a && b && c && d && e) f abcde alone) rest

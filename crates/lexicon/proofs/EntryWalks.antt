@@ -14,7 +14,7 @@ use Rattle.model.specs.Base.{every, anyBelow}
 use Rattle.model.specs.Grammar.{emptyWord}
 use Rattle.model.specs.GrammarFile.{fields, allZero, within}
 use Rattle.minimalist.specs.Lexicon.{isFeature, beforeZero, featuresIn, wordIn, entries, entryBytes, wrongEntry, wrongLexicon}
-use Rattle.lexicon.proofs.FeatureKinds.{bounds}
+use Rattle.lexicon.proofs.FeatureKinds.{bounds, and-off}
 
 module _ (l : List ℕ) (i : ℕ) where
   pub stop-here : i < length l → getD l i 0 ≡ 0 → beforeZero (drop i l) ≡ []
@@ -45,11 +45,7 @@ module _ (bytes : List ℕ) (words start : ℕ) where
   wrong-if e = rw e
 
   three-off : (a b c : Bool) → a && b && c && false ≡ false
-  three-off a b c = go (a && b && c)
-    where
-      go : (t : Bool) → t && false ≡ false
-      go true = refl
-      go false = refl
+  three-off a b c = and-off (a && b && c)
 
   two-off : (a b d : Bool) → a && b && false && d ≡ false
   two-off a b d = go (a && b)

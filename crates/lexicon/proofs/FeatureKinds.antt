@@ -12,7 +12,7 @@ use Rattle.model.proofs.Tests.{within-low}
 use Rattle.lexicon.specs.Features.{isCategory}
 use Rattle.minimalist.specs.Lexicon.{Feature, category, selector, licensor, licensee, noFeature, featureOf, isFeature, selects, isLicensor, isLicensee}
 
-and-off : (a : Bool) → a && false ≡ false
+pub and-off : (a : Bool) → a && false ≡ false
 and-off true = refl
 and-off false = refl
 

@@ -14,7 +14,7 @@ use model::Refusal;
 use model::Tested;
 
 // The bytes of an entry.
-const ENTRY: usize = 8;
+pub const ENTRY: usize = 8;
 
 // The most entries of a lexicon.
 const ENTRIES: usize = 32;

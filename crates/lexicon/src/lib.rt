@@ -2,9 +2,11 @@
 mod entries;
 mod features;
 
+pub use entries::ENTRY;
 pub use entries::before_zero;
 pub use entries::entries_refusal;
 pub use entries::entry_bytes;
+pub use features::PARTNER;
 pub use features::is_licensee;
 pub use features::is_licensor;
 pub use features::selects;

@@ -1,7 +1,6 @@
 // The records of the rules of the grammar made from a lexicon (document 02, paper 6): 24 bytes each, one after another.
 ghost use mathlib.Core.Path.{_≡_};
 ghost use Prim.Native.Nat.{_+_, _*_, _<_, _≤_};
-ghost use mathlib.Core.List.{[], _∷_};
 ghost use lib.ListN.{length};
 ghost use Rattle.made_records.specs.Records.{single, pair, mergeShape, moveShape, frontOf, shapeOf, runCode, codeAt, sizeAt, recordByte, Put, AddsRule};
 use grammar::byte;
@@ -11,7 +10,10 @@ use grammar::less;
 pub const RULES: usize = 256;
 
 // A record has so many bytes.
-const RECORD: usize = 24;
+pub const RECORD: usize = 24;
+
+// All records have so many.
+pub const RECORDS: usize = 6144;
 
 // A rule of the made grammar.
 pub enum MadeRule {

@@ -11,11 +11,10 @@ use lib.ListN.{length, getD, drop, length-map}
 use borrow.Author.Tests.{eqb-true}
 use Rattle.model.specs.Base.{if_then_else_}
 use Rattle.model.specs.Grammar.{Variable, variable}
-use Rattle.model.proofs.Tests.{none-some, not-both}
+use Rattle.model.proofs.Tests.{none-some, not-both, some-one}
 use Rattle.minimalist.specs.Lexicon.{selects, isLicensor}
 use Rattle.minimalist.specs.Derivations.{begins}
 use Rattle.minimalist.specs.Schemes.{Form, Instance, singles, mergeBy, mergeIf, mergeScheme, howManyBegin, leftOver, landingVariable, stayingVariable, landingAt, staying, moveBy, moveIf, moveScheme}
-use Rattle.minimalist.proofs.Harmless.{some-one}
 use Rattle.forms.specs.Rows.{mergeNumber, placeIn, moveCode}
 use Rattle.forms.proofs.MoveRows.{begins-first, how-many, placed}
 use Rattle.made_records.specs.Records.{mergeComponents, moveComponents}

@@ -10,18 +10,18 @@ use lib.ListN.{length, take, length-map}
 use lib.Seq.{take-suc, take-all}
 use Rattle.model.specs.Base.{if_then_else_, each, numbersFrom}
 use Rattle.model.specs.Grammar.{Rule}
-use Rattle.model.proofs.Lists.{each-append, map-append}
+use Rattle.model.proofs.Lists.{each-append, map-append, numbers-next}
 use Rattle.minimalist.specs.Once.{Once}
 use Rattle.minimalist.specs.Lexicon.{Entry, entryOf, entryBytes, lexiconOf}
 use Rattle.minimalist.specs.Schemes.{Form, mergeScheme, moveScheme}
 use Rattle.minimalist.specs.Made.{NamedRule, startForm, startRule, entryRule, mergeRule, moveRule}
-use Rattle.minimalist.specs.Closure.{isAmong, ruleIf, madeRules}
+use Rattle.minimalist.specs.Closure.{isAmong, ruleIf, madeRules, startRules, schemeRules}
 use Rattle.minimalist.specs.Numbering.{numberedRule}
 use Rattle.derivable.specs.Tables.{formAt, Holds}
 use Rattle.made_records.specs.declared.MadeRule.{MadeRule}
 use Rattle.made_records.specs.Records.{asRule, Fits, Held, AddsRule}
 use Rattle.made_records.proofs.RecordLaws.{count-is}
-use Rattle.made_rules.specs.Listed.{Lists, Listed, withStart, withStarts, withEntry, withEntries, withMerge, withMerges, withMove, withSchemesOf, withSchemes}
+use Rattle.made_rules.specs.Listed.{Lists, Listed, withStart, withEntry, withEntries, withMerge, withMerges, withMove, withSchemesOf}
 
 -- none, and one
 pub lists-none : {f : List Form → List NamedRule} (table : List ℕ) (n : ℕ) (before : List ℕ) (k : ℕ) → ((forms : List Form) → Holds table n forms → f forms ≡ []) → Lists f table n before k k before
@@ -71,7 +71,7 @@ each-next f forms j h =
     ∙ each-append f (take j forms) (formAt forms j ∷ [])
     ∙ ap (λ (l : List NamedRule). each f (take j forms) ++ l) (append-nil (f (formAt forms j))))
 
-pub starts-both : (start : ℕ) (forms : List Form) → withStart start true forms ++ withStart start false forms ≡ withStarts start forms
+pub starts-both : (start : ℕ) (forms : List Form) → withStart start true forms ++ withStart start false forms ≡ startRules start forms
 starts-both start forms = ap (λ (l : List NamedRule). withStart start true forms ++ l) (sym (append-nil (withStart start false forms)))
 
 pub merges-next : (i j : ℕ) (forms : List Form) → j < length forms → withMerges i j forms ++ withMerge i j forms ≡ withMerges i (j + 1) forms
@@ -83,19 +83,13 @@ schemes-next i n forms l h =
     ∙ ap (λ (fs : List Form). withSchemesOf i forms ++ (each (λ b. ruleIf (mergeRule (formAt forms i) b) (mergeScheme (formAt forms i) b)) fs ++ withMove i forms)) (take-all n forms (omega arith))
     ∙ each-next (λ a. each (λ b. ruleIf (mergeRule a b) (mergeScheme a b)) forms ++ ruleIf (moveRule a) (moveScheme a)) forms i (omega arith)
 
-pub schemes-all : (n : ℕ) (forms : List Form) → n ≡ length forms → withSchemesOf n forms ≡ withSchemes forms
+pub schemes-all : (n : ℕ) (forms : List Form) → n ≡ length forms → withSchemesOf n forms ≡ schemeRules forms
 schemes-all n forms l =
     ap (each (λ a. each (λ b. ruleIf (mergeRule a b) (mergeScheme a b)) forms ++ ruleIf (moveRule a) (moveScheme a))) (take-all n forms (omega arith))
 
 -- the rules of the first entries
 abbrev pub withEntriesOf : List ℕ → ℕ → List Form → List NamedRule
 withEntriesOf bytes i forms = map entryRule (map (λ k. entryOf (entryBytes bytes k)) (numbersFrom 0 i))
-
-numbers-next : (a n : ℕ) → numbersFrom a (suc n) ≡ numbersFrom a n ++ ((a + n) ∷ [])
-numbers-next a zero = let e : a ≡ a + 0 = omega arith in ap (λ (x : ℕ). x ∷ []) e
-numbers-next a (suc n) =
-    let e : suc a + n ≡ a + suc n = omega arith in
-    ap (λ (l : List ℕ). a ∷ l) (numbers-next (suc a) n ∙ ap (λ (x : ℕ). numbersFrom (suc a) n ++ (x ∷ [])) e)
 
 pub entries-next : (bytes : List ℕ) (i : ℕ) (e : List ℕ) → e ≡ entryBytes bytes i → (forms : List Form) → withEntriesOf bytes i forms ++ withEntry e forms ≡ withEntriesOf bytes (i + 1) forms
 entries-next bytes i e w forms =
@@ -111,22 +105,22 @@ entries-next bytes i e w forms =
     z = omega arith
 
 -- all rules of the grammar, from the new start's on
-pub all-listed : (bytes : List ℕ) (start : ℕ) {table first second after : List ℕ} {n s k r : ℕ} → Listed (withStarts start) table n s first
-    → Lists (withEntries bytes) table n first s k second → Lists withSchemes table n second k r after → Listed (madeRules (lexiconOf bytes) start) table n r after
+pub all-listed : (bytes : List ℕ) (start : ℕ) {table first second after : List ℕ} {n s k r : ℕ} → Listed (startRules start) table n s first
+    → Lists (withEntries bytes) table n first s k second → Lists schemeRules table n second k r after → Listed (madeRules (lexiconOf bytes) start) table n r after
 all-listed bytes start {after = after} {r = r} p q w =
     record {
       held = λ forms t once.
-          let l : Lists (λ forms. withEntries bytes forms ++ withSchemes forms) _ _ _ _ _ _ = lists-then q w (λ forms e. refl) in
-          subst (Held after r) (sym (map-append (numberedRule forms) (withStarts start forms) (withEntries bytes forms ++ withSchemes forms)))
-          (l .adds forms t once (map (numberedRule forms) (withStarts start forms)) (p .held forms t once));
+          let l : Lists (λ forms. withEntries bytes forms ++ schemeRules forms) _ _ _ _ _ _ = lists-then q w (λ forms e. refl) in
+          subst (Held after r) (sym (map-append (numberedRule forms) (startRules start forms) (withEntries bytes forms ++ schemeRules forms)))
+          (l .adds forms t once (map (numberedRule forms) (startRules start forms)) (p .held forms t once));
     }
 
 -- how many rules the new start has
-pub starts-counted : (start : ℕ) {table after : List ℕ} {n s : ℕ} → Listed (withStarts start) table n s after → (forms : List Form) → Holds table n forms → Once forms
-    → s ≡ length (withStarts start forms)
+pub starts-counted : (start : ℕ) {table after : List ℕ} {n s : ℕ} → Listed (startRules start) table n s after → (forms : List Form) → Holds table n forms → Once forms
+    → s ≡ length (startRules start forms)
 starts-counted start p forms t once =
-    count-is (p .held forms t once) (omega (arith, length-map (withStarts start forms) (numberedRule forms), two (isAmong forms (startForm start true)) (isAmong forms (startForm start false))))
-    ∙ length-map (withStarts start forms) (numberedRule forms)
+    count-is (p .held forms t once) (omega (arith, length-map (startRules start forms) (numberedRule forms), two (isAmong forms (startForm start true)) (isAmong forms (startForm start false))))
+    ∙ length-map (startRules start forms) (numberedRule forms)
   where
     two : (a b : Bool) → length ((if a then startRule start true ∷ [] else []) ++ ((if b then startRule start false ∷ [] else []) ++ [])) ≤ 2
     two true true = omega arith

@@ -26,12 +26,9 @@ pub record Lists (new : List Form → List NamedRule) (table : List ℕ) (n : �
 pub record Listed (new : List Form → List NamedRule) (table : List ℕ) (n r : ℕ) (after : List ℕ) : Type 0 where
   pub held : (forms : List Form) → Holds table n forms → Once forms → Held after r (map (numberedRule forms) (new forms))
 
--- the new start's rule from one form of the wanted category, and from both
+-- the new start's rule from one form of the wanted category
 abbrev pub withStart : ℕ → Bool → List Form → List NamedRule
 withStart start x forms = if isAmong forms (startForm start x) then startRule start x ∷ [] else []
-
-abbrev pub withStarts : ℕ → List Form → List NamedRule
-withStarts start forms = startRules [] start forms
 
 -- an entry's rule, and those of all
 abbrev pub withEntry : List ℕ → List Form → List NamedRule
@@ -40,7 +37,7 @@ withEntry e forms = entryRule (entryOf e) ∷ []
 abbrev pub withEntries : List ℕ → List Form → List NamedRule
 withEntries bytes forms = map entryRule (lexiconOf bytes)
 
--- the rule of the merge of forms i and j; of the merges of form i with the first m; of the move of form i; of all of the first i forms; of all
+-- the rule of the merge of forms i and j; of the merges of form i with the first m; of the move of form i; of all of the first i forms
 abbrev pub withMerge : ℕ → ℕ → List Form → List NamedRule
 withMerge i j forms = ruleIf (mergeRule (formAt forms i) (formAt forms j)) (mergeScheme (formAt forms i) (formAt forms j))
 
@@ -52,9 +49,6 @@ withMove i forms = ruleIf (moveRule (formAt forms i)) (moveScheme (formAt forms 
 
 abbrev pub withSchemesOf : ℕ → List Form → List NamedRule
 withSchemesOf i forms = each (λ a. each (λ b. ruleIf (mergeRule a b) (mergeScheme a b)) forms ++ ruleIf (moveRule a) (moveScheme a)) (take i forms)
-
-abbrev pub withSchemes : List Form → List NamedRule
-withSchemes forms = schemeRules [] 0 forms
 
 -- the dimension of category q, and the 64 bytes of the dimensions
 abbrev pub dimensionByte : List ℕ → ℕ → ℕ → ℕ

@@ -5,6 +5,7 @@ ghost use lib.ListN.{length};
 ghost use Rattle.minimalist.specs.Lexicon.{entries};
 ghost use Rattle.made_rules.specs.Listed.{Lists, withEntry, withEntries};
 use crate::numbers::number_of;
+use forms::ROW;
 use forms::put_entry_row;
 use grammar::two_bytes;
 use lexicon::entry_bytes;
@@ -16,7 +17,7 @@ fn add_entry_rule(table: &[u8], n: usize, e: &[u8], records: &mut [u8], k: usize
     requires { ⌜ (n ≤ 63) × (length (now records) ≡ 6144) ⌝ }
     ensures { λ r. ⌜ Lists (withEntry (now (e .entry))) (now (table .entry)) n (now (records .entry)) k r (now (records .exit)) ⌝ }
 {
-    let mut row = [0u8; 64];
+    let mut row = [0u8; ROW];
     put_entry_row(e, &mut row);
     let c = number_of(table, n, &row);
     add_rule(

@@ -9,7 +9,7 @@ use derivable::row_of;
 use forms::movers;
 
 // There are at most so many categories.
-const CATEGORIES: usize = 64;
+pub const CATEGORIES: usize = 64;
 
 // The number of the category whose form has this row; n + 1 if none of the n forms has it.
 pub fn number_of(table: &[u8], n: usize, row: &[u8]) -> u8

@@ -2,9 +2,11 @@
 ghost use mathlib.Core.Path.{_≡_};
 ghost use Prim.Native.Nat.{_<_, _≤_};
 ghost use lib.ListN.{length};
-ghost use Rattle.made_rules.specs.Listed.{Lists, withMerge, withMerges, withMove, withSchemes};
+ghost use Rattle.minimalist.specs.Closure.{schemeRules};
+ghost use Rattle.made_rules.specs.Listed.{Lists, withMerge, withMerges, withMove};
 use crate::numbers::number_of;
 use derivable::row_of;
+use forms::ROW;
 use forms::left_out;
 use forms::merge_rows;
 use forms::move_row;
@@ -19,7 +21,7 @@ fn add_merge_rule(table: &[u8], n: usize, i: usize, j: usize, records: &mut [u8]
 {
     let a = row_of(table, i);
     let b = row_of(table, j);
-    let mut row = [0u8; 64];
+    let mut row = [0u8; ROW];
     let scheme = merge_rows(a, b, &mut row);
     if scheme == 0 {
         return k;
@@ -47,7 +49,7 @@ fn add_move_rule(table: &[u8], n: usize, i: usize, records: &mut [u8], k: usize)
     ensures { λ r. ⌜ Lists (withMove i) (now (table .entry)) n (now (records .entry)) k r (now (records .exit)) ⌝ }
 {
     let a = row_of(table, i);
-    let mut row = [0u8; 64];
+    let mut row = [0u8; ROW];
     let code = move_row(a, &mut row);
     if code == 0 {
         return k;
@@ -85,7 +87,7 @@ fn add_merge_rules(table: &[u8], n: usize, i: usize, records: &mut [u8], k: usiz
 // Adds the rules of the schemes.
 pub fn add_scheme_rules(table: &[u8], n: usize, records: &mut [u8], k: usize) -> usize
     requires { ⌜ (n ≤ 63) × (length (now records) ≡ 6144) ⌝ }
-    ensures { λ r. ⌜ Lists withSchemes (now (table .entry)) n (now (records .entry)) k r (now (records .exit)) ⌝ }
+    ensures { λ r. ⌜ Lists schemeRules (now (table .entry)) n (now (records .entry)) k r (now (records .exit)) ⌝ }
 {
     let mut at = k;
     let mut i: usize = 0;

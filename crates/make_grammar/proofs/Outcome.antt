@@ -101,8 +101,8 @@ module _ (lexicon : List Entry) (words start : ℕ) (forms : List Form) where
       same : madeHeading words r forms ≡ headingFor (madeBy lexicon words start forms)
       same = λ i. record { categories = categories i; start = 0; words = words; rules = rules i; dimensions = padded 64 (1 ∷ map formDimension forms) }
 
-  starts-among : length (startRules lexicon start forms) ≤ length made
-  starts-among = omega (arith, length-append (startRules lexicon start forms) (map entryRule lexicon ++ schemeRules lexicon start forms))
+  starts-among : length (startRules start forms) ≤ length made
+  starts-among = omega (arith, length-append (startRules start forms) (map entryRule lexicon ++ schemeRules forms))
 
 -- the outcomes, by the forms that the table holds; these are the derivable ones
 module _ (bytes : List ℕ) (words start : ℕ) (all : T (allBytes bytes)) (passed : entriesRefusal bytes words start ≡ none) (out : List ℕ)
@@ -114,12 +114,12 @@ module _ (bytes : List ℕ) (words start : ℕ) (all : T (allBytes bytes)) (pass
   rules = length (madeRules l start forms)
 
   abbrev starts : ℕ
-  starts = length (startRules l start forms)
+  starts = length (startRules start forms)
 
-  large : (b : Bool) → tooLarge l start forms ≡ b → madeTooLarge bytes words start ≡ b
+  large : (b : Bool) → tooLarge l start forms ≡ b → madeTooLarge bytes start ≡ b
   large b e = subst (λ (f : List Form). tooLarge l start f ≡ b) are e
 
-  long : 512 * blocksFor rules ≡ madeLength bytes words start
+  long : 512 * blocksFor rules ≡ madeLength bytes start
   long = ap (λ (f : List Form). 512 * blocksFor (length (madeRules l start f))) are
 
   -- 31 by the categories
@@ -144,10 +144,10 @@ module _ (bytes : List ℕ) (words start : ℕ) (all : T (allBytes bytes)) (pass
       told : Told starts rules r (starts-among l words start forms) (put .told)
       told = told-right starts rules r (starts-among l words start forms) (put .told) some fits
 
-      small : madeTooLarge bytes words start ≡ false
+      small : madeTooLarge bytes start ≡ false
       small = large false (over-none (ltb 63 (length forms)) (ltb 256 rules) (eqb starts 0) (le-ltb 63 (length forms) few) (told .few) (told .started))
 
-      size : 512 * blocksFor r ≡ madeLength bytes words start
+      size : 512 * blocksFor r ≡ madeLength bytes start
       size = ap (λ (n : ℕ). 512 * blocksFor n) (told .is) ∙ long
 
       file : fileOf (madeHeading words r forms) (take (24 * r) records) ≡ fileFor (madeGrammar l words start)

@@ -25,7 +25,7 @@ toldRules starts rules = if eqb starts 0 then 0 else (if ltb 256 rules then 257 
 
 -- the records of the rules made from a lexicon and its forms
 pub record RulesPut (lexicon : List Entry) (start : ℕ) (forms : List Form) (r : ℕ) (records : List ℕ) : Type 0 where
-  pub told : r ≡ toldRules (length (startRules lexicon start forms)) (length (madeRules lexicon start forms))
+  pub told : r ≡ toldRules (length (startRules start forms)) (length (madeRules lexicon start forms))
   pub are : 1 ≤ r → r ≤ 256 → take (24 * r) records ≡ each recordFor (map (numberedRule forms) (madeRules lexicon start forms))
 
 pub record PutsRules (table : List ℕ) (n : ℕ) (bytes : List ℕ) (start r : ℕ) (records : List ℕ) : Type 0 where

@@ -7,9 +7,14 @@ ghost use Rattle.model.specs.Writer.{allBytes};
 ghost use Rattle.minimalist.specs.Lexicon.{entries};
 ghost use Rattle.minimalist.specs.MakeGrammar.{MakeOutcome};
 ghost use Rattle.make_grammar.specs.Making.{PutsRules, WritesMade};
+use derivable::TABLE;
 use derivable::derivable_forms;
+use lexicon::ENTRY;
 use lexicon::entries_refusal;
+use made_records::RECORD;
+use made_records::RECORDS;
 use made_records::RULES;
+use made_rules::CATEGORIES;
 use made_rules::add_entry_rules;
 use made_rules::add_scheme_rules;
 use made_rules::add_starts;
@@ -22,10 +27,6 @@ use writer::put_file;
 
 // At most so many categories beside the new start.
 const FORMS: usize = 63;
-
-// The bytes of an entry, and of a record.
-const ENTRY: usize = 8;
-const RECORD: usize = 24;
 
 // That each element is below 256, which every list of bytes has, is said for the callers.
 fn known_bytes(bytes: &[u8]) -> u8
@@ -70,7 +71,7 @@ fn write_made(
     if out.len() < n {
         return Verdict::Refused(Refusal::Desk(23, 0));
     }
-    let mut dimensions = [0u8; 64];
+    let mut dimensions = [0u8; CATEGORIES];
     put_dimensions(table, forms, &mut dimensions);
     put_file(
         (forms + 1) as u8,
@@ -94,12 +95,12 @@ pub fn make_grammar(lexicon: &[u8], words: u32, start: u32, out: &mut [u8]) -> V
         return Verdict::Refused(r);
     }
     let count = (lexicon.len() / ENTRY) as u16;
-    let mut table = [0u8; 4096];
+    let mut table = [0u8; TABLE];
     let forms = derivable_forms(&mut table, lexicon, count);
     if FORMS < forms {
         return Verdict::Refused(Refusal::Grammar(31, 0));
     }
-    let mut records = [0u8; 6144];
+    let mut records = [0u8; RECORDS];
     let rules = put_rules(&table, forms, lexicon, count, start as u8, &mut records);
     if rules == 0 {
         return Verdict::Refused(Refusal::Grammar(31, 0));

@@ -12,7 +12,7 @@ use lib.ListN.{length, getD, getElem?, length-map}
 use Rattle.model.specs.Base.{if_then_else_, each}
 use Rattle.model.specs.Grammar.{Rule}
 use Rattle.model.specs.Demands.{_⇔_}
-use Rattle.model.proofs.Tests.{passes, none-some, not-both}
+use Rattle.model.proofs.Tests.{passes, none-some, not-both, some-one}
 use Rattle.model.proofs.Lists.{mem-left, mem-right, each-in, each-out, map-in, map-out}
 use Rattle.minimalist.specs.Once.{Once}
 use Rattle.minimalist.specs.Lexicon.{Entry}
@@ -20,7 +20,6 @@ use Rattle.minimalist.specs.Schemes.{Form, Instance, formDimension, merg
 use Rattle.minimalist.specs.Made.{Name, newStart, form, dimensionOf, NamedRule, startForm, startRule, entryRule, mergeRule, moveRule, Made, of-start, of-entry, of-merge, of-move, IsCategory, nameOf, namedRule, MadeFrom}
 use Rattle.minimalist.specs.Closure.{sameForm, isAmong, formsOf, ruleIf, startRules, schemeRules, madeRules}
 use Rattle.minimalist.specs.Numbering.{placeOf, numberOf, numberedRule, madeBy, madeGrammar}
-use Rattle.minimalist.proofs.Harmless.{some-one}
 use Rattle.minimalist.proofs.FromTrees.{not-start, form-one, cons-head, cons-tail, nil-cons, headOf}
 use Rattle.minimalist.proofs.Forms.{same-form, form-same, among-in, among-out, forms-are, rounds-apart}
 
@@ -147,21 +146,21 @@ module _ (lexicon : List Entry) (words start : ℕ) (forms : List Form) (apart :
   abbrev atForm : Form → List NamedRule
   atForm a = each (λ b. ruleIf (mergeRule a b) (mergeScheme a b)) forms ++ ruleIf (moveRule a) (moveScheme a)
 
-  pub starts-out : (n : NamedRule) → List·Memᴰ n (startRules lexicon start forms) → (x : Bool) × (n ≡ startRule start x) × Derivable lexicon (startForm start x)
+  pub starts-out : (n : NamedRule) → List·Memᴰ n (startRules start forms) → (x : Bool) × (n ≡ startRule start x) × Derivable lexicon (startForm start x)
   starts-out n m =
       let (x, i, j) = each-out (λ x. if isAmong forms (startForm start x) then startRule start x ∷ [] else []) (true ∷ false ∷ []) m in
       let (e, d) = start-out n x j in (x, e, d)
 
   pub listed-made : (n : NamedRule) → List·Memᴰ n (madeRules lexicon start forms) → Made lexicon start n
-  listed-made n m = ⊎-elim from-start (λ i. ⊎-elim from-entry from-scheme (List·Memᴰ·append-cases (map entryRule lexicon) i)) (List·Memᴰ·append-cases (startRules lexicon start forms) m)
+  listed-made n m = ⊎-elim from-start (λ i. ⊎-elim from-entry from-scheme (List·Memᴰ·append-cases (map entryRule lexicon) i)) (List·Memᴰ·append-cases (startRules start forms) m)
     where
-      from-start : List·Memᴰ n (startRules lexicon start forms) → Made lexicon start n
+      from-start : List·Memᴰ n (startRules start forms) → Made lexicon start n
       from-start i = let (x, e, d) = starts-out n i in subst (Made lexicon start) (sym e) (of-start x d)
 
       from-entry : List·Memᴰ n (map entryRule lexicon) → Made lexicon start n
       from-entry i = let (e, j, q) = map-out entryRule lexicon i in subst (Made lexicon start) (sym q) (of-entry e j)
 
-      from-scheme : List·Memᴰ n (schemeRules lexicon start forms) → Made lexicon start n
+      from-scheme : List·Memᴰ n (schemeRules forms) → Made lexicon start n
       from-scheme i =
           let (a, j, k) = each-out atForm forms i in
           ⊎-elim (λ l. let (b, p, q) = each-out (λ b. ruleIf (mergeRule a b) (mergeScheme a b)) forms l in
@@ -179,13 +178,13 @@ module _ (lexicon : List Entry) (words start : ℕ) (forms : List Form) (apart :
 
   pub made-listed : (n : NamedRule) → Made lexicon start n → List·Memᴰ n (madeRules lexicon start forms)
   made-listed n (of-start x d) =
-      mem-left (map entryRule lexicon ++ schemeRules lexicon start forms) (each-in (λ x. if isAmong forms (startForm start x) then startRule start x ∷ [] else []) (bool-in x) (start-in x d))
-  made-listed n (of-entry e m) = mem-right (startRules lexicon start forms) (mem-left (schemeRules lexicon start forms) (map-in entryRule m))
+      mem-left (map entryRule lexicon ++ schemeRules forms) (each-in (λ x. if isAmong forms (startForm start x) then startRule start x ∷ [] else []) (bool-in x) (start-in x d))
+  made-listed n (of-entry e m) = mem-right (startRules start forms) (mem-left (schemeRules forms) (map-in entryRule m))
   made-listed n (of-merge a b s p q e f) =
-      mem-right (startRules lexicon start forms) (mem-right (map entryRule lexicon)
+      mem-right (startRules start forms) (mem-right (map entryRule lexicon)
       (each-in atForm (are a .1 p) (mem-left (ruleIf (moveRule a) (moveScheme a)) (each-in (λ b. ruleIf (mergeRule a b) (mergeScheme a b)) (are b .1 q) (rule-in (mergeRule a b) (mergeScheme a b) s e f)))))
   made-listed n (of-move a s p e f) =
-      mem-right (startRules lexicon start forms) (mem-right (map entryRule lexicon)
+      mem-right (startRules start forms) (mem-right (map entryRule lexicon)
       (each-in atForm (are a .1 p) (mem-right (each (λ b. ruleIf (mergeRule a b) (mergeScheme a b)) forms) (rule-in (moveRule a) (moveScheme a) s e f))))
 
   -- each once
@@ -214,10 +213,10 @@ module _ (lexicon : List Entry) (words start : ℕ) (forms : List Form) (apart :
       (λ i. let (s, e, f, y) = rule-out (moveRule a) (moveScheme a) n i in ([], ap (λ (w : NamedRule). w .daughters) y))
       (List·Memᴰ·append-cases (each (λ b. ruleIf (mergeRule a b) (mergeScheme a b)) forms) m)
 
-  schemes-once : Once (schemeRules lexicon start forms)
+  schemes-once : Once (schemeRules forms)
   schemes-once = once-each atForm firstName at-first (λ n a b p q. form-one (cons-head (sym (p .1) ∙ q .1))) forms apart at-once
 
-  starts-once : Once (startRules lexicon start forms)
+  starts-once : Once (startRules start forms)
   starts-once =
       once-each (λ x. if isAmong forms (startForm start x) then startRule start x ∷ [] else []) (λ n x. n ≡ startRule start x)
       (λ x n m. start-out n x m .0)
@@ -237,8 +236,8 @@ module _ (lexicon : List Entry) (words start : ℕ) (forms : List Form) (apart :
 
   pub rules-once : Once lexicon → Once (madeRules lexicon start forms)
   rules-once p =
-      once-append (startRules lexicon start forms) (map entryRule lexicon ++ schemeRules lexicon start forms) starts-once
-      (once-append (map entryRule lexicon) (schemeRules lexicon start forms) (once-map entryRule entry-one lexicon p) schemes-once
+      once-append (startRules start forms) (map entryRule lexicon ++ schemeRules forms) starts-once
+      (once-append (map entryRule lexicon) (schemeRules forms) (once-map entryRule entry-one lexicon p) schemes-once
       (λ n i j.
       let (e, k, y) = map-out entryRule lexicon i in
       let (a, l, m) = each-out atForm forms j in
@@ -256,7 +255,7 @@ module _ (lexicon : List Entry) (words start : ℕ) (forms : List Form) (apart :
       (List·Memᴰ·append-cases (map entryRule lexicon) j))
 
   -- the numbers of names
-  name-back : (x : Name) → IsCategory lexicon start x → nameOf names (numberOf forms x) ≡ x
+  name-back : (x : Name) → IsCategory lexicon x → nameOf names (numberOf forms x) ≡ x
   name-back newStart c = refl
   name-back (form a) c = placed forms a (are a .1 c)
 
@@ -310,7 +309,7 @@ module _ (lexicon : List Entry) (words start : ℕ) (forms : List Form) (apart :
       dims zero h = refl
       dims (suc c) h = dimensions-same forms c (omega arith)
 
-      among : (x : Name) → List·Memᴰ x names ⇔ IsCategory lexicon start x
+      among : (x : Name) → List·Memᴰ x names ⇔ IsCategory lexicon x
       among newStart = ((λ m. tt), λ c. List·Memᴰ·head refl)
       among (form a) = (
         λ m. ⊎-elim (λ e. not-start (sym e)) (λ i. let (b, j, q) = map-out form forms i in subst (Derivable lexicon) (sym (form-one q)) (are b .0 j)) (List·Memᴰ·cases-cons m),

@@ -14,14 +14,14 @@ use Rattle.model.specs.Base.{if_then_else_, each, sameList}
 use Rattle.model.specs.Grammar.{Rule, Grammar, ruleAt}
 use Rattle.model.specs.WellFormed.{WellFormed}
 use Rattle.model.specs.Tree.{Tree, Forest, node, nil, cons, hasRoot, hasRoots, preorder, yield, yields, yieldBy, stringOf, wordString}
-use Rattle.model.proofs.Tests.{and-l, and-r, and-both, passes, none-some, same-list, list-same, or-cases, or-left, or-right}
+use Rattle.model.proofs.Tests.{and-l, and-r, and-both, passes, none-some, same-list, list-same, or-cases, or-left, or-right, some-one}
 use Rattle.model.proofs.Traces.{root}
 use Rattle.minimalist.specs.Lexicon.{Entry}
 use Rattle.minimalist.specs.Derivations.{Expression, Derivation, leaf, merge, move, nodes, lexicalExpression, merged, moved, sameEntry, isEntry, both, one, derived}
 use Rattle.minimalist.specs.Schemes.{formOf, Instance, mergeScheme, moveScheme, leftOut, Derivable, by-entry, by-merge, by-move}
 use Rattle.minimalist.specs.Made.{Name, form, NamedRule, entryRule, mergeRule, moveRule, of-entry, of-merge, of-move, nameOf, MadeFrom}
 use Rattle.minimalist.proofs.Agree.{strings, valued, Agree, merge-agrees, move-agrees}
-use Rattle.minimalist.proofs.Harmless.{some-one, merge-harmless, move-harmless}
+use Rattle.minimalist.proofs.Harmless.{merge-harmless, move-harmless}
 use Rattle.minimalist.proofs.FromTrees.{form-one, fromTree, ShapeOf, shape, no-names, one-name, two-names, category-in, daughters-in, headOf, entryBy}
 
 -- entries by test

@@ -32,7 +32,7 @@ use Rattle.minimalist.specs.Numbering.{madeGrammar}
 use Rattle.minimalist.proofs.Size.{size-tested, fits}
 
 -- the features are the bytes before the first 0
-features-at : (l : List ℕ) (j : ℕ) → j < length (beforeZero l) → getD (beforeZero l) j 0 ≡ getD l j 0
+pub features-at : (l : List ℕ) (j : ℕ) → j < length (beforeZero l) → getD (beforeZero l) j 0 ≡ getD l j 0
 features-at [] j h = let z : ⊥ = omega arith in absurd z
 features-at (x ∷ l) j h = go (eqb x 0) j h (λ i k. features-at l i k)
   where

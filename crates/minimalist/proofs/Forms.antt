@@ -5,20 +5,19 @@ use mathlib.Core.Logic.{_⊎_, inl, inr, ⊎-elim}
 use mathlib.Core.Bool.{Bool, true, false, _&&_, _||_}
 use mathlib.Core.Option.{Option, none, some}
 use mathlib.Core.List.{List, [], _∷_, _++_, map, List·Memᴰ, List·Memᴰ·head, List·Memᴰ·tail, List·Memᴰ·cases-cons, List·Memᴰ·append-cases, List·Memᴰ·eq-of-singleton}
-use Prim.Native.Nat.{ℕ, zero, suc, _+_, _<_, _≤_}
+use Prim.Native.Nat.{ℕ, zero, suc, _<_, _≤_}
 use native.Mathlib.Omega.{arith}
 use lib.Dec.{T, ltb}
 use lib.ListN.{length, length-append}
 use borrow.Author.Tests.{ltb-true, ltb-false}
 use Rattle.model.specs.Base.{if_then_else_, each, sameList}
 use Rattle.model.specs.Demands.{_⇔_}
-use Rattle.model.proofs.Tests.{and-l, and-r, and-both, none-some, same-list, list-same, or-cases, or-left, or-right}
+use Rattle.model.proofs.Tests.{and-l, and-r, and-both, none-some, same-list, list-same, or-cases, or-left, or-right, some-one}
 use Rattle.model.proofs.Lists.{mem-left, mem-right, each-in, each-out, map-in, map-out}
 use Rattle.minimalist.specs.Once.{Once}
 use Rattle.minimalist.specs.Lexicon.{Entry}
 use Rattle.minimalist.specs.Schemes.{Form, Instance, mergeScheme, moveScheme, leftOut, lexicalForm, Derivable, by-entry, by-merge, by-move}
 use Rattle.minimalist.specs.Closure.{sameLists, sameBool, sameForm, isAmong, addForm, addForms, resultOf, resultsOf, formsAfter, formsOf}
-use Rattle.minimalist.proofs.Harmless.{some-one}
 
 -- forms compared
 same-lists : (a b : List (List ℕ)) → T (sameLists a b) → a ≡ b

@@ -12,13 +12,12 @@ use Rattle.model.specs.Grammar.{Rule, Grammar, ruleAt}
 use Rattle.model.specs.WellFormed.{WellFormed}
 use Rattle.model.specs.Tree.{Tree, Forest, node, nil, cons, hasRoot, hasRoots}
 use Rattle.model.specs.Conversions.{label}
-use Rattle.model.proofs.Tests.{and-l, and-r}
+use Rattle.model.proofs.Tests.{and-l, and-r, some-one}
 use Rattle.model.proofs.Traces.{Root, root}
 use Rattle.minimalist.specs.Lexicon.{Entry}
 use Rattle.minimalist.specs.Derivations.{Derivation, leaf, merge, move}
 use Rattle.minimalist.specs.Schemes.{Form, Instance, mergeScheme, moveScheme}
 use Rattle.minimalist.specs.Made.{Name, newStart, form, NamedRule, entryRule, mergeRule, moveRule, Made, of-start, of-entry, of-merge, of-move, nameOf, namedRule, MadeFrom}
-use Rattle.minimalist.proofs.Harmless.{some-one}
 
 -- names told apart
 abbrev isStart : Name → Bool

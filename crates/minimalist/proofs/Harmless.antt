@@ -10,13 +10,10 @@ use lib.Dec.{T, eqb, eqb→eq, leb, le→leb}
 use borrow.Author.Tests.{eq-eqb, ne-eqb}
 use Rattle.model.specs.Base.{if_then_else_}
 use Rattle.model.specs.GrammarFile.{within}
-use Rattle.model.proofs.Tests.{or-l, or-r, not-both, none-some, and-l, and-r, and-both, passes, within-low, or-off}
+use Rattle.model.proofs.Tests.{or-l, or-r, not-both, none-some, and-l, and-r, and-both, passes, within-low, or-off, some-one, within-bounds}
 use Rattle.minimalist.specs.Lexicon.{selects, isLicensor, isLicensee}
 use Rattle.minimalist.specs.Derivations.{begins}
 use Rattle.minimalist.specs.Schemes.{Form, Instance, mergeBy, mergeIf, mergeScheme, howManyBegin, leftOver, movingAfter, moveBy, moveIf, moveScheme, noFeatures, beginsLicensee, sameFirst, anySameFirst, wrongMoving, leftOut}
-
-pub some-one : {A : Type 0} {a b : A} → some a ≡ some b → a ≡ b
-some-one {A} {a} e = ap (λ (o : Option A). elim o [ none ↦ a | some x ↦ x ]) e
 
 -- parts of a list of moving chains
 any-left : (c : List ℕ) (xs ys : List (List ℕ)) → anySameFirst c (xs ++ ys) ≡ false → anySameFirst c xs ≡ false
@@ -113,9 +110,6 @@ module _ (m : ℕ) where
           or-off (not (beginsLicensee c)) (anySameFirst c cs || wrongMoving cs) u
           (or-off (anySameFirst c cs) (wrongMoving cs) (passing c f u (or-l (anySameFirst c (movingAfter m cs)) (wrongMoving (movingAfter m cs)) j))
           (ih (omega arith) (or-r (anySameFirst c (movingAfter m cs)) (wrongMoving (movingAfter m cs)) j)))
-
-within-bounds : (a b x : ℕ) → a ≤ x → x ≤ b → T (within a b x)
-within-bounds a b x lo hi = and-both (leb a x) (leb x b) (le→leb a x lo) (le→leb x b hi)
 
 licensee-of : (p : ℕ) → T (isLicensor p) → T (isLicensee (p + 16))
 licensee-of p t =

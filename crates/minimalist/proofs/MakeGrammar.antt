@@ -56,7 +56,7 @@ module _ (bytes : List ℕ) (words start : ℕ) where
   module _ (all : T (allBytes bytes)) (passes : lexiconRefusal bytes words start ≡ none) where
     well : WellFormed made × MadeFrom (lexiconOf bytes) words start made
     well =
-        let large = madeTooLarge bytes words start in
+        let large = madeTooLarge bytes start in
         well-made-from bytes words start all (first-of (entriesRefusal bytes words start) (refuseIf large (Refusal.Grammar 31 0)) passes)
         (no-refusal large (Refusal.Grammar 31 0) (rest-of (entriesRefusal bytes words start) (refuseIf large (Refusal.Grammar 31 0)) passes))
 
@@ -64,7 +64,7 @@ module _ (bytes : List ℕ) (words start : ℕ) where
     made-right = made-file-of (lexiconOf bytes) words start made (well .0) (well .1)
 
     -- its length goes by the number of its rules
-    pub made-long : length (fileFor made) ≡ madeLength bytes words start
+    pub made-long : length (fileFor made) ≡ madeLength bytes start
     made-long =
         let held = grammars-and-files .has-file made (made-stored (lexiconOf bytes) words start made (well .0) (well .1)) in
         passed (fileFor made) (held .accepted) .long
@@ -73,7 +73,7 @@ module _ (bytes : List ℕ) (words start : ℕ) where
   -- the outcomes of the call, one by one
   module _ (all : T (allBytes bytes)) (out : List ℕ) where
     abbrev room : Bool
-    room = ltb (length out) (madeLength bytes words start)
+    room = ltb (length out) (madeLength bytes start)
 
     refused : (r : Refusal) → makeRefusal bytes words start out ≡ some r → MakeOutcome bytes words start out (Verdict.Refused r) out
     refused r e =
@@ -81,36 +81,36 @@ module _ (bytes : List ℕ) (words start : ℕ) where
           file = fileFor made;
           file-right = made-right all;
           file-length = made-long all;
-          verdict-is = sym (ap (λ (o : Option Refusal). verdict o (madeLength bytes words start)) e);
+          verdict-is = sym (ap (λ (o : Option Refusal). verdict o (madeLength bytes start)) e);
           output-is = sym (ap (λ (o : Option Refusal). written o (fileFor made) out) e);
         }
 
     -- 30 or 10
     pub refused-entries : (r : Refusal) → entriesRefusal bytes words start ≡ some r → MakeOutcome bytes words start out (Verdict.Refused r) out
-    refused-entries r e = refused r (first-met (entriesRefusal bytes words start) (madeTooLarge bytes words start) room r e)
+    refused-entries r e = refused r (first-met (entriesRefusal bytes words start) (madeTooLarge bytes start) room r e)
 
     -- 31
-    pub refused-large : entriesRefusal bytes words start ≡ none → madeTooLarge bytes words start ≡ true
+    pub refused-large : entriesRefusal bytes words start ≡ none → madeTooLarge bytes start ≡ true
         → MakeOutcome bytes words start out (Verdict.Refused (Refusal.Grammar 31 0)) out
-    refused-large e f = refused (Refusal.Grammar 31 0) (second-met (entriesRefusal bytes words start) (madeTooLarge bytes words start) room e f)
+    refused-large e f = refused (Refusal.Grammar 31 0) (second-met (entriesRefusal bytes words start) (madeTooLarge bytes start) room e f)
 
     -- 23
-    pub refused-room : entriesRefusal bytes words start ≡ none → madeTooLarge bytes words start ≡ false → length out < madeLength bytes words start
+    pub refused-room : entriesRefusal bytes words start ≡ none → madeTooLarge bytes start ≡ false → length out < madeLength bytes start
         → MakeOutcome bytes words start out (Verdict.Refused (Refusal.Desk 23 0)) out
     refused-room e f h =
-        refused (Refusal.Desk 23 0) (third-met (entriesRefusal bytes words start) (madeTooLarge bytes words start) room e f (lt-ltb (length out) (madeLength bytes words start) h))
+        refused (Refusal.Desk 23 0) (third-met (entriesRefusal bytes words start) (madeTooLarge bytes start) room e f (lt-ltb (length out) (madeLength bytes start) h))
 
     -- the file
-    pub file-put : entriesRefusal bytes words start ≡ none → madeTooLarge bytes words start ≡ false → madeLength bytes words start ≤ length out
-        → (n : ℕ) → n ≡ madeLength bytes words start → (after : List ℕ) → after ≡ fileFor made ++ drop n out → MakeOutcome bytes words start out (Verdict.Accepted n) after
+    pub file-put : entriesRefusal bytes words start ≡ none → madeTooLarge bytes start ≡ false → madeLength bytes start ≤ length out
+        → (n : ℕ) → n ≡ madeLength bytes start → (after : List ℕ) → after ≡ fileFor made ++ drop n out → MakeOutcome bytes words start out (Verdict.Accepted n) after
     file-put e f h n q after w =
-        let k = none-met (entriesRefusal bytes words start) (madeTooLarge bytes words start) room e f (le-ltb (length out) (madeLength bytes words start) h) in
+        let k = none-met (entriesRefusal bytes words start) (madeTooLarge bytes start) room e f (le-ltb (length out) (madeLength bytes start) h) in
         let l = made-long all (first-of (lexiconRefusal bytes words start) (refuseIf room (Refusal.Desk 23 0)) k) in
         record {
           file = fileFor made;
           file-right = made-right all;
           file-length = made-long all;
-          verdict-is = ap Verdict.Accepted q ∙ sym (ap (λ (o : Option Refusal). verdict o (madeLength bytes words start)) k);
+          verdict-is = ap Verdict.Accepted q ∙ sym (ap (λ (o : Option Refusal). verdict o (madeLength bytes start)) k);
           output-is = w ∙ ap (λ (m : ℕ). fileFor made ++ drop m out) (q ∙ sym l) ∙ sym (ap (λ (o : Option Refusal). written o (fileFor made) out) k);
         }
 
@@ -121,21 +121,21 @@ size-tested bytes words start all accepted = size-met bytes words start all acce
 -- demand 1
 pub demand-1-made : Demand1Made
 demand-1-made bytes words start out answer after o = (
-  subst (λ (v : Verdict). Decided (makeTests bytes words start out) (madeLength bytes words start ∷ []) (verdictAnswer v)) (sym (o .verdict-is))
-      (by-tests (makeTests bytes words start out) (makeRefusal bytes words start out) (madeLength bytes words start) (gives .first)),
+  subst (λ (v : Verdict). Decided (makeTests bytes words start out) (madeLength bytes start ∷ []) (verdictAnswer v)) (sym (o .verdict-is))
+      (by-tests (makeTests bytes words start out) (makeRefusal bytes words start out) (madeLength bytes start) (gives .first)),
   subst (Wrote (makeTests bytes words start out) (o .file) out) (sym (o .output-is))
       (wrote (makeTests bytes words start out) (makeRefusal bytes words start out) (o .file) out (gives .first) fit),
 )
   where
     room : Option Refusal
-    room = refuseIf (ltb (length out) (madeLength bytes words start)) (Refusal.Desk 23 0)
+    room = refuseIf (ltb (length out) (madeLength bytes start)) (Refusal.Desk 23 0)
 
     gives : Gives (makeTests bytes words start out) (makeRefusal bytes words start out)
     gives =
-        ((grammar-one 30 0 (wrongLexicon bytes words start) then grammar-each 10 (repeatedEntry bytes) 0 (entries bytes)) then grammar-one 31 0 (madeTooLarge bytes words start))
-        then desk-one 23 0 (ltb (length out) (madeLength bytes words start))
+        ((grammar-one 30 0 (wrongLexicon bytes words start) then grammar-each 10 (repeatedEntry bytes) 0 (entries bytes)) then grammar-one 31 0 (madeTooLarge bytes start))
+        then desk-one 23 0 (ltb (length out) (madeLength bytes start))
 
     fit : makeRefusal bytes words start out ≡ none → length (o .file) ≤ length out
     fit e =
-        let h = ltb-false (length out) (madeLength bytes words start) (no-refusal (ltb (length out) (madeLength bytes words start)) (Refusal.Desk 23 0) (rest-of (lexiconRefusal bytes words start) room e)) in
+        let h = ltb-false (length out) (madeLength bytes start) (no-refusal (ltb (length out) (madeLength bytes start)) (Refusal.Desk 23 0) (rest-of (lexiconRefusal bytes words start) room e)) in
         subst (λ (n : ℕ). n ≤ length out) (sym (o .file-length (first-of (lexiconRefusal bytes words start) room e))) h

@@ -13,13 +13,12 @@ use Rattle.model.specs.Base.{if_then_else_, numbersFrom}
 use Rattle.model.specs.Grammar.{Grammar}
 use Rattle.model.specs.GrammarFile.{within}
 use Rattle.model.specs.WellFormed.{WellFormed, Perm}
-use Rattle.model.proofs.Tests.{and-l, and-r, none-some, within-low}
+use Rattle.model.proofs.Tests.{and-l, and-r, none-some, within-low, some-one}
 use Rattle.doubles.specs.Doubles.{NoDoubles}
 use Rattle.doubles.proofs.Orders.{order-length, order-low, is-among}
 use Rattle.minimalist.specs.Lexicon.{Entry, selects}
 use Rattle.minimalist.specs.Schemes.{Form, Instance, mergeBy, mergeIf, mergeScheme, moveScheme}
 use Rattle.minimalist.specs.Made.{Name, NamedRule, startRule, entryRule, mergeRule, moveRule, Made, of-start, of-entry, of-merge, of-move, nameOf, namedRule, MadeFrom}
-use Rattle.minimalist.proofs.Harmless.{some-one}
 use Rattle.minimalist.proofs.FromTrees.{not-start, form-one, cons-head, cons-tail, nil-cons, headOf, same-rule}
 
 -- of a merge the first head begins with the selector of what the second begins with

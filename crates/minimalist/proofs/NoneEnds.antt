@@ -5,11 +5,12 @@ use mathlib.Core.Bool.{false, _||_}
 use mathlib.Core.Option.{some}
 use mathlib.Core.List.{List, [], _∷_}
 use Prim.Native.Nat.{ℕ}
+use Rattle.model.proofs.Tests.{some-one}
 use Rattle.minimalist.specs.Lexicon.{Entry}
 use Rattle.minimalist.specs.Derivations.{Chain, Expression, Derivation, merged, moved, derived}
 use Rattle.minimalist.specs.Schemes.{featuresOf, formOf, mergeScheme, moveScheme, noFeatures, wrongMoving, leftOut, PartOf, the-whole, of-selecting, of-selected, of-moved, NoneEnds}
 use Rattle.minimalist.proofs.Agree.{strings, merge-agrees, move-agrees}
-use Rattle.minimalist.proofs.Harmless.{some-one, merge-harmless, move-harmless}
+use Rattle.minimalist.proofs.Harmless.{merge-harmless, move-harmless}
 use Rattle.minimalist.proofs.Derivations.{both-out, one-out, instanced}
 
 module _ (lexicon : List Entry) (part : Derivation) (x : Expression) (is-part : derived lexicon part ≡ some x) where

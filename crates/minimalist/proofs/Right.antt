@@ -13,13 +13,12 @@ use borrow.Author.Tests.{eq-eqb}
 use Rattle.model.specs.Base.{if_then_else_, numbersFrom}
 use Rattle.model.specs.Grammar.{Variable, variable}
 use Rattle.model.specs.WellFormed.{Perm, same, more, swap, chain, named}
-use Rattle.model.proofs.Tests.{or-l, or-r, not-both, none-some, not-off, within-low}
+use Rattle.model.proofs.Tests.{or-l, or-r, not-both, none-some, not-off, within-low, some-one}
 use Rattle.model.proofs.Lists.{each-append, length-numbers}
 use Rattle.model.proofs.Perm.{perm-move, perm-sym}
 use Rattle.minimalist.specs.Lexicon.{Entry, selects, isLicensor}
 use Rattle.minimalist.specs.Derivations.{begins}
 use Rattle.minimalist.specs.Schemes.{Form, Instance, formDimension, singles, joinedVariables, mergeBy, mergeIf, mergeScheme, howManyBegin, leftOver, movingAfter, landingVariable, stayingVariable, landingAt, staying, moveBy, moveIf, moveScheme, noFeatures, beginsLicensee, anySameFirst, wrongMoving, Derivable, by-entry, by-merge, by-move}
-use Rattle.minimalist.proofs.Harmless.{some-one}
 
 -- components of one variable each
 named-singles : (j c n : ℕ) → named (singles j c n) ≡ map (variable j) (numbersFrom c n)
@@ -177,9 +176,6 @@ three (c ∷ cs) w = go c (not-off (beginsLicensee c) (or-l (not (beginsLicensee
     go [] t ih = absurd t
     go (m ∷ ms) t ih = cases (ℕ-discrete 49 m) (ℕ-discrete 50 m) (ℕ-discrete 51 m)
       where
-        bit : ℕ → ℕ
-        bit x = if eqb x m then 1 else 0
-
         cases : Dec (49 ≡ m) → Dec (50 ≡ m) → Dec (51 ≡ m)
             → suc (length cs) ≤ ((if eqb 49 m then 1 else 0) + howManyBegin 49 cs) + ((if eqb 50 m then 1 else 0) + howManyBegin 50 cs) + ((if eqb 51 m then 1 else 0) + howManyBegin 51 cs)
         cases (yes e) f g = rw (eq-eqb 49 m e) (omega arith)

@@ -6,6 +6,7 @@ use mathlib.Core.List.{List, [], _∷_, map, List·Memᴰ}
 use Prim.Native.Nat.{ℕ, suc, _≤_, _*_}
 use native.Mathlib.Omega.{arith}
 use lib.ListN.{length, getElem?, length-map}
+use Rattle.minimalist.specs.MakeGrammar.{OneLength}
 use Rattle.model.specs.Grammar.{Grammar}
 use Rattle.model.specs.WellFormed.{WellFormed}
 use Rattle.model.specs.GrammarFile.{grammarOf, rulesOf, blocksFor}
@@ -48,11 +49,11 @@ module _ (lexicon : List Entry) (words start : ℕ) where
           let w = b .rules-whole n (subst (Made lexicon start) u (a .rules-sound k rule x)) in
           subst (λ (z : NamedRule). List·Memᴰ z (map (namedRule (b .names)) (h .rules))) (w .named) (map-in (namedRule (b .names)) (elem-out (h .rules) (w .number) (w .rule) (w .is-rule)))
 
-  pub same-length : (file other : List ℕ) → MadeFile lexicon words start file → MadeFile lexicon words start other → length file ≡ length other
-  same-length file other a b =
-      let g = grammarOf file in
-      let h = grammarOf other in
-      let p = fewer g h (accepted-well file (a .accepted)) (a .made) (b .made) in
-      let q = fewer h g (accepted-well other (b .accepted)) (b .made) (a .made) in
-      let r : rulesOf file ≡ rulesOf other = omega (arith, p, q, rules-length file, rules-length other) in
-      passed file (a .accepted) .long ∙ ap (λ (n : ℕ). 512 * blocksFor n) r ∙ sym (passed other (b .accepted) .long)
+pub same-length : OneLength
+same-length lexicon words start file other a b =
+    let g = grammarOf file in
+    let h = grammarOf other in
+    let p = fewer lexicon words start g h (accepted-well file (a .accepted)) (a .made) (b .made) in
+    let q = fewer lexicon words start h g (accepted-well other (b .accepted)) (b .made) (a .made) in
+    let r : rulesOf file ≡ rulesOf other = omega (arith, p, q, rules-length file, rules-length other) in
+    passed file (a .accepted) .long ∙ ap (λ (n : ℕ). 512 * blocksFor n) r ∙ sym (passed other (b .accepted) .long)

@@ -5,7 +5,7 @@ use mathlib.Core.Logic.{_⊎_, inl, inr, ⊎-elim}
 use mathlib.Core.Bool.{Bool, true, false, _||_, not}
 use mathlib.Core.Option.{some}
 use mathlib.Core.List.{List, [], _∷_, _++_, map, List·Memᴰ, List·Memᴰ·head, List·Memᴰ·tail, List·Memᴰ·cases-cons, List·Memᴰ·append-cases}
-use Prim.Native.Nat.{ℕ, zero, suc, _+_, _<_, _≤_}
+use Prim.Native.Nat.{ℕ, zero, suc, _<_, _≤_}
 use native.Mathlib.Omega.{arith}
 use lib.Dec.{T, ltb, eqb, eqb→eq, ltb→lt}
 use lib.ListN.{length, length-append, length-map}
@@ -53,12 +53,12 @@ module _ {A : Type 0} where
 pub rules-few : (lexicon : List Entry) (start : ℕ) (forms : List Form) → tooLarge lexicon start forms ≡ false → length (madeRules lexicon start forms) ≤ 256
 rules-few lexicon start forms u =
     let many = ltb 256 (length (madeRules lexicon start forms)) in
-    ltb-false 256 (length (madeRules lexicon start forms)) (or-r (ltb 63 (length forms)) many (or-l (ltb 63 (length forms) || many) (eqb (length (startRules lexicon start forms)) 0) u))
+    ltb-false 256 (length (madeRules lexicon start forms)) (or-r (ltb 63 (length forms)) many (or-l (ltb 63 (length forms) || many) (eqb (length (startRules start forms)) 0) u))
 
 module _ (lexicon : List Entry) (words start : ℕ) (e₀ : Entry) (l₀ : List Entry) (entries : lexicon ≡ e₀ ∷ l₀) (once : Once lexicon) where
-  some-start : (forms : List Form) → ((a : Form) → List·Memᴰ a forms ⇔ Derivable lexicon a) → Once forms → (x : Bool) → Derivable lexicon (startForm start x) → (length (startRules lexicon start forms) ≡ 0) → ⊥
+  some-start : (forms : List Form) → ((a : Form) → List·Memᴰ a forms ⇔ Derivable lexicon a) → Once forms → (x : Bool) → Derivable lexicon (startForm start x) → (length (startRules start forms) ≡ 0) → ⊥
   some-start forms are apart x d z =
-      nonempty (startRules lexicon start forms) (startRule start x)
+      nonempty (startRules start forms) (startRule start x)
       (each-in (λ x. if isAmong forms (startForm start x) then startRule start x ∷ [] else []) (bool-in lexicon words start forms apart are x) (start-in lexicon words start forms apart are x d)) z
     where
       nonempty : (l : List NamedRule) (n : NamedRule) → List·Memᴰ n l → length l ≡ 0 → ⊥
@@ -69,7 +69,7 @@ module _ (lexicon : List Entry) (words start : ℕ) (e₀ : Entry) (l₀ : List 
   large-means : T (tooLarge lexicon start (formsOf lexicon)) → TooLarge lexicon start
   large-means t = at (formsOf lexicon) (rounds-apart lexicon 63) (ltb 63 (length (formsOf lexicon))) refl (forms-are lexicon e₀ l₀ entries) t
     where
-      categories : TooMany lexicon → MoreThan 64 (IsCategory lexicon start)
+      categories : TooMany lexicon → MoreThan 64 (IsCategory lexicon)
       categories t =
           record {
             things = newStart ∷ map form (t .forms);
@@ -78,18 +78,18 @@ module _ (lexicon : List Entry) (words start : ℕ) (e₀ : Entry) (l₀ : List 
             many = omega (arith, length-map (t .forms) form, t .many);
           }
         where
-          among : (x : Name) → (x ≡ newStart) ⊎ List·Memᴰ x (map form (t .forms)) → IsCategory lexicon start x
-          among x (inl q) = subst (IsCategory lexicon start) (sym q) tt
-          among x (inr m) = let (a, i, q) = map-out form (t .forms) m in subst (IsCategory lexicon start) (sym q) (t .derivable a i)
+          among : (x : Name) → (x ≡ newStart) ⊎ List·Memᴰ x (map form (t .forms)) → IsCategory lexicon x
+          among x (inl q) = subst (IsCategory lexicon) (sym q) tt
+          among x (inr m) = let (a, i, q) = map-out form (t .forms) m in subst (IsCategory lexicon) (sym q) (t .derivable a i)
 
       at : (forms : List Form) → Once forms → (b : Bool) → ltb 63 (length (formsOf lexicon)) ≡ b → (length (formsOf lexicon) ≤ 63 → (a : Form) → List·Memᴰ a forms ⇔ Derivable lexicon a)
-          → T ((b || ltb 256 (length (madeRules lexicon start forms))) || eqb (length (startRules lexicon start forms)) 0) → TooLarge lexicon start
+          → T ((b || ltb 256 (length (madeRules lexicon start forms))) || eqb (length (startRules start forms)) 0) → TooLarge lexicon start
       at forms apart true e are u = inl (categories (too-many lexicon (ltb-true 63 (length (formsOf lexicon)) e)))
       at forms apart false e are u =
           let h = are (ltb-false 63 (length (formsOf lexicon)) e) in
           ⊎-elim (λ v. inr (inl (record { things = madeRules lexicon start forms; different = rules-once lexicon words start forms apart h once; are = listed-made lexicon words start forms apart h; many = ltb→lt 256 (length (madeRules lexicon start forms)) v })))
-          (λ v. inr (inr (λ x d. some-start forms h apart x d (eqb→eq (length (startRules lexicon start forms)) 0 v))))
-          (or-cases (ltb 256 (length (madeRules lexicon start forms))) (eqb (length (startRules lexicon start forms)) 0) u)
+          (λ v. inr (inr (λ x d. some-start forms h apart x d (eqb→eq (length (startRules start forms)) 0 v))))
+          (or-cases (ltb 256 (length (madeRules lexicon start forms))) (eqb (length (startRules start forms)) 0) u)
 
   -- what is known where 31 does not meet the lexicon
   record Sized (forms : List Form) : Type 0 where
@@ -102,14 +102,14 @@ module _ (lexicon : List Entry) (words start : ℕ) (e₀ : Entry) (l₀ : List 
 
   sized : (forms : List Form) → formsOf lexicon ≡ forms → Once forms → tooLarge lexicon start forms ≡ false → Sized forms
   sized forms q apart u =
-      let v = or-l (ltb 63 (length forms) || ltb 256 (length (madeRules lexicon start forms))) (eqb (length (startRules lexicon start forms)) 0) u in
+      let v = or-l (ltb 63 (length forms) || ltb 256 (length (madeRules lexicon start forms))) (eqb (length (startRules start forms)) 0) u in
       let few : length forms ≤ 63 = ltb-false 63 (length forms) (or-l (ltb 63 (length forms)) (ltb 256 (length (madeRules lexicon start forms))) v) in
       let few₁ : length (formsOf lexicon) ≤ 63 = subst (λ (z : List Form). length z ≤ 63) (sym q) few in
       let are = subst (λ (z : List Form). (a : Form) → List·Memᴰ a z ⇔ Derivable lexicon a) q (forms-are lexicon e₀ l₀ entries few₁) in
-      let some : 1 ≤ length (startRules lexicon start forms) = nonzero (length (startRules lexicon start forms)) (or-r (ltb 63 (length forms) || ltb 256 (length (madeRules lexicon start forms))) (eqb (length (startRules lexicon start forms)) 0) u) in
-      let s = first (startRules lexicon start forms) some in
+      let some : 1 ≤ length (startRules start forms) = nonzero (length (startRules start forms)) (or-r (ltb 63 (length forms) || ltb 256 (length (madeRules lexicon start forms))) (eqb (length (startRules start forms)) 0) u) in
+      let s = first (startRules start forms) some in
       let (x, p, d) = starts-out lexicon words start forms apart are (s .0) (s .1) in
-      let many = length-append (startRules lexicon start forms) (map entryRule lexicon ++ schemeRules lexicon start forms) in
+      let many = length-append (startRules start forms) (map entryRule lexicon ++ schemeRules forms) in
       record {
         few = few;
         are = are;
@@ -131,7 +131,7 @@ module _ (lexicon : List Entry) (words start : ℕ) (e₀ : Entry) (l₀ : List 
   means-large : TooLarge lexicon start → tooLarge lexicon start (formsOf lexicon) ≡ false → ⊥
   means-large k t = at (formsOf lexicon) (rounds-apart lexicon 63) (sized (formsOf lexicon) refl (rounds-apart lexicon 63) t) k
     where
-      named : (forms : List Form) → ((a : Form) → List·Memᴰ a forms ⇔ Derivable lexicon a) → (x : Name) → IsCategory lexicon start x → List·Memᴰ x (newStart ∷ map form forms)
+      named : (forms : List Form) → ((a : Form) → List·Memᴰ a forms ⇔ Derivable lexicon a) → (x : Name) → IsCategory lexicon x → List·Memᴰ x (newStart ∷ map form forms)
       named forms are newStart c = List·Memᴰ·head refl
       named forms are (form a) c = List·Memᴰ·tail (map-in form (are a .1 c))
 

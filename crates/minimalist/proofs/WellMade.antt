@@ -5,7 +5,7 @@ use mathlib.Core.Logic.{_⊎_, ⊎-elim}
 use mathlib.Core.Bool.{Bool, true, false}
 use mathlib.Core.Option.{some}
 use mathlib.Core.List.{List, [], _∷_, _++_, map, List·Memᴰ, List·Memᴰ·head, List·Memᴰ·tail, List·Memᴰ·cases-cons, List·Memᴰ·eq-of-singleton}
-use Prim.Native.Nat.{ℕ, zero, suc, _+_, _<_, _≤_}
+use Prim.Native.Nat.{ℕ, zero, suc, _<_, _≤_}
 use native.Mathlib.Omega.{arith}
 use lib.Dec.{T}
 use lib.ListN.{length, getD, length-map}
@@ -51,11 +51,11 @@ module _ (lexicon : List Entry) (words start : ℕ) (forms : List Form) (apart :
   dims-many : length (g .dimensions) ≡ suc (length forms)
   dims-many = ap suc (length-map forms formDimension)
 
-  number-below : (x : Name) → IsCategory lexicon start x → numberOf forms x < length (g .dimensions)
+  number-below : (x : Name) → IsCategory lexicon x → numberOf forms x < length (g .dimensions)
   number-below newStart c = omega arith
   number-below (form a) c = omega (arith, place forms a (are a .1 c) .below, dims-many)
 
-  dimension-is : (x : Name) → IsCategory lexicon start x → dimension g (numberOf forms x) ≡ dimensionOf x
+  dimension-is : (x : Name) → IsCategory lexicon x → dimension g (numberOf forms x) ≡ dimensionOf x
   dimension-is newStart c = refl
   dimension-is (form a) c = place forms a (are a .1 c) .is
 
@@ -67,7 +67,7 @@ module _ (lexicon : List Entry) (words start : ℕ) (forms : List Form) (apart :
   two-variables a b d e =
       ap₂ (λ (n m : ℕ). map (variable 0) (numbersFrom 0 n) ++ (map (variable 1) (numbersFrom 0 m) ++ [])) (dimension-is (form a) d) (dimension-is (form b) e)
 
-  lower : (x : Name) → IsCategory lexicon start x → 1 ≤ dimension g (numberOf forms x)
+  lower : (x : Name) → IsCategory lexicon x → 1 ≤ dimension g (numberOf forms x)
   lower newStart c = omega (arith, dimension-is newStart c)
   lower (form a) c = omega (arith, dimension-is (form a) c)
 

@@ -57,16 +57,16 @@ abbrev pub ruleIf : (Instance → NamedRule) → Option Instance → List NamedR
 ruleIf f none = []
 ruleIf f (some s) = if leftOut (s .result) then [] else f s ∷ []
 
+abbrev pub startRules : ℕ → List Form → List NamedRule
+startRules start forms = each (λ x. if isAmong forms (startForm start x) then startRule start x ∷ [] else []) (true ∷ false ∷ [])
+
+abbrev pub schemeRules : List Form → List NamedRule
+schemeRules forms = each (λ a. each (λ b. ruleIf (mergeRule a b) (mergeScheme a b)) forms ++ ruleIf (moveRule a) (moveScheme a)) forms
+
 module _ (lexicon : List Entry) (start : ℕ) (forms : List Form) where
-  abbrev pub startRules : List NamedRule
-  startRules = each (λ x. if isAmong forms (startForm start x) then startRule start x ∷ [] else []) (true ∷ false ∷ [])
-
-  abbrev pub schemeRules : List NamedRule
-  schemeRules = each (λ a. each (λ b. ruleIf (mergeRule a b) (mergeScheme a b)) forms ++ ruleIf (moveRule a) (moveScheme a)) forms
-
   abbrev pub madeRules : List NamedRule
-  madeRules = startRules ++ (map entryRule lexicon ++ schemeRules)
+  madeRules = startRules start forms ++ (map entryRule lexicon ++ schemeRules forms)
 
   -- refusal 31: "over 64 categories or 256 rules, the new start's included, or neither start form derivable"
   abbrev pub tooLarge : Bool
-  tooLarge = ltb 63 (length forms) || ltb 256 (length madeRules) || eqb (length startRules) 0
+  tooLarge = ltb 63 (length forms) || ltb 256 (length madeRules) || eqb (length (startRules start forms)) 0

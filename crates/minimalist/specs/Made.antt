@@ -58,10 +58,10 @@ module _ (lexicon : List Entry) (start : ℕ) where
         → Made (mergeRule a b s)
     of-move : (a : Form) (s : Instance) → Derivable lexicon a → moveScheme a ≡ some s → leftOut (s .result) ≡ false → Made (moveRule a s)
 
-  -- and so is that of categories
-  abbrev pub IsCategory : Name → Type 0
-  IsCategory newStart = Unit {0}
-  IsCategory (form a) = Derivable lexicon a
+-- and so is that of categories
+abbrev pub IsCategory : List Entry → Name → Type 0
+IsCategory lexicon newStart = Unit {0}
+IsCategory lexicon (form a) = Derivable lexicon a
 
 -- "the numbering of rules and categories is free": what each category stands for
 abbrev pub nameOf : List Name → ℕ → Name
@@ -89,7 +89,7 @@ pub record MadeFrom (lexicon : List Entry) (words start : ℕ) (g : Grammar) : T
   pub names : List Name
   pub one-each : length names ≡ length (g .dimensions)
   pub names-differ : (c d : ℕ) → c < length names → d < length names → nameOf names c ≡ nameOf names d → c ≡ d
-  pub names-are : (x : Name) → List·Memᴰ x names ⇔ IsCategory lexicon start x
+  pub names-are : (x : Name) → List·Memᴰ x names ⇔ IsCategory lexicon x
   pub start-is : nameOf names (g .start) ≡ newStart
   pub words-is : g .words ≡ words
   pub dimensions-are : (c : ℕ) → c < length names → dimension g c ≡ dimensionOf (nameOf names c)
@@ -114,5 +114,5 @@ pub record MoreThan {A : Type 0} (n : ℕ) (kind : A → Type 0) : Type 0 where
 -- refusal 31: "over 64 categories or 256 rules, the new start's included, or neither start form derivable"
 abbrev pub TooLarge : List Entry → ℕ → Type 0
 TooLarge lexicon start =
-    MoreThan 64 (IsCategory lexicon start)
+    MoreThan 64 (IsCategory lexicon)
     ⊎ (MoreThan 256 (Made lexicon start) ⊎ ((x : Bool) → Derivable lexicon (startForm start x) → ⊥))

@@ -25,31 +25,32 @@ use Rattle.minimalist.specs.Derivations.{Derivation, Counted}
 use Rattle.minimalist.specs.Made.{MadeFile, TooLarge}
 use Rattle.minimalist.specs.Closure.{formsOf, madeRules, tooLarge}
 
-module _ (bytes : List ℕ) (words start : ℕ) where
-  -- 31
-  abbrev pub madeTooLarge : Bool
-  madeTooLarge = tooLarge (lexiconOf bytes) start (formsOf (lexiconOf bytes))
+-- 31
+abbrev pub madeTooLarge : List ℕ → ℕ → Bool
+madeTooLarge bytes start = tooLarge (lexiconOf bytes) start (formsOf (lexiconOf bytes))
 
+-- the length of the file of so many rules: it does not hang on their numbering
+abbrev pub madeLength : List ℕ → ℕ → ℕ
+madeLength bytes start = 512 * blocksFor (length (madeRules (lexiconOf bytes) start (formsOf (lexiconOf bytes))))
+
+module _ (bytes : List ℕ) (words start : ℕ) where
   -- 30, 10, 31
   abbrev pub lexiconRefusal : Option Refusal
-  lexiconRefusal = entriesRefusal bytes words start orElse refuseIf madeTooLarge (Refusal.Grammar 31 0)
-
-  -- the length of the file of so many rules: it does not hang on their numbering
-  abbrev pub madeLength : ℕ
-  madeLength = 512 * blocksFor (length (madeRules (lexiconOf bytes) start (formsOf (lexiconOf bytes))))
+  lexiconRefusal = entriesRefusal bytes words start orElse refuseIf (madeTooLarge bytes start) (Refusal.Grammar 31 0)
 
   -- "The output is tested as the writer's, after 31."
   abbrev pub makeRefusal : List ℕ → Option Refusal
-  makeRefusal out = lexiconRefusal orElse refuseIf (ltb (length out) madeLength) (Refusal.Desk 23 0)
+  makeRefusal out = lexiconRefusal orElse refuseIf (ltb (length out) (madeLength bytes start)) (Refusal.Desk 23 0)
 
   abbrev pub makeVerdict : List ℕ → Verdict
-  makeVerdict out = verdict (makeRefusal out) madeLength
+  makeVerdict out = verdict (makeRefusal out) (madeLength bytes start)
 
-  -- "The set of rules is fixed; the numbering of rules and categories is free": the file is one of those that hold this set; all else is not free
+  -- "The set of rules is fixed; the numbering of rules and categories is free": the file is one of those that hold this set; all else is not free. Its
+  -- length is that of every other such file (`OneLength`).
   pub record MakeOutcome (out : List ℕ) (answer : Verdict) (after : List ℕ) : Type 0 where
     pub file : List ℕ
     pub file-right : lexiconRefusal ≡ none → MadeFile (lexiconOf bytes) words start file
-    pub file-length : lexiconRefusal ≡ none → length file ≡ madeLength
+    pub file-length : lexiconRefusal ≡ none → length file ≡ madeLength bytes start
     pub verdict-is : answer ≡ makeVerdict out
     pub output-is : after ≡ written (makeRefusal out) file out
 
@@ -61,20 +62,26 @@ module _ (bytes : List ℕ) (words start : ℕ) where
 
   abbrev pub makeTests : List ℕ → List Test
   makeTests out =
-      (entriesTests andThen (ofGrammar 31 0 madeTooLarge ∷ [])) andThen (ofDesk 23 0 (ltb (length out) madeLength) ∷ [])
+      (entriesTests andThen (ofGrammar 31 0 (madeTooLarge bytes start) ∷ [])) andThen (ofDesk 23 0 (ltb (length out) (madeLength bytes start)) ∷ [])
 
 -- Demand 1 for the call: since the numbering is free, the claim is of every right outcome
 abbrev pub Demand1Made : Type 0
 Demand1Made =
     (bytes : List ℕ) (words start : ℕ) (out : List ℕ) (answer : Verdict) (after : List ℕ) (o : MakeOutcome bytes words start out answer after)
-    → Decided (makeTests bytes words start out) (madeLength bytes words start ∷ []) (verdictAnswer answer)
+    → Decided (makeTests bytes words start out) (madeLength bytes start ∷ []) (verdictAnswer answer)
     × Wrote (makeTests bytes words start out) (o .file) out after
+
+-- the files that the promise allows have one length, whatever their numbering
+abbrev pub OneLength : Type 0
+OneLength =
+    (lexicon : List Entry) (words start : ℕ) (file other : List ℕ) → MadeFile lexicon words start file → MadeFile lexicon words start other
+    → length file ≡ length other
 
 -- 31 is what the paper says of it, where 30 and 10 do not meet the lexicon
 abbrev pub SizeTested : Type 0
 SizeTested =
     (bytes : List ℕ) (words start : ℕ) → T (allBytes bytes) → entriesRefusal bytes words start ≡ none
-    → T (madeTooLarge bytes words start) ⇔ TooLarge (lexiconOf bytes) start
+    → T (madeTooLarge bytes start) ⇔ TooLarge (lexiconOf bytes) start
 
 -- "Where the effort limit suffices, the count for a sentence equals the number of minimalist derivations of the wanted category that fit it and have
 -- fewer nodes than N"

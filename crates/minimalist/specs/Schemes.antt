@@ -154,7 +154,7 @@ NoneEnds =
 abbrev pub lexicalForm : Entry → Form
 lexicalForm e = record { lexical = true; head = e .features; moving = [] }
 
--- "the categories derivable from the entries", none of them left out
+-- "the categories derivable from the entries": what a scheme makes is not left out, and an entry's category is not, since refusal 30 meets an entry without features
 pub data Derivable (lexicon : List Entry) : Form → Type 0 where
   by-entry : (e : Entry) → List·Memᴰ e lexicon → Derivable lexicon (lexicalForm e)
   by-merge : (a b : Form) (s : Instance) → Derivable lexicon a → Derivable lexicon b → mergeScheme a b ≡ some s → leftOut (s .result) ≡ false

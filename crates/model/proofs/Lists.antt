@@ -74,6 +74,12 @@ numbers-out {r} from (suc count) m = go (λ (h : List·Memᴰ r (numbersFrom (su
     go ih (inl e) = omega arith
     go ih (inr h) = omega (arith, ih h)
 
+pub numbers-next : (a n : ℕ) → numbersFrom a (suc n) ≡ numbersFrom a n ++ ((a + n) ∷ [])
+numbers-next a zero = let e : a ≡ a + 0 = omega arith in ap (λ (x : ℕ). x ∷ []) e
+numbers-next a (suc n) =
+    let e : suc a + n ≡ a + suc n = omega arith in
+    ap (λ (l : List ℕ). a ∷ l) (numbers-next (suc a) n ∙ ap (λ (x : ℕ). numbersFrom (suc a) n ++ (x ∷ [])) e)
+
 pub length-numbers : (a n : ℕ) → length (numbersFrom a n) ≡ n
 length-numbers a zero = refl
 length-numbers a (suc n) = ap suc (length-numbers (suc a) n)

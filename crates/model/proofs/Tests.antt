@@ -9,7 +9,7 @@ use Prim.Native.Nat.{ℕ, zero, suc, _+_, _-_, _<_, _≤_}
 use native.Mathlib.Omega.{arith}
 use native.Mathlib.Decide.{ℕ-discrete}
 use borrow.Author.Tests.{ltb-true, ltb-false, leb-true, leb-false, lt-ltb, le-ltb, le-leb, lt-leb}
-use lib.Dec.{T, ltb, leb, eqb, leb→le, eqb→eq, eqb-refl}
+use lib.Dec.{T, ltb, leb, eqb, leb→le, le→leb, eqb→eq, eqb-refl}
 use lib.ListN.{length, getD}
 use Rattle.model.specs.declared.Refusal.{Refusal}
 use Rattle.model.specs.Verdict.{refuseIf}
@@ -18,6 +18,9 @@ use Rattle.model.specs.GrammarFile.{within}
 
 pub none-some : {A B : Type 0} {a : A} → some a ≡ none → B
 none-some e = let z : _≡_ {A = ℕ} 0 1 = cc in absurd (omega arith)
+
+pub some-one : {A : Type 0} {a b : A} → some a ≡ some b → a ≡ b
+some-one {A} {a} e = ap (λ (o : Option A). elim o [ none ↦ a | some x ↦ x ]) e
 
 pub not-both : {A : Type 0} → true ≡ false → A
 not-both e = let z : _≡_ {A = ℕ} 0 1 = cc in absurd (omega arith)
@@ -130,6 +133,9 @@ not-ltb a b = go (ltb b a) refl
 pub and-both : (a b : Bool) → T a → T b → T (a && b)
 and-both true b t u = u
 and-both false b t u = absurd t
+
+pub within-bounds : (a b x : ℕ) → a ≤ x → x ≤ b → T (within a b x)
+within-bounds a b x lo hi = and-both (leb a x) (leb x b) (le→leb a x lo) (le→leb x b hi)
 
 pub both-true : (a b : Bool) → a && b ≡ true → (a ≡ true) × (b ≡ true)
 both-true true b e = (refl, e)

@@ -13,23 +13,16 @@ use lib.ListN.{length, length-append}
 use Rattle.model.specs.Base.{if_then_else_, each, numbersFrom}
 use Rattle.model.specs.Grammar.{Rule, Grammar, ruleAt, isLexical}
 use Rattle.model.specs.Rows.{Slot, RowState, halts, moves, scanRow, predictRow, applyRow, extendByRow, extendRow}
-use Rattle.model.proofs.Lists.{each-append}
+use Rattle.model.proofs.Lists.{each-append, numbers-next}
 use Rattle.search.specs.Chain.{isBy, isOf, noRule, firstRule}
 use Rattle.search.specs.Search.{upTo, done}
-
--- numbers from `from` on, one more
-numbers-last : (from n : ℕ) → numbersFrom from (suc n) ≡ numbersFrom from n ++ ((from + n) ∷ [])
-numbers-last from zero = let e : from + 0 ≡ from = omega arith in rw e
-numbers-last from (suc n) =
-    let e : suc from + n ≡ from + suc n = omega arith in
-    ap (λ (l : List ℕ). from ∷ l) (numbers-last (suc from) n ∙ ap (λ (k : ℕ). numbersFrom (suc from) n ++ (k ∷ [])) e)
 
 -- f 0, .., f (n - 1), joined
 module _ (f : ℕ → List (List ℕ)) where
   pub upTo-next : (r : ℕ) → upTo f (suc r) ≡ upTo f r ++ f r
   upTo-next r =
       let z : 0 + r ≡ r = omega arith in
-      ap (each f) (numbers-last 0 r ∙ ap (λ (k : ℕ). numbersFrom 0 r ++ (k ∷ [])) z)
+      ap (each f) (numbers-next 0 r ∙ ap (λ (k : ℕ). numbersFrom 0 r ++ (k ∷ [])) z)
       ∙ each-append f (numbersFrom 0 r) (r ∷ [])
       ∙ ap (λ (l : List (List ℕ)). upTo f r ++ l) (append-nil (f r))
 
