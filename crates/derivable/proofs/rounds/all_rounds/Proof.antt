@@ -30,7 +30,7 @@ same-length c = search needs
 returns : tie.Need-returns Inv-loop μ-loop
 returns c =
     let t = c .before .before .before .before .before .before .loop in
-    rounds-still (t .k) (t .inv .3) (c .before .before .before .one-round .ensures) (c .if1 .taken) 63 (t .inv .0)
+    rounds-still (t .k) (t .inv .3) (c .before .before .before .one-round .ensures) (omega arith) 63 (t .inv .0)
 
 add-k : tie.Need-add-k Inv-loop μ-loop
 add-k c = search needs
