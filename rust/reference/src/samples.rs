@@ -92,3 +92,43 @@ VP <- 4
 
 /// Small grammars with several analyses, empty words, empty components and components out of order.
 pub const SMALL: [&str; 8] = [COPY, PAIR, CROSSING, CHAIN, SILENT, SWAPPED, SHUFFLED, TWELVE];
+
+/// Example 2 of the source, section 3.1, a lexicon with the start category C.
+pub const KNOWS: &str = "
+Mary :: D
+John :: D
+who :: D -wh
+likes :: =D =D V
+knows :: =C =D V
+empty :: =V C
+empty :: =V +wh C
+";
+
+/// English questions, a lexicon with the start category C: an empty complementizer attracts the question word of an embedded question, and
+/// `does` that of a main one, whose verb then has no ending. Mary knows who John likes; who does Mary like.
+pub const QUESTION: &str = "
+empty :: =V C
+empty :: =V +wh Q
+does :: =I +wh C
+Mary :: D
+John :: D
+who :: D -wh
+likes :: =D =D V
+knows :: =Q =D V
+like :: =D =D I
+know :: =Q =D I
+";
+
+/// Lexicons with the start category c: trees that branch, with and without empty words, chains that move once and twice, past each other and
+/// along with what they are in, and expressions that end nowhere because of a chain without features, of one that begins with no licensee or
+/// of two that begin with the same.
+pub const LEXICONS: [&str; 8] = [
+    "a :: c\nb :: =c c\nempty :: =c c",
+    "a :: c\nb :: =c =c c",
+    "a :: d -w\nb :: =d +w c\nempty :: d -w\na :: d",
+    "a :: d -w -v\nb :: =d +w +v c\nb :: =d +w e\nempty :: =e +v c",
+    "a :: d -v\nb :: =d e -w\na :: h -u\nb :: =h =e +u +w +v c\nempty :: h -u",
+    "a :: d -w\nb :: =d =d +w c\nb :: =d =d +w +w c\nempty :: d\na :: d -v\nb :: =d +v d",
+    "a :: c\nb :: =c\na :: c =c\nb :: =c c -w\nempty :: =c +w c\nb :: c c",
+    "a :: c -w\nb :: =c c -w\na :: =c +w c\nb :: =c +w c -v\nempty :: =c +v c",
+];
