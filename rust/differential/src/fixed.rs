@@ -10,6 +10,7 @@ use crate::compare::{Done, Pair};
 use crate::damage::{at, seal};
 use crate::dates;
 use crate::grammars::Made;
+use crate::lexicons;
 use crate::orders;
 use crate::unclear;
 
@@ -29,7 +30,8 @@ pub fn fixed(pair: &mut Pair) -> Done {
     bytes_of_files(pair)?;
     dates::fixed(pair)?;
     orders::fixed(pair)?;
-    unclear::fixed(pair)
+    unclear::fixed(pair)?;
+    lexicons::fixed(pair)
 }
 
 fn copy() -> Made {

@@ -39,7 +39,7 @@ pub fn read_lexicon(bytes: &[u8], words: u32, start: u32) -> Result<Lexicon, Ref
     if !(1..=4096).contains(&words) || !(1..=15).contains(&start) {
         return Err(Refusal::grammar(30, 0));
     }
-    let entries: Option<Vec<Entry>> = bytes.chunks(ENTRY).map(|entry| entry_of(entry, words)).collect();
+    let entries: Option<Vec<Entry>> = bytes.chunks_exact(ENTRY).map(|entry| entry_of(entry, words)).collect();
     let Some(entries) = entries else {
         return Err(Refusal::grammar(30, 0));
     };

@@ -21,6 +21,9 @@ struct Expression {
     moving: Vec<Chain>,
 }
 
+/// A count of derivations: `derivations`, or a copy of it with a fault.
+pub type Derivations = fn(&Lexicon, &[u32], usize, usize) -> Option<u64>;
+
 /// The expressions with one number of nodes, each with the number of its derivations.
 type Level = BTreeMap<Expression, u64>;
 

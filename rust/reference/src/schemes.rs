@@ -1,8 +1,6 @@
 //! The five merge and move schemes (source document 003, section 3; document 02, paper 6): the categories derivable from a lexicon's entries,
 //! and the rules of the schemes among them. Categories have names here and no numbers.
 
-use std::collections::BTreeSet;
-
 use crate::grammar::Variable;
 use crate::lexicon::{Feature, Lexicon};
 
@@ -11,14 +9,14 @@ pub type Chain = Vec<Feature>;
 
 /// "a category is a tuple <x, d0, d1, .., dj>": whether x is 1, the head's chain, and then the moving chains. Moving chains in another order
 /// are another category.
-#[derive(Clone, Debug, PartialEq, Eq, PartialOrd, Ord)]
+#[derive(Clone, Debug, PartialEq, Eq)]
 pub struct Tuple {
     pub lexical: bool,
     pub chains: Vec<Chain>,
 }
 
 /// A rule of a scheme: a category, its daughters, and a sequence of variables for each of its components.
-#[derive(Clone, Debug, PartialEq, Eq, PartialOrd, Ord)]
+#[derive(Clone, Debug, PartialEq, Eq)]
 pub struct Instance {
     pub category: Tuple,
     pub daughters: Vec<Tuple>,
@@ -144,13 +142,14 @@ fn left_out(chains: &[Chain]) -> bool {
         || (0..moving.len()).any(|i| moving[..i].iter().any(|earlier| earlier[0] == moving[i][0]))
 }
 
-/// All rules of the schemes whose daughters are among these categories, but for those of categories that are left out.
-pub fn instances(tuples: &BTreeSet<Tuple>) -> BTreeSet<Instance> {
-    let mut instances = BTreeSet::new();
+/// All rules of the schemes whose daughters are among these categories, but for those of categories that are left out. No two daughters have
+/// two, so that none is there twice.
+pub fn instances(tuples: &[Tuple]) -> Vec<Instance> {
+    let mut instances = Vec::new();
     let mut keep = |made: Option<Scheme>, daughters: &[&Tuple]| match made {
         Some((chains, components)) if !left_out(&chains) => {
             let daughters = daughters.iter().map(|&daughter| daughter.clone()).collect();
-            instances.insert(Instance { category: Tuple { lexical: false, chains }, daughters, components });
+            instances.push(Instance { category: Tuple { lexical: false, chains }, daughters, components });
         }
         _ => {}
     };
@@ -167,17 +166,31 @@ pub fn instances(tuples: &BTreeSet<Tuple>) -> BTreeSet<Instance> {
     instances
 }
 
-/// The categories derivable from the entries; nothing where they are more than `most`.
-pub fn derivable(lexicon: &Lexicon, most: usize) -> Option<BTreeSet<Tuple>> {
-    let mut known: BTreeSet<Tuple> = lexicon.entries.iter().map(|entry| Tuple::of_entry(&entry.features)).collect();
+/// The categories derivable from the entries, each once; nothing where they are more than `most`.
+pub fn derivable(lexicon: &Lexicon, most: usize) -> Option<Vec<Tuple>> {
+    let mut known = Vec::new();
+    for entry in &lexicon.entries {
+        add(&mut known, Tuple::of_entry(&entry.features));
+    }
     loop {
         let before = known.len();
-        if before > most {
+        for instance in instances(&known) {
+            if known.len() > most {
+                return None;
+            }
+            add(&mut known, instance.category);
+        }
+        if known.len() > most {
             return None;
         }
-        known.extend(instances(&known).into_iter().map(|instance| instance.category));
         if known.len() == before {
             return Some(known);
         }
+    }
+}
+
+fn add(known: &mut Vec<Tuple>, tuple: Tuple) {
+    if !known.contains(&tuple) {
+        known.push(tuple);
     }
 }
