@@ -1532,8 +1532,10 @@ pub const FAULTS: &[Fault] = &[
 
 /// Changes in the numbering of a made grammar, which is free: no fault. The same form as a fault.
 pub const HARMLESS: &[Fault] = &[
-    ("the new start has the last number", "made", "[Name::NewStart].into_iter().chain(tuples.into_iter().map(Name::Of)).collect()", "tuples.into_iter().map(Name::Of).chain([Name::NewStart]).collect()"),
-    ("the categories numbered from the last to the first", "made", "grammar.categories.iter().collect()", "grammar.categories.iter().rev().collect()"),
-    ("the rules numbered from the last to the first", "made", "grammar.rules.iter().flat_map(", "grammar.rules.iter().rev().flat_map("),
-    ("the categories found in another order", "schemes", "            return Some(known);", "            let third = known.len() / 3;\n            known.rotate_left(third);\n            return Some(known);"),
+    (
+        "categories and rules numbered otherwise",
+        "made",
+        "    let names: Vec<&Name> = grammar.categories.iter().collect();\n",
+        "    let mut names: Vec<&Name> = grammar.categories.iter().rev().collect();\n    let third = names.len() / 3;\n    names.rotate_left(third);\n    let mut grammar = NamedGrammar { categories: grammar.categories.clone(), rules: grammar.rules.clone() };\n    let half = grammar.rules.len() / 2;\n    grammar.rules.rotate_left(half);\n    grammar.rules[..half].reverse();\n",
+    ),
 ];

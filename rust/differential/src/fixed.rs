@@ -16,6 +16,7 @@ use crate::unclear;
 
 pub fn fixed(pair: &mut Pair) -> Done {
     known(pair)?;
+    lexicons::fixed(pair)?;
     lengths_of_lists(pair)?;
     lengths_of_outputs(pair)?;
     limits(pair)?;
@@ -30,8 +31,7 @@ pub fn fixed(pair: &mut Pair) -> Done {
     bytes_of_files(pair)?;
     dates::fixed(pair)?;
     orders::fixed(pair)?;
-    unclear::fixed(pair)?;
-    lexicons::fixed(pair)
+    unclear::fixed(pair)
 }
 
 fn copy() -> Made {

@@ -5,7 +5,7 @@ use reference::grammar::EMPTY_WORD;
 use reference::lexicon::ENTRY;
 use reference::lexicon_notation::WrittenLexicon;
 use reference::made::make;
-use reference::samples::{KNOWS, LEXICONS, QUESTION};
+use reference::samples::{full_lexicon, KNOWS, LEXICONS, QUESTION};
 
 use crate::compare::{Done, Pair};
 use crate::minimalist;
@@ -50,21 +50,30 @@ fn entry(word: u16, row: &[u8]) -> [u8; ENTRY] {
 /// A random lexicon, most of them small enough to be made: entries that fit each other, and any features.
 pub fn random(rng: &mut Rng) -> Given {
     match rng.below(50) {
-        0..=3 => Given::of_text(rng.pick(&LEXICONS), "c"),
-        4 | 5 => Given::of_text(rng.pick(&[KNOWS, QUESTION]), "C"),
-        6..=29 => fitting(rng, (1, 6), 3),
-        30..=40 => fitting(rng, (4, 12), 4),
-        41..=43 => fitting(rng, (10, 32), 15),
+        0..=6 => Given::of_text(rng.pick(&LEXICONS), "c"),
+        7 | 8 => Given::of_text(rng.pick(&[KNOWS, QUESTION]), "C"),
+        9..=29 => {
+            let entries = rng.from_to(1, 6);
+            fitting(rng, entries, 3)
+        }
+        30..=38 => {
+            let entries = rng.from_to(4, 12);
+            fitting(rng, entries, 4)
+        }
+        39..=41 => {
+            let entries = rng.pick(&[10, 16, 24, 31, 32, 33]);
+            fitting(rng, entries, 15)
+        }
+        42 | 43 => words_alone(rng),
         44..=46 => any_features(rng),
-        47 | 48 => grown(rng),
+        47 => grown(rng),
         _ => around_the_limits(rng),
     }
 }
 
-/// Entries with so many categories at most, which select, license and move as they could in a sentence. Now and then one is repeated.
-fn fitting(rng: &mut Rng, entries: (usize, usize), categories: usize) -> Given {
+/// So many entries with so many categories at most, which select, license and move as they could in a sentence.
+fn fitting(rng: &mut Rng, entries: usize, categories: usize) -> Given {
     let kinds = Kinds::random(rng, categories);
-    let entries = rng.from_to(entries.0, entries.1);
     let mut given = Given { lexicon: vec![], words: kinds.words as u32, start: kinds.category(rng) as u32 };
     while given.entries() < entries {
         // the first entries have no selectors, so that there is something to select
@@ -73,6 +82,12 @@ fn fitting(rng: &mut Rng, entries: (usize, usize), categories: usize) -> Given {
         add(rng, &mut given, entry(word, &row));
     }
     given
+}
+
+/// About 32 entries with one feature each.
+fn words_alone(rng: &mut Rng) -> Given {
+    let entries = rng.pick(&[30, 31, 32, 32, 33, 33, 34]);
+    Given { lexicon: (0..entries).flat_map(|word| entry(word, &[1 + word as u8 / 20])).collect(), words: 40, start: rng.pick(&[1, 2]) }
 }
 
 /// Adds the entry, most often not if it is there.
@@ -87,6 +102,8 @@ fn add(rng: &mut Rng, given: &mut Given, entry: [u8; ENTRY]) {
 
 /// How many categories, licensees and words the entries have.
 struct Kinds {
+    /// The first category.
+    first: usize,
     categories: usize,
     licensees: usize,
     words: usize,
@@ -99,7 +116,9 @@ impl Kinds {
             1 => rng.from_to(1, 300),
             _ => rng.from_to(1, 4),
         };
-        Kinds { categories: rng.from_to(1, categories), licensees: rng.below(4), words }
+        let categories = rng.from_to(1, categories);
+        let last_possible = 16 - categories;
+        Kinds { first: rng.pick(&[1, 1, last_possible]), categories, licensees: rng.below(4), words }
     }
 
     fn word(&self, rng: &mut Rng) -> u16 {
@@ -111,7 +130,7 @@ impl Kinds {
     }
 
     fn category(&self, rng: &mut Rng) -> u8 {
-        1 + rng.below(self.categories) as u8
+        (self.first + rng.below(self.categories)) as u8
     }
 
     /// A category, and licensees after it.
@@ -169,7 +188,7 @@ fn any_features(rng: &mut Rng) -> Given {
 
 /// Entries added until there are too many categories or rules, or 32 entries: that lexicon, or the one before it.
 fn grown(rng: &mut Rng) -> Given {
-    let kinds = Kinds { categories: rng.from_to(1, 3), licensees: rng.from_to(1, 3), words: 40 };
+    let kinds = Kinds { first: 1, categories: rng.from_to(1, 3), licensees: rng.from_to(1, 3), words: 40 };
     let row = [1];
     let mut given = Given { lexicon: entry(0, &row).to_vec(), words: 100, start: 1 };
     loop {
@@ -182,28 +201,24 @@ fn grown(rng: &mut Rng) -> Given {
     }
 }
 
-/// Entries that make 236 rules and 61 categories, with so many more words of category 1, a rule each, and so many categories of which
-/// nothing is made, each with a rule.
+/// As `full_lexicon`.
 pub fn full(words: usize, others: usize) -> Given {
-    let rows: [&[u8]; 11] =
-        [&[1], &[1, 49], &[1, 50], &[1, 51], &[17, 1], &[17, 17, 1], &[17, 17, 17, 1], &[3, 49], &[19, 33, 1], &[2], &[18, 1]];
-    let mut given = Given::of_rows(&rows);
-    given.words = 40;
-    given.lexicon.extend((0..others).flat_map(|other| entry(0, &[4 + other as u8])));
-    given.lexicon.extend((0..words).flat_map(|word| entry(1 + word as u16, &[1])));
-    given
+    Given { lexicon: full_lexicon(words, others), words: 40, start: 1 }
 }
 
-/// About 64 categories and 256 rules, the entries in any order, now and then with one feature more or less.
+/// 64 categories and 256 rules, or one more or less, the entries in any order, now and then with one feature more or less.
 fn around_the_limits(rng: &mut Rng) -> Given {
-    let mut given = full(rng.from_to(15, 18), rng.from_to(2, 3));
+    let (words, others) = rng.pick(&[(17, 3), (17, 3), (18, 3), (18, 3), (16, 4), (16, 4), (19, 1), (20, 0), (21, 0)]);
+    let mut given = full(words, others);
     let mut entries: Vec<Vec<u8>> = given.lexicon.chunks(ENTRY).map(|entry| entry.to_vec()).collect();
     rng.shuffle(&mut entries);
-    if rng.chance(40) {
+    if rng.chance(20) {
         let i = rng.below(entries.len());
-        let place = 2 + rng.below(4);
-        if entries[i][place] == 0 || entries[i][place + 1] == 0 {
-            entries[i][place] = if entries[i][place] == 0 && entries[i][place - 1] != 0 { feature(rng) } else { 0 };
+        let end = entries[i][2..].iter().position(|&byte| byte == 0).map_or(ENTRY, |features| 2 + features);
+        match rng.below(2) {
+            0 if end < ENTRY => entries[i][end] = feature(rng),
+            _ if end > 3 => entries[i][end - 1] = 0,
+            _ => {}
         }
     }
     given.lexicon = entries.concat();
@@ -218,7 +233,7 @@ pub fn damaged(rng: &mut Rng, given: &Given) -> Given {
         if damaged.lexicon.len() < at + ENTRY {
             break;
         }
-        match rng.below(10) {
+        match rng.below(11) {
             0 => damaged.words = rng.pick(&[0, 1, 4096, 4097, damaged.words - damaged.words.min(1), 65_536 + damaged.words, u32::MAX]),
             1 => damaged.start = rng.pick(&[0, 1, 15, 16, 17, 256 + damaged.start, 65_536 + damaged.start, u32::MAX]),
             2 => {
@@ -236,8 +251,12 @@ pub fn damaged(rng: &mut Rng, given: &Given) -> Given {
                 let to = ENTRY * rng.below(damaged.entries());
                 damaged.lexicon.copy_within(at..at + ENTRY, to);
             }
-            8 => {
-                let again = damaged.lexicon[at..at + ENTRY].to_vec();
+            8 | 9 => {
+                // once more, and now and then with another byte at the end
+                let mut again = damaged.lexicon[at..at + ENTRY].to_vec();
+                if rng.chance(40) {
+                    again[7] = feature(rng);
+                }
                 let to = ENTRY * rng.below(damaged.entries() + 1);
                 damaged.lexicon.splice(to..to, again);
             }
@@ -252,11 +271,15 @@ pub fn random_calls(pair: &mut Pair, rng: &mut Rng) -> Done {
     let given = random(rng);
     let length = given.file().map_or(7 * BLOCK, |file| file.len());
     pair.make_grammar(&given, length)?;
-    let out = rng.pick(&[0, 1, length - 1, length + 1, length + 600, 14 * BLOCK]);
-    pair.make_grammar(&given, out)?;
-    for _ in 0..6 {
-        let out = rng.pick(&[0, 1023, 1024, length - 1, length, 14 * BLOCK]);
-        pair.make_grammar(&damaged(rng, &given), out)?;
+    // a lexicon of many rules takes the reference long
+    let times = if length > 6 * BLOCK { 1 } else { 6 };
+    for _ in 0..times {
+        let out = rng.pick(&[0, 1023, 1024, length - 1, length - 1, length, length + 1, length + 600, ROOM]);
+        if rng.chance(20) {
+            pair.make_grammar(&given, out)?;
+        } else {
+            pair.make_grammar(&damaged(rng, &given), out)?;
+        }
     }
     minimalist::random_counts(pair, rng, &given)
 }

@@ -12,12 +12,12 @@
 use crate::grammar::EMPTY_WORD;
 use crate::lexicon::ENTRY;
 
-/// A lexicon as the call takes it, and the names of its numbers.
+/// A lexicon as the call takes it, and the names of its words from 0, of its categories from 1 and of its licensees from 49.
 pub struct WrittenLexicon {
     pub bytes: Vec<u8>,
     pub words: Vec<String>,
-    categories: Vec<String>,
-    licensees: Vec<String>,
+    pub categories: Vec<String>,
+    pub licensees: Vec<String>,
 }
 
 impl WrittenLexicon {

@@ -9,7 +9,7 @@ use reference::made::{named_grammar, Excess, Name, NamedRule};
 use reference::minimalist::derivations;
 use reference::notation::grammar_file;
 use reference::renaming::renaming;
-use reference::samples::{KNOWS, LEXICONS, QUESTION};
+use reference::samples::{full_lexicon, KNOWS, LEXICONS, QUESTION};
 use reference::schemes::{Instance, Tuple};
 use reference::sentence::single_words;
 use reference::{words, Answer, Calls, Reference, Refusal};
@@ -338,7 +338,7 @@ fn order_of_refusals() {
 /// 23 by one byte: a file of two blocks, and one of 14.
 #[test]
 fn refusal_23() {
-    for (lexicon, length) in [(vec![0, 0, 1, 0, 0, 0, 0, 0], 1024), (full(17, 3), 14 * 512)] {
+    for (lexicon, length) in [(vec![0, 0, 1, 0, 0, 0, 0, 0], 1024), (full_lexicon(17, 3), 14 * 512)] {
         for room in [0, 1, 512, length - 1] {
             let mut out = vec![7; room];
             assert_eq!(Reference.make_grammar(&lexicon, 64, 1, &mut out), Answer::Refused(Refusal::desk(23)), "{room}");
@@ -350,25 +350,6 @@ fn refusal_23() {
     }
 }
 
-/// A lexicon that makes 236 rules and 61 categories, with so many more words of its category 1, a rule each, and so many entries of which
-/// nothing is made, a rule and a category each.
-///
-/// It has 1, 1 -u, 1 -v, 1 -w, =1 1, =1 =1 1 and =1 =1 =1 1. The 16 rows of different licensees are moving chains of <0, 1>, <0, =1 1> and
-/// <0, =1 =1 1>: 48 categories. Each of the three entries that select merges with <1, 1>, with 16 categories <0, 1, ..> and with three
-/// entries that then move: 60 rules. Each row can be cut in two in as many places as it has chains and one: 49 ways, by which a category
-/// <0, =1 .., ..> merges with one <0, 1, ..>; 16 ways with <1, 1>; and 15 with an entry that then moves: 160 rules of two heads. With the
-/// seven entries, the new start and its two rules these are 229 rules and 56 categories.
-///
-/// 3 -u and =3 +u 1 are four rules and three categories more, 2 and =2 1 three rules and two categories.
-fn full(words: u8, others: u8) -> Vec<u8> {
-    let rows: [&[u8]; 11] =
-        [&[1], &[1, 49], &[1, 50], &[1, 51], &[17, 1], &[17, 17, 1], &[17, 17, 17, 1], &[3, 49], &[19, 33, 1], &[2], &[18, 1]];
-    let others: Vec<[u8; 1]> = (0..others).map(|other| [4 + other]).collect();
-    let rows = rows.into_iter().chain(others.iter().map(|row| &row[..]));
-    let entry = |word: u8, row: &[u8]| [&[word, 0], row, &vec![0; 6 - row.len()]].concat();
-    rows.map(|row| entry(0, row)).chain((0..words).map(|word| entry(1 + word, &[1]))).flatten().collect()
-}
-
 fn size(lexicon: &[u8]) -> Result<(usize, usize), Excess> {
     let lexicon = read_lexicon(lexicon, 64, 1).unwrap();
     named_grammar(&lexicon).map(|grammar| (grammar.categories.len(), grammar.rules.len()))
@@ -377,18 +358,18 @@ fn size(lexicon: &[u8]) -> Result<(usize, usize), Excess> {
 /// 64 categories and 256 rules are accepted, and one more of either is not; nor is the same lexicon with another start.
 #[test]
 fn refusal_31_limits() {
-    assert_eq!(size(&full(0, 0)), Ok((61, 236)));
-    assert_eq!(size(&full(17, 3)), Ok((64, 256)));
-    assert_eq!(size(&full(18, 3)), Err(Excess::Rules));
-    assert_eq!(size(&full(16, 4)), Err(Excess::Categories));
-    assert!(answer_to(&full(17, 3), 64, 1).is_ok());
+    assert_eq!(size(&full_lexicon(0, 0)), Ok((61, 236)));
+    assert_eq!(size(&full_lexicon(17, 3)), Ok((64, 256)));
+    assert_eq!(size(&full_lexicon(18, 3)), Err(Excess::Rules));
+    assert_eq!(size(&full_lexicon(16, 4)), Err(Excess::Categories));
+    assert!(answer_to(&full_lexicon(17, 3), 64, 1).is_ok());
     for (words, others) in [(18, 3), (16, 4), (21, 0), (0, 4)] {
-        assert_eq!(answer_to(&full(words, others), 64, 1), Err(refused(31, 0)));
+        assert_eq!(answer_to(&full_lexicon(words, others), 64, 1), Err(refused(31, 0)));
     }
-    assert!(answer_to(&full(20, 0), 64, 1).is_ok());
-    assert!(answer_to(&full(17, 3), 64, 6).is_ok());
-    assert_eq!(answer_to(&full(17, 3), 64, 7), Err(refused(31, 0)));
-    assert_eq!(answer_to(&full(17, 3), 64, 15), Err(refused(31, 0)));
+    assert!(answer_to(&full_lexicon(20, 0), 64, 1).is_ok());
+    assert!(answer_to(&full_lexicon(17, 3), 64, 6).is_ok());
+    assert_eq!(answer_to(&full_lexicon(17, 3), 64, 7), Err(refused(31, 0)));
+    assert_eq!(answer_to(&full_lexicon(17, 3), 64, 15), Err(refused(31, 0)));
 }
 
 /// Few rules: 1, ten entries =1 =1 =1 =1 =1 and a category, with five derived categories each, and =1 12 with one.
