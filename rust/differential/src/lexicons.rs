@@ -341,11 +341,13 @@ fn lengths(pair: &mut Pair) -> Done {
     Ok(())
 }
 
-/// Word counts and start categories in and out of range, with every other part right and wrong.
+/// Word counts and start categories in and out of range, with every other part right and wrong, and with empty words alone.
 fn numbers(pair: &mut Pair) -> Done {
     let one: &[&[u8]] = &[&[1]];
     let rows: [&[&[u8]]; 5] = [one, &[&[15], &[31, 1]], &[&[1], &[1]], &[&[16]], &[&[2, 49], &[18, 33, 15]]];
-    for given in rows.map(Given::of_rows) {
+    let mut silent = Given::of_rows(one);
+    silent.lexicon[..2].fill(255);
+    for given in rows.into_iter().map(Given::of_rows).chain([silent]) {
         for words in [0, 1, 2, 4095, 4096, 4097, 8192, 65_535, 65_536, 65_537, 1 << 24 | 1, 1 << 31, u32::MAX] {
             for start in [0, 1, 2, 14, 15, 16, 17, 31, 33, 49, 255, 256, 257, 271, 65_537, 1 << 31 | 1, u32::MAX] {
                 for out in [0, ROOM] {

@@ -296,10 +296,10 @@ impl Tally {
             missing.push(format!("{} of {DAYS} days both ways", self.days_both_ways()));
         }
         for (name, _) in START_FORMS.iter().zip(self.start_forms).filter(|(_, made)| *made == 0) {
-            missing.push(format!("no made grammar started from {name} of the wanted category"));
+            missing.push(format!("made grammars never started from {name} of the wanted category"));
         }
         for (name, _) in EXCESSES.iter().zip(self.excesses).filter(|(_, met)| *met == 0) {
-            missing.push(format!("no lexicon was refused with 31 {name}"));
+            missing.push(format!("MakeGrammar never met 31 {name}"));
         }
         if self.most_made != (64, 256) {
             missing.push(format!("made grammars had at most {:?} categories and rules, not 64 and 256", self.most_made));
@@ -410,6 +410,7 @@ mod tests {
         let mut tally = Tally::new();
         let missing = |tally: &Tally| tally.missing().into_iter().filter(|text| text.contains("unclear sentence")).collect::<Vec<_>>();
         tally.listings_of_several = 1;
+        tally.add_derivations(1, true);
         assert_eq!(missing(&tally).len(), 8);
         for call in CALLS.into_iter().filter(|call| call.is_given_a_sentence()) {
             tally.add_sentence(call, true, Answer::Refused(reference::Refusal::desk(25)));
