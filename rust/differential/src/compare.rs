@@ -12,10 +12,10 @@ use reference::survey::survey_is_right;
 use reference::{Answer, Calls, Date, DateCalls, Heading, Reference, Refusal, TreeCalls};
 
 use crate::damage::at;
-use crate::lexicons::{self, Given};
+use crate::lexicons::Given;
 use crate::orders::order_of_double;
 use crate::sentences::is_unclear;
-use crate::show::{show_file, show_heading};
+use crate::show::{show_file, show_heading, show_lexicon};
 use crate::tally::{Call, Tally};
 
 /// Both sides, and what they met so far.
@@ -143,7 +143,7 @@ impl Pair<'_> {
             expected[written.clone()].copy_from_slice(&tested[written]);
         }
         let buffer = wrong.or(first_difference(&tested, &expected));
-        self.settle(Call::MakeGrammar, answers, buffer, || format!("output of {out}\n{}", lexicons::show(given)))?;
+        self.settle(Call::MakeGrammar, answers, buffer, || format!("output of {out}\n{}", show_lexicon(given)))?;
         self.tally.add_lexicon(given, answers.1);
         Ok(())
     }

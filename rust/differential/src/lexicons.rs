@@ -1,4 +1,4 @@
-//! Lexicons of features (document 02, paper 6): random ones, damaged ones, and the fixed inputs.
+//! Lexicons of features (document 02, paper 6): random ones, and damaged ones.
 
 use reference::file::BLOCK;
 use reference::grammar::EMPTY_WORD;
@@ -11,8 +11,11 @@ use crate::compare::{Done, Pair};
 use crate::minimalist;
 use crate::rng::Rng;
 
+/// The longest file has 14 blocks.
+pub const ROOM: usize = 14 * BLOCK;
+
 /// What the call takes beside its output.
-#[derive(Clone, Debug)]
+#[derive(Clone)]
 pub struct Given {
     pub lexicon: Vec<u8>,
     pub words: u32,
@@ -26,7 +29,7 @@ impl Given {
     }
 
     /// These rows of features, all with word 0, and the wanted category 1.
-    fn of_rows(rows: &[&[u8]]) -> Given {
+    pub fn of_rows(rows: &[&[u8]]) -> Given {
         Given { lexicon: rows.iter().flat_map(|row| entry(0, row)).collect(), words: 1, start: 1 }
     }
 
@@ -40,7 +43,7 @@ impl Given {
     }
 }
 
-fn entry(word: u16, row: &[u8]) -> [u8; ENTRY] {
+pub fn entry(word: u16, row: &[u8]) -> [u8; ENTRY] {
     let mut entry = [0; ENTRY];
     entry[..2].copy_from_slice(&word.to_le_bytes());
     entry[2..2 + row.len()].copy_from_slice(row);
@@ -48,7 +51,7 @@ fn entry(word: u16, row: &[u8]) -> [u8; ENTRY] {
 }
 
 /// A random lexicon, most of them small enough to be made: entries that fit each other, and any features.
-pub fn random(rng: &mut Rng) -> Given {
+fn random(rng: &mut Rng) -> Given {
     match rng.below(50) {
         0..=6 => Given::of_text(rng.pick(&LEXICONS), "c"),
         7 | 8 => Given::of_text(rng.pick(&[KNOWS, QUESTION]), "C"),
@@ -74,12 +77,13 @@ pub fn random(rng: &mut Rng) -> Given {
 /// So many entries with so many categories at most, which select, license and move as they could in a sentence.
 fn fitting(rng: &mut Rng, entries: usize, categories: usize) -> Given {
     let kinds = Kinds::random(rng, categories);
-    let mut given = Given { lexicon: vec![], words: kinds.words as u32, start: kinds.category(rng) as u32 };
+    let few = rng.from_to(1, 4);
+    let words = rng.pick(&[few, few, few, few, 10 * few, 4096]) as u32;
+    let mut given = Given { lexicon: vec![], words, start: kinds.category(rng) as u32 };
     while given.entries() < entries {
         // the first entries have no selectors, so that there is something to select
         let row = if given.entries() < 2 { kinds.base(rng) } else { kinds.row(rng) };
-        let word = kinds.word(rng);
-        add(rng, &mut given, entry(word, &row));
+        add(rng, &mut given, &row);
     }
     given
 }
@@ -90,43 +94,29 @@ fn words_alone(rng: &mut Rng) -> Given {
     Given { lexicon: (0..entries).flat_map(|word| entry(word, &[1 + word as u8 / 20])).collect(), words: 40, start: rng.pick(&[1, 2]) }
 }
 
-/// Adds the entry, most often not if it is there.
-fn add(rng: &mut Rng, given: &mut Given, entry: [u8; ENTRY]) {
+/// Adds an entry with these features and any word. If there is one already, mostly, the lexicon gets one more word in place of it.
+fn add(rng: &mut Rng, given: &mut Given, row: &[u8]) {
+    let word = if rng.chance(20) { EMPTY_WORD } else { rng.below(given.words as usize) as u16 };
+    let entry = entry(word, row);
     if rng.chance(1) || !given.lexicon.chunks(ENTRY).any(|known| known == entry) {
         given.lexicon.extend(entry);
     } else {
-        // another word, so that the lexicon has room for it
         given.words = (given.words + 1).min(4096);
     }
 }
 
-/// How many categories, licensees and words the entries have.
+/// The first category of the entries, and how many categories and licensees they have.
 struct Kinds {
-    /// The first category.
     first: usize,
     categories: usize,
     licensees: usize,
-    words: usize,
 }
 
 impl Kinds {
     fn random(rng: &mut Rng, categories: usize) -> Kinds {
-        let words = match rng.below(10) {
-            0 => 4096,
-            1 => rng.from_to(1, 300),
-            _ => rng.from_to(1, 4),
-        };
         let categories = rng.from_to(1, categories);
-        let last_possible = 16 - categories;
-        Kinds { first: rng.pick(&[1, 1, last_possible]), categories, licensees: rng.below(4), words }
-    }
-
-    fn word(&self, rng: &mut Rng) -> u16 {
-        if rng.chance(20) {
-            EMPTY_WORD
-        } else {
-            rng.below(self.words) as u16
-        }
+        // from 1 on, or up to 15
+        Kinds { first: rng.pick(&[1, 1, 16 - categories]), categories, licensees: rng.below(4) }
     }
 
     fn category(&self, rng: &mut Rng) -> u8 {
@@ -176,21 +166,19 @@ fn any_features(rng: &mut Rng) -> Given {
     let mut given = Given { lexicon: vec![], words: rng.from_to(1, 5) as u32, start: rng.from_to(1, 15) as u32 };
     for _ in 0..rng.from_to(1, 32) {
         let row: Vec<u8> = (0..rng.from_to(1, 6)).map(|_| feature(rng)).collect();
-        let word = rng.below(given.words as usize) as u16;
-        add(rng, &mut given, entry(word, &row));
+        add(rng, &mut given, &row);
     }
-    if rng.chance(50) && given.entries() < 32 {
+    if rng.chance(50) {
         let row = [given.start as u8];
-        add(rng, &mut given, entry(EMPTY_WORD, &row));
+        add(rng, &mut given, &row);
     }
     given
 }
 
 /// Entries added until there are too many categories or rules, or 32 entries: that lexicon, or the one before it.
 fn grown(rng: &mut Rng) -> Given {
-    let kinds = Kinds { first: 1, categories: rng.from_to(1, 3), licensees: rng.from_to(1, 3), words: 40 };
-    let row = [1];
-    let mut given = Given { lexicon: entry(0, &row).to_vec(), words: 100, start: 1 };
+    let kinds = Kinds { first: 1, categories: rng.from_to(1, 3), licensees: rng.from_to(1, 3) };
+    let mut given = Given { lexicon: entry(0, &[1]).to_vec(), words: 40, start: 1 };
     loop {
         let before = given.clone();
         let row = kinds.row(rng);
@@ -226,7 +214,7 @@ fn around_the_limits(rng: &mut Rng) -> Given {
 }
 
 /// The lexicon, the word count or the start category with one to three changes.
-pub fn damaged(rng: &mut Rng, given: &Given) -> Given {
+fn damaged(rng: &mut Rng, given: &Given) -> Given {
     let mut damaged = given.clone();
     for _ in 0..rng.pick(&[1, 1, 1, 2, 3]) {
         let at = ENTRY * rng.below(damaged.entries().max(1));
@@ -282,171 +270,6 @@ pub fn random_calls(pair: &mut Pair, rng: &mut Rng) -> Done {
         }
     }
     minimalist::random_counts(pair, rng, &given)
-}
-
-pub fn fixed(pair: &mut Pair) -> Done {
-    bytes(pair)?;
-    lengths(pair)?;
-    numbers(pair)?;
-    repeated(pair)?;
-    limits(pair)?;
-    outputs(pair)?;
-    schemes(pair)?;
-    minimalist::fixed(pair)
-}
-
-/// The files of more rules than any are 14 blocks.
-const ROOM: usize = 14 * BLOCK;
-
-fn samples() -> Vec<Given> {
-    let small = LEXICONS.iter().map(|text| Given::of_text(text, "c"));
-    small.chain([KNOWS, QUESTION].map(|text| Given::of_text(text, "C"))).collect()
-}
-
-/// Every byte value at each feature place of an entry of each length, in front of the others and behind them, and words around the word
-/// count.
-fn bytes(pair: &mut Pair) -> Done {
-    let rows: [&[u8]; 6] = [&[1], &[2, 49], &[18, 33, 1], &[2, 49, 50, 51], &[18, 18, 33, 34, 1], &[18, 33, 1, 49, 50, 51]];
-    let given = Given::of_rows(&rows);
-    for (place, byte) in (0..rows.len() * ENTRY).flat_map(|place| (0..=255).map(move |byte| (place, byte))) {
-        let mut changed = given.clone();
-        changed.lexicon[place] = byte;
-        if place % ENTRY >= 2 {
-            pair.make_grammar(&changed, ROOM)?;
-        }
-    }
-    for words in [1, 2, 255, 256, 257, 4095, 4096] {
-        for word in [0, 1, words - 1, words, words + 1, 254, 255, 256, 257, 4095, 4096, 65_534, 65_535] {
-            for place in 0..rows.len() {
-                let mut changed = Given { words, ..given.clone() };
-                changed.lexicon[ENTRY * place..][..2].copy_from_slice(&(word as u16).to_le_bytes());
-                pair.make_grammar(&changed, ROOM)?;
-            }
-        }
-    }
-    Ok(())
-}
-
-/// Lexicons of every length up to past 33 entries, all entries different.
-fn lengths(pair: &mut Pair) -> Done {
-    let lexicon: Vec<u8> = (0..40).flat_map(|word| entry(word, &[1])).collect();
-    for length in (0..=8 * 35).chain([8 * 40]) {
-        let given = Given { lexicon: lexicon[..length].to_vec(), words: 40, start: 1 };
-        pair.make_grammar(&given, ROOM)?;
-    }
-    // as many bytes as a lexicon has, once the length is cut to 8 or 16 bits
-    for length in [256 + 8, 65_536 + 8] {
-        pair.make_grammar(&Given { lexicon: vec![1; length], words: 40, start: 1 }, ROOM)?;
-    }
-    Ok(())
-}
-
-/// Word counts and start categories in and out of range, with every other part right and wrong, and with empty words alone.
-fn numbers(pair: &mut Pair) -> Done {
-    let one: &[&[u8]] = &[&[1]];
-    let rows: [&[&[u8]]; 5] = [one, &[&[15], &[31, 1]], &[&[1], &[1]], &[&[16]], &[&[2, 49], &[18, 33, 15]]];
-    let mut silent = Given::of_rows(one);
-    silent.lexicon[..2].fill(255);
-    for given in rows.into_iter().map(Given::of_rows).chain([silent]) {
-        for words in [0, 1, 2, 4095, 4096, 4097, 8192, 65_535, 65_536, 65_537, 1 << 24 | 1, 1 << 31, u32::MAX] {
-            for start in [0, 1, 2, 14, 15, 16, 17, 31, 33, 49, 255, 256, 257, 271, 65_537, 1 << 31 | 1, u32::MAX] {
-                for out in [0, ROOM] {
-                    pair.make_grammar(&Given { lexicon: given.lexicon.clone(), words, start }, out)?;
-                }
-            }
-        }
-    }
-    Ok(())
-}
-
-/// Each entry in the place of each other one, two of them so, and one that is no entry after a repeated one.
-fn repeated(pair: &mut Pair) -> Done {
-    let all: Vec<[u8; ENTRY]> = (0..32).map(|number| entry(number % 8, &[1 + number as u8 / 8, 49, 50, 51, 49, 49])).collect();
-    let given = |entries: &[[u8; ENTRY]], start: u32| Given { lexicon: entries.concat(), words: 8, start };
-    for (from, to) in (0..32).flat_map(|from| (0..32).map(move |to| (from, to))) {
-        let mut entries = all.clone();
-        entries[to] = entries[from];
-        pair.make_grammar(&given(&entries, 1), ROOM)?;
-        if to < 31 {
-            entries[31] = entries[30 - to];
-            pair.make_grammar(&given(&entries, 15), 0)?;
-            entries[31] = entry(0, &[16]);
-            pair.make_grammar(&given(&entries, 1), ROOM)?;
-        }
-    }
-    // entries that differ in one byte alone
-    for place in 0..ENTRY {
-        let mut other = all[0];
-        other[place] = if place == 1 { 1 } else { other[place] % 3 + other[place] / 16 * 16 + (place > 1) as u8 };
-        let given = Given { lexicon: [entry(5, &[1]), all[0], other].concat(), words: 4096, start: 1 };
-        pair.make_grammar(&given, ROOM)?;
-    }
-    Ok(())
-}
-
-/// Up to 64 categories and 256 rules and past them, with a start category that is derivable and with one that is not; and lexicons of many
-/// categories and few rules.
-fn limits(pair: &mut Pair) -> Done {
-    for (words, others) in [0, 16, 17, 18, 20, 21].into_iter().flat_map(|words| (0..=4).map(move |others| (words, others))) {
-        if 11 + words + others <= 32 {
-            for start in [1, 2, 4, 9] {
-                let given = Given { start, ..full(words, others) };
-                if start == 1 || words == 17 {
-                    pair.make_grammar(&given, ROOM)?;
-                }
-            }
-        }
-    }
-    let long: Vec<[u8; 6]> = (2..13).map(|category| [17, 17, 17, 17, 17, category]).collect();
-    for (number, last) in (0..=long.len()).flat_map(|number| (1..=6).map(move |last| (number, last))) {
-        let mut rows: Vec<&[u8]> = vec![&[1]];
-        rows.extend(long[..number].iter().map(|row| &row[..]));
-        rows.push(&[17, 17, 17, 17, 17, 14][last - 1..]);
-        pair.make_grammar(&Given { start: 14, ..Given::of_rows(&rows) }, ROOM)?;
-    }
-    Ok(())
-}
-
-/// Outputs of every length around that of the file, of accepted lexicons and of refused ones.
-fn outputs(pair: &mut Pair) -> Done {
-    for given in samples().into_iter().chain([full(17, 3), full(0, 0)]) {
-        let length = given.file().expect("a lexicon").len();
-        for out in [0, 1, 511, 512, 1023, 1024, length - 512, length - 1, length, length + 1, length + 77, ROOM, ROOM + 1] {
-            pair.make_grammar(&given, out)?;
-        }
-        for out in [0, length - 1, length] {
-            pair.make_grammar(&Given { start: 15, ..given.clone() }, out)?;
-            pair.make_grammar(&Given { lexicon: given.lexicon.repeat(2), ..given.clone() }, out)?;
-        }
-    }
-    Ok(())
-}
-
-/// Every two entries of up to three features of some kinds beside a third one: every scheme, every way of being left out, every start form.
-fn schemes(pair: &mut Pair) -> Done {
-    let features = [1, 2, 17, 18, 33, 34, 49, 50];
-    let mut rows: Vec<Vec<u8>> = vec![vec![]];
-    let mut from = 0;
-    for _ in 0..3 {
-        let to = rows.len();
-        rows.extend(rows[from..to].to_vec().iter().flat_map(|row| features.map(|feature| [&row[..], &[feature]].concat())));
-        from = to;
-    }
-    let mut rng = Rng::new(6, 0);
-    for row in &rows[1..] {
-        for third in [&[1][..], &[17, 33, 1], &[2, 49, 50], &[17, 18, 1]] {
-            let other = rows[1 + rng.below(rows.len() - 1)].clone();
-            let given = Given::of_rows(&[row, &other, third]);
-            pair.make_grammar(&given, ROOM)?;
-        }
-    }
-    Ok(())
-}
-
-/// The rules and the categories of a made file, in words, for reports.
-pub fn show(given: &Given) -> String {
-    let lexicon: Vec<String> = given.lexicon.chunks(ENTRY).map(|entry| format!("{entry:?}")).collect();
-    format!("words {} start {} {} bytes\n{}", given.words, given.start, given.lexicon.len(), lexicon.join("\n"))
 }
 
 #[cfg(test)]

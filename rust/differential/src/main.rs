@@ -6,6 +6,7 @@ mod compare;
 mod damage;
 mod dates;
 mod fixed;
+mod fixed_lexicons;
 mod grammars;
 mod lexicons;
 mod minimalist;

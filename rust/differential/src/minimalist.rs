@@ -1,6 +1,6 @@
 //! What a made grammar counts for a sentence, beside the minimalist derivations of its lexicon (document 02, paper 6).
 
-use reference::file::{read, BLOCK};
+use reference::file::read;
 use reference::grammar::Grammar;
 use reference::lexicon::{read_lexicon, Lexicon};
 use reference::notation::places;
@@ -10,9 +10,10 @@ use reference::{words, Answer, Refusal};
 
 use crate::analyses;
 use crate::compare::{Difference, Done, Pair};
-use crate::lexicons::{show, Given};
+use crate::lexicons::{Given, ROOM};
 use crate::rng::Rng;
 use crate::sentences::{any_words, changed, is_unclear, widened};
+use crate::show::show_lexicon;
 use crate::tally::Call;
 
 /// How many tries of merging two expressions a count without a grammar may take.
@@ -29,7 +30,7 @@ struct Made {
 fn made(pair: &Pair, given: &Given) -> Option<Made> {
     let lexicon = read_lexicon(&given.lexicon, given.words, given.start).ok()?;
     let grammar = read(&given.file()?).expect("the reader takes it");
-    let mut file = vec![0; 14 * BLOCK];
+    let mut file = vec![0; ROOM];
     match pair.tested.make_grammar(&given.lexicon, given.words, given.start, &mut file) {
         Answer::Accepted(length) => file.truncate(length as usize),
         _ => return None,
@@ -51,7 +52,7 @@ fn as_derivations(pair: &mut Pair, given: &Given, made: &Made, sentence: &[u32],
             Ok(())
         }
         _ => {
-            let input = format!("sentence {}\nlimits {limits:?}\n{}", places(sentence), show(given));
+            let input = format!("sentence {}\nlimits {limits:?}\n{}", places(sentence), show_lexicon(given));
             Err(Difference {
                 call: Call::MakeGrammar,
                 text: format!("the made grammar counts {answer:?}\nexpected {derivations}\n{input}"),
@@ -118,19 +119,23 @@ fn short_sentences(pair: &mut Pair) -> Done {
     Ok(())
 }
 
-/// The sentences of the source and of the example, clear and unclear, with one node too few and with enough.
+/// Mary knows who John likes, by the lexicons of the source and of the example, with Mary and John heard clearly and not, with one node too
+/// few and with enough; and a main question.
 fn questions(pair: &mut Pair) -> Done {
-    // Mary knows who John likes
-    let knows: [(&str, &[u16]); 2] = [(KNOWS, &[0, 4, 2, 1, 3]), (QUESTION, &[1, 5, 3, 2, 4])];
-    for (text, sentence) in knows {
+    let knows: &[(u16, u16)] = &[(0, 0), (4, 4), (2, 2), (1, 1), (3, 3)];
+    let unclear_knows: &[(u16, u16)] = &[(0, 1), (4, 4), (2, 2), (0, 1), (3, 3)];
+    let question: &[(u16, u16)] = &[(1, 1), (5, 5), (3, 3), (2, 2), (4, 4)];
+    let unclear_question: &[(u16, u16)] = &[(1, 2), (5, 5), (3, 3), (1, 2), (4, 4)];
+    let main_question: &[(u16, u16)] = &[(3, 3), (0, 0), (1, 2), (6, 6)];
+    for (text, sentence) in
+        [(KNOWS, knows), (KNOWS, unclear_knows), (QUESTION, question), (QUESTION, unclear_question), (QUESTION, main_question)]
+    {
         let given = Given::of_text(text, "C");
         let Some(made) = made(pair, &given) else { continue };
-        let sentence = single_words(sentence);
-        for node_limit in [13, 14, 15] {
+        let sentence: Vec<u32> = sentence.iter().map(|&(lowest, highest)| words(lowest, highest)).collect();
+        for node_limit in [8, 9, 14, 15] {
             as_derivations(pair, &given, &made, &sentence, (node_limit, 100_000))?;
         }
-        let unclear: Vec<u32> = sentence.iter().map(|&place| if place < 2 << 16 { words(0, 1) } else { place }).collect();
-        as_derivations(pair, &given, &made, &unclear, (15, 100_000))?;
     }
     Ok(())
 }
