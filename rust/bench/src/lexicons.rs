@@ -87,8 +87,8 @@ struct Maker {
 }
 
 impl Maker {
-    /// All categories and rules, or nothing where they are too many or there is no start rule. Each two categories are looked at once, as the
-    /// later of the two is reached.
+    /// All categories and rules, or nothing where they are too many or there is no start rule. Each two categories are looked at once, as
+    /// the later of the two is reached.
     fn fill(&mut self, entries: &[[u8; ENTRY]], start: Row) -> Option<()> {
         for entry in entries {
             let category = self.category(Tuple { lexical: true, rows: [Row::from_le_bytes(*entry) >> 16, 0, 0, 0] })?;

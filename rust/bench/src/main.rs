@@ -1,7 +1,7 @@
 //! The library and plain Rust in one process, in turns, best of several runs, both built for release: nanoseconds per live prefix of
 //! `dg_count` and of the same search, nanoseconds a block and a file of `dg_read_grammar` and of the same reader, nanoseconds a call of the
-//! four calls on dates and of the same calls, and nanoseconds a call of `dg_make_grammar` and of the same making. The time of the library's count includes its tests of the grammar file, that of the search
-//! does not.
+//! four calls on dates and of the same calls, and nanoseconds a call of `dg_make_grammar` and of the same making. The time of the library's
+//! count includes its tests of the grammar file, that of the search does not.
 
 mod dates;
 mod files;

@@ -1,7 +1,8 @@
 //! Writes the folders of `examples/` at the top of the repository, each with the files `grammar` and `sentence`, with `expected`, which is
 //! what the program prints for them, and with a `README` that says what one sees. A folder with words heard unclearly also has the
-//! file `heard` with its places in writing, and `expected_heard`, which is what `call` prints for them. A folder with a lexicon has it in the
-//! file `lexicon` and in writing in the file `entries`; its grammar is the one that the library makes of it, in the library's numbering.
+//! file `heard` with its places in writing, and `expected_heard`, which is what `call` prints for them. A folder with a lexicon has it in
+//! the file `lexicon` and in writing in the file `entries`; its grammar is the one that the library makes of it, in the library's
+//! numbering.
 
 use std::path::{Path, PathBuf};
 use std::{fs, io};

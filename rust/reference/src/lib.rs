@@ -1,7 +1,7 @@
-//! Document 01 and papers 1, 3, 4, 5 and 6 of document 02 a second time, in plain Rust and from the documents alone: literal, simple and not
-//! fast; paper 2 changes no answer. Indices are lists of digits, the queue is sorted, trees are enumerated one by one, so are the dates of
-//! four hundred years, a rule is compared with every earlier one in every order of its daughters, and the grammar of a lexicon is a set of
-//! rules between named categories, beside minimalist derivations that know of no grammar. The proved library is compared with it, call by
+//! Document 01 and papers 1, 3, 4, 5 and 6 of document 02 a second time, in plain Rust and from the documents alone: literal, simple and
+//! not fast; paper 2 changes no answer. Indices are lists of digits, the queue is sorted, trees are enumerated one by one, so are the dates
+//! of four hundred years, a rule is compared with every earlier one in every order of its daughters, the grammar of a lexicon is a set of
+//! rules between named categories, and minimalist derivations are counted without it. The proved library is compared with it, call by
 //! call.
 
 pub mod dates;

@@ -1,4 +1,4 @@
-//! The grammar of a lexicon (document 02, paper 6): its rules between named categories, refusal 31, and the file, in a numbering of its own.
+//! The grammar of a lexicon (document 02, paper 6): its rules between named categories, refusal 31, and the file, in one numbering.
 
 use crate::calls::{Heading, Refusal};
 use crate::grammar::{Variable, EMPTY_WORD};

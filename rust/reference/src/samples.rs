@@ -119,9 +119,9 @@ like :: =D =D I
 know :: =Q =D I
 ";
 
-/// Lexicons with the start category c: trees that branch, with and without empty words, chains that move once and twice, past each other and
-/// along with what they are in, and expressions that end nowhere because of a chain without features, of one that begins with no licensee or
-/// of two that begin with the same.
+/// Lexicons with the start category c: trees that branch, with and without empty words, chains that move once and twice, past each other
+/// and along with what they are in, and expressions that end nowhere because of a chain without features, of one that begins with no
+/// licensee or of two that begin with the same.
 pub const LEXICONS: [&str; 9] = [
     "a :: c\nb :: =c c\nempty :: =c c",
     "a :: c\nb :: =c =c c",
@@ -134,15 +134,15 @@ pub const LEXICONS: [&str; 9] = [
     "a :: c -w\nb :: =c c -w\na :: =c +w c\nb :: =c +w c -v\nempty :: =c +v c",
 ];
 
-/// The entries of a lexicon with the start category 1 that makes 236 rules and 61 categories, with so many more words of its category 1, a rule
-/// each, and so many entries that are in no other rule, a rule and a category each: 64 categories and 256 rules of 17 and 3.
+/// The entries of a lexicon with the start category 1 that makes 236 rules and 61 categories, with so many more words of its category 1, a
+/// rule each, and so many entries that are in no other rule, a rule and a category each: 64 categories and 256 rules of 17 and 3.
 ///
 /// It has 1, 1 -u, 1 -v, 1 -w, =1 1, =1 =1 1 and =1 =1 =1 1. The 16 rows of different licensees are the moving chains of categories
 /// <0, 1, ..>, <0, =1 1, ..> and <0, =1 =1 1, ..>: 48 categories. Each of the three entries that select merges with <1, 1>, with 16
 /// categories <0, 1, ..> and with three entries that then move: 60 rules. Each row can be cut in two in one more way than it has chains: 49
-/// ways, by which a category <0, =1 .., ..> merges with one <0, 1, ..>; 16 such categories merge with <1, 1>, and 15 times one of them merges
-/// with an entry that then moves: 160 rules of two heads. With the seven entries, the new start and its two rules these are 229 rules and 56
-/// categories.
+/// ways, by which a category <0, =1 .., ..> merges with one <0, 1, ..>; 16 such categories merge with <1, 1>, and 15 times one of them
+/// merges with an entry that then moves: 160 rules of two heads. With the seven entries, the new start and its two rules these are 229
+/// rules and 56 categories.
 ///
 /// 3 -u and =3 +u 1 are four rules and three categories more, 2 and =2 1 are three rules and two categories.
 pub fn full_lexicon(words: usize, others: usize) -> Vec<u8> {

@@ -1,5 +1,5 @@
-//! The five merge and move schemes (source document 003, section 3; document 02, paper 6): the categories derivable from a lexicon's entries,
-//! and the rules of the schemes among them. Categories have names here and no numbers.
+//! The five merge and move schemes (source document 003, section 3; document 02, paper 6): the categories derivable from a lexicon's
+//! entries, and the rules of the schemes among them. Categories have names here and no numbers.
 
 use crate::grammar::Variable;
 use crate::lexicon::{Feature, Lexicon};
@@ -7,8 +7,8 @@ use crate::lexicon::{Feature, Lexicon};
 /// A row of features.
 pub type Chain = Vec<Feature>;
 
-/// "a category is a tuple <x, d0, d1, .., dj>": whether x is 1, the head's chain, and then the moving chains. Moving chains in another order
-/// are another category.
+/// "a category is a tuple <x, d0, d1, .., dj>": whether x is 1, the head's chain, and then the moving chains. Moving chains in another
+/// order are another category.
 #[derive(Clone, Debug, PartialEq, Eq)]
 pub struct Tuple {
     pub lexical: bool,
@@ -74,7 +74,8 @@ fn first(one: &Tuple, other: &Tuple) -> Option<Scheme> {
     Some((chains, [vec![vec![s(0), t(0)]], each(t, other.moving())].concat()))
 }
 
-/// <0, alpha, d1, .., di, c1, .., cj>(t0 s0, s1, .., si, t1, .., tj) :- <0, =f alpha, d1, .., di>(s0, .., si), <x, f, c1, .., cj>(t0, .., tj)
+/// <0, alpha, d1, .., di, c1, .., cj>(t0 s0, s1, .., si, t1, .., tj) :-
+/// <0, =f alpha, d1, .., di>(s0, .., si), <x, f, c1, .., cj>(t0, .., tj)
 fn second(one: &Tuple, other: &Tuple) -> Option<Scheme> {
     let (alpha, beta) = selection(one, other)?;
     if one.lexical || !beta.is_empty() {
@@ -84,8 +85,8 @@ fn second(one: &Tuple, other: &Tuple) -> Option<Scheme> {
     Some((chains, [vec![vec![t(0), s(0)]], each(s, one.moving()), each(t, other.moving())].concat()))
 }
 
-/// <0, alpha, d1, .., di, beta, c1, .., cj>(s0, .., si, t0, .., tj) :- <x, =f alpha, d1, .., di>(s0, .., si), <y, f beta, c1, .., cj>(t0, .., tj),
-/// where beta is not empty.
+/// <0, alpha, d1, .., di, beta, c1, .., cj>(s0, .., si, t0, .., tj) :-
+/// <x, =f alpha, d1, .., di>(s0, .., si), <y, f beta, c1, .., cj>(t0, .., tj), where beta is not empty.
 fn third(one: &Tuple, other: &Tuple) -> Option<Scheme> {
     let (alpha, beta) = selection(one, other)?;
     if beta.is_empty() {
@@ -142,8 +143,8 @@ fn left_out(chains: &[Chain]) -> bool {
         || (0..moving.len()).any(|i| moving[..i].iter().any(|earlier| earlier[0] == moving[i][0]))
 }
 
-/// All rules of the schemes whose daughters are among these categories, but for those of categories that are left out. No two daughters have
-/// two, so that none is there twice.
+/// All rules of the schemes whose daughters are among these categories, but for those of categories that are left out. "the left side of
+/// each rule is a function of the right", so that none is there twice.
 pub fn instances(tuples: &[Tuple]) -> Vec<Instance> {
     let mut instances = Vec::new();
     let mut keep = |made: Option<Scheme>, daughters: &[&Tuple]| match made {

@@ -1,5 +1,5 @@
-//! Paper 6 of document 02, "Minimalist lexicons": grammars worked out by hand, each scheme, each way of being left out, each part of 30, the
-//! places of 10, the limits of 31, 23, and derivations counted by hand and beside the counts of the made grammars.
+//! Paper 6 of document 02, "Minimalist lexicons": grammars worked out by hand, each scheme, each way of being left out, each part of 30,
+//! the places of 10, the limits of 31, 23, and derivations counted by hand and beside the counts of the made grammars.
 
 use reference::file::read;
 use reference::grammar::Grammar;

@@ -10,7 +10,7 @@ fn grammar(text: &str) -> Grammar {
     read(&grammar_file(text)).unwrap()
 }
 
-/// The category that has number c now gets number (factor * c + shift) modulo the number of categories, and the rules stand in another order.
+/// The category with number c gets the number (factor * c + shift) modulo the number of categories, and the rules stand in another order.
 fn renumbered(grammar: &Grammar, factor: usize, shift: usize) -> Grammar {
     let n = grammar.dimensions.len();
     let name = |c: usize| (factor * c + shift) % n;
