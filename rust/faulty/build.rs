@@ -103,8 +103,8 @@ fn copy(name: &str, texts: &[(&str, String)], fault: Option<&Fault>) -> String {
     copy + "}\n"
 }
 
-/// The module and all modules that use it, also by way of others. Those of lexicons are copied only where the fault is in one of them, since
-/// they take long to build; the count of derivations is used by none.
+/// The module and all modules that use it, also by way of others. Those of lexicons are copied only where the fault is in one of them,
+/// since they take long to build; the count of derivations is used by none.
 fn users<'a>(module: &'a str, texts: &[(&'a str, String)]) -> Vec<&'a str> {
     let of_lexicons = ["lexicon", "made", "schemes"];
     let can_use = |name: &str| name != DERIVATIONS && (of_lexicons.contains(&module) || !of_lexicons.contains(&name));
