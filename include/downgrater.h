@@ -37,6 +37,15 @@ uint64_t dg_write_grammar(uint8_t categories, uint8_t start, uint16_t words, uin
                           const uint8_t *records, size_t records_len,
                           uint8_t *out, size_t out_len);
 
+/* The grammar file of a lexicon of features; its value is the file's length, at most 7,168. An entry has 8 bytes: a word, the lower byte first (65,535 is the empty
+ * word), and up to 6 features, ended by 0 or by the sixth: 1 to 15 a category, 17 to 31 its selector, 33 to 35 a licensor, 49 to 51 its licensee; bytes after
+ * the 0 are 0. There are 1 to 32 entries, `words` is from 1 to 4,096 and `start`, the wanted category, from 1 to 15. The grammar's start category is a new one, so
+ * that an analysis has one node more than the derivation that it stands for. Which numbers the categories and the rules have is not said.
+ * 30 for what is no lexicon; then 10 for an entry that equals an earlier one, at its number; then 31 for more than 64 categories or 256 rules, or where the wanted
+ * category is not derivable; then 23 for an output shorter than the file. */
+uint64_t dg_make_grammar(const uint8_t *lexicon, size_t lexicon_len, uint32_t words, uint32_t start,
+                         uint8_t *out, size_t out_len);
+
 /* The trace checker; its value is the number of steps. */
 uint64_t dg_check_trace(const uint8_t *file, size_t file_len, const uint32_t *sentence, size_t words,
                         const uint16_t *trace, size_t trace_len);

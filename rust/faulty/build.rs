@@ -6,17 +6,21 @@ use std::{env, fs};
 include!("faults.rs");
 
 /// The modules that a copy consists of. The calls themselves stay the reference's.
-const MODULES: [&str; 16] = [
+const MODULES: [&str; 20] = [
     "dates",
     "derivations",
     "double",
     "file",
     "grammar",
+    "lexicon",
     "listing",
     "live",
+    "made",
+    "minimalist",
     "queue",
     "record",
     "reference",
+    "schemes",
     "sentence",
     "survey",
     "trace",
@@ -25,20 +29,53 @@ const MODULES: [&str; 16] = [
     "writer",
 ];
 
+/// The module with the count of derivations.
+const DERIVATIONS: &str = "minimalist";
+
+const CALLS: &str = "Box<dyn reference::Calls>";
+
 fn main() {
     println!("cargo::rerun-if-changed=faults.rs");
     println!("cargo::rerun-if-changed=../reference/src");
     let texts: Vec<(&str, String)> = MODULES.iter().map(|&name| (name, source(name))).collect();
     let mut copies = copy("unchanged", &texts, None);
-    let mut list = String::new();
-    for (i, fault) in FAULTS.iter().enumerate() {
-        copies += &copy(&format!("fault_{i}"), &texts, Some(fault));
-        list += &format!("    ({:?}, Box::new(fault_{i}::reference::Reference)),\n", fault.0);
-    }
-    copies += "/// The copy without a fault.\npub fn unchanged() -> Box<dyn reference::Calls> {\n    Box::new(unchanged::reference::Reference)\n}\n";
-    copies += &format!("/// Each fault in words, with the copy that has it.\npub fn faulty() -> Vec<(&'static str, Box<dyn reference::Calls>)> {{\n    vec![\n{list}    ]\n}}\n");
+    copies +=
+        &format!("/// The copy without a fault.\npub fn unchanged() -> {CALLS} {{\n    Box::new(unchanged::reference::Reference)\n}}\n");
+    // a fault in the count of derivations is in no call
+    let (counts, calls): (Vec<&Fault>, Vec<&Fault>) = FAULTS.iter().partition(|fault| fault.1 == DERIVATIONS);
+    let reference = |copy: &str| format!("Box::new({copy}::reference::Reference)");
+    copies += &list("faulty", "Each fault in words, with the copy that has it.", CALLS, &calls, &texts, reference);
+    copies += &list(
+        "harmless",
+        "Changes that are no faults, in words, with the copies that have them.",
+        CALLS,
+        &HARMLESS.iter().collect::<Vec<_>>(),
+        &texts,
+        reference,
+    );
+    let count = |copy: &str| format!("{copy}::{DERIVATIONS}::derivations");
+    let count_type = format!("reference::{DERIVATIONS}::Derivations");
+    copies += &list(
+        "faulty_derivations",
+        "Each fault in the count of derivations, in words, with that count.",
+        &count_type,
+        &counts,
+        &texts,
+        count,
+    );
     let out = env::var("OUT_DIR").expect("cargo sets it");
     fs::write(Path::new(&out).join("copies.rs"), copies).expect("the folder is there");
+}
+
+/// A copy for each change, and a function of that name that gives them all, each with its name, as values of that type.
+fn list(name: &str, comment: &str, of: &str, changes: &[&Fault], texts: &[(&str, String)], value: impl Fn(&str) -> String) -> String {
+    let (mut copies, mut lines) = (String::new(), String::new());
+    for (i, change) in changes.iter().enumerate() {
+        let module = format!("{name}_{i}");
+        copies += &copy(&module, texts, Some(change));
+        lines += &format!("        ({:?}, {}),\n", change.0, value(&module));
+    }
+    copies + &format!("/// {comment}\npub fn {name}() -> Vec<(&'static str, {of})> {{\n    vec![\n{lines}    ]\n}}\n")
 }
 
 fn source(module: &str) -> String {
@@ -66,13 +103,15 @@ fn copy(name: &str, texts: &[(&str, String)], fault: Option<&Fault>) -> String {
     copy + "}\n"
 }
 
-/// The module and all modules that use it, also by way of others.
+/// The module and all modules that use it, also by way of others. Those of lexicons are copied only where the fault is in one of them,
+/// since they take long to build; the count of derivations is used by none.
 fn users<'a>(module: &'a str, texts: &[(&'a str, String)]) -> Vec<&'a str> {
+    let of_lexicons = ["lexicon", "made", "schemes"];
+    let can_use = |name: &str| name != DERIVATIONS && (of_lexicons.contains(&module) || !of_lexicons.contains(&name));
     let mut users = vec![module];
     loop {
-        let more =
-            texts.iter().find(|(name, text)| !users.contains(name) && users.iter().any(|used| text.contains(&format!("crate::{used}::"))));
-        match more {
+        let uses = |text: &str| users.iter().any(|used| text.contains(&format!("crate::{used}::")));
+        match texts.iter().find(|(name, text)| !users.contains(name) && can_use(name) && uses(text)) {
             Some((name, _)) => users.push(name),
             None => return users,
         }

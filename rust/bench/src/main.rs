@@ -1,11 +1,12 @@
 //! The library and plain Rust in one process, in turns, best of several runs, both built for release: nanoseconds per live prefix of
-//! `dg_count` and of the same search, nanoseconds a block and a file of `dg_read_grammar` and of the same reader, and nanoseconds a call of
-//! the four calls on dates and of the same calls. The time of the library's count includes its tests of the grammar file, that of the search
-//! does not.
+//! `dg_count` and of the same search, nanoseconds a block and a file of `dg_read_grammar` and of the same reader, nanoseconds a call of the
+//! four calls on dates and of the same calls, and nanoseconds a call of `dg_make_grammar` and of the same making. The time of the library's
+//! count includes its tests of the grammar file, that of the search does not.
 
 mod dates;
 mod files;
 mod inputs;
+mod lexicons;
 mod reader;
 mod search;
 
@@ -14,7 +15,9 @@ use std::hint::black_box;
 use std::time::Instant;
 
 use reference::file::{read, BLOCK};
+use reference::lexicon_notation::WrittenLexicon;
 use reference::notation::grammar_file;
+use reference::samples::{full_lexicon, QUESTION};
 use reference::{Answer, Calls, Date, Refusal};
 
 use inputs::Input;
@@ -24,6 +27,9 @@ const EFFORT_LIMIT: u64 = 1_000_000_000;
 
 /// How often a file is read in one run.
 const READINGS: u64 = 200;
+
+/// How often a grammar is made in one run.
+const MAKINGS: u64 = 50;
 
 /// How many days the span has.
 const DAYS: u64 = 146_097;
@@ -55,6 +61,11 @@ fn main() {
     println!("\ndates, ns a call");
     println!("{:<12}{:>10}{:>10}{:>8}", "call", "library", "rust", "ratio");
     on_dates(library.as_deref(), runs);
+    println!("\nthe grammar of a lexicon, ns a call");
+    println!("{:<12}{:>12}{:>8}{:>12}{:>10}{:>8}", "lexicon", "categories", "rules", "library", "rust", "ratio");
+    let question = WrittenLexicon::new(QUESTION);
+    making("question", &question.bytes, question.word_count(), question.category("C"), library.as_deref(), runs);
+    making("full", &full_lexicon(17, 3), 40, 1, library.as_deref(), runs);
 }
 
 /// The best time of each side in nanoseconds.
@@ -126,6 +137,27 @@ fn reading(name: &str, file: &[u8], library: Option<&dyn Calls>, runs: usize) ->
     let times = in_turns(runs, READINGS, blocks, rust, library);
     println!("{:<12}{:>8}{}", name, blocks, times.columns(2));
     times.of_units(blocks)
+}
+
+/// Makes the grammar of a lexicon, with an output that has room for every file.
+fn making(name: &str, lexicon: &[u8], words: u32, start: u32, library: Option<&dyn Calls>, runs: usize) {
+    let mut out = [0; 14 * BLOCK];
+    let length = lexicons::make(lexicon, words, start, &mut out).expect("the lexicon is made");
+    let grammar = read(&out[..length as usize]).expect("the reader takes it");
+    let rust = || {
+        let mut out = [0; 14 * BLOCK];
+        assert_eq!(lexicons::make(black_box(lexicon), words, start, &mut out), Ok(length));
+        black_box(&out);
+    };
+    let library = library.map(|library| {
+        || {
+            let mut out = [0; 14 * BLOCK];
+            assert_eq!(library.make_grammar(black_box(lexicon), words, start, &mut out), Answer::Accepted(length), "{name}");
+            black_box(&out);
+        }
+    });
+    let times = in_turns(runs, MAKINGS, 1, rust, library);
+    println!("{:<12}{:>12}{:>8}  {}", name, grammar.dimensions.len(), grammar.rules.len(), times.columns(0));
 }
 
 /// Each call on every day of the span, in one run; of the calls with a term, the terms from 0 to 600 one after the other.

@@ -51,7 +51,7 @@ fn first(blocks: &[Block], from: usize, number: u8, meets: impl Fn(usize, &Block
 }
 
 /// Four bytes a turn, from the last turn to the first: the sums of the bytes in the four places, and the sums of these sums.
-fn check(block: &Block) -> u32 {
+pub fn check(block: &Block) -> u32 {
     let (mut sums, mut of_sums) = ([0; 4], [0; 4]);
     for turn in block[..CHECK].as_chunks::<4>().0.iter().rev() {
         for place in 0..4 {

@@ -1,5 +1,5 @@
 //! One random case: a grammar with files, writer inputs, analyses and counts made from it, for sentences of single words and for unclear
-//! ones, and some dates.
+//! ones, some dates, and a lexicon with what its grammar counts.
 
 use reference::file::{heading_of, BLOCK};
 use reference::listing::traces_of_trees;
@@ -11,6 +11,7 @@ use crate::compare::{Difference, Done, Pair};
 use crate::damage;
 use crate::dates;
 use crate::grammars::{self, Made};
+use crate::lexicons;
 use crate::rng::Rng;
 use crate::sentences;
 use crate::show::show_file;
@@ -38,7 +39,8 @@ pub fn case(pair: &mut Pair, rng: &mut Rng) -> Done {
     counts(pair, rng, &made, &sentence, nodes)?;
     mixed(pair, rng, &made, analysis.as_ref())?;
     other_weights(pair, rng, &made, analysis.as_ref())?;
-    dates::random(pair, rng)
+    dates::random(pair, rng)?;
+    lexicons::random_calls(pair, rng)
 }
 
 /// The length of an output of numbers: mostly enough, often at the border.

@@ -2,20 +2,27 @@
 
 use std::fmt;
 
+use reference::file::read;
+use reference::grammar::Grammar;
+use reference::minimalist::{derivations, Derivations};
 use reference::notation::places;
 use reference::record::Record;
+use reference::renaming::renaming;
 use reference::survey::survey_is_right;
 use reference::{Answer, Calls, Date, DateCalls, Heading, Reference, Refusal, TreeCalls};
 
 use crate::damage::at;
+use crate::lexicons::Given;
 use crate::orders::order_of_double;
 use crate::sentences::is_unclear;
-use crate::show::{show_file, show_heading};
+use crate::show::{show_file, show_heading, show_lexicon};
 use crate::tally::{Call, Tally};
 
 /// Both sides, and what they met so far.
 pub struct Pair<'a> {
     pub tested: &'a dyn Calls,
+    /// Counts the derivations of a lexicon: the reference's, or one with a fault.
+    pub derivations: Derivations,
     pub tally: Tally,
 }
 
@@ -61,9 +68,18 @@ where
     (answers, first_difference(&tested, &expected))
 }
 
+/// How the made file differs from the grammar otherwise than in the numbers of categories and rules.
+fn other_grammar(file: &[u8], expected: &Grammar) -> Option<String> {
+    match read(file) {
+        Ok(grammar) if renaming(&grammar, expected).is_some() => None,
+        Ok(_) => Some(format!("another grammar\n{}expected {expected:?}", show_file(file))),
+        Err(refusal) => Some(format!("the reader refuses the made file: {refusal:?}\n{}", show_file(file))),
+    }
+}
+
 impl Pair<'_> {
     pub fn new(tested: &dyn Calls) -> Pair<'_> {
-        Pair { tested, tally: Tally::new() }
+        Pair { tested, derivations, tally: Tally::new() }
     }
 
     /// Takes both answers and the difference of the buffers into the tally, or makes a report.
@@ -105,6 +121,30 @@ impl Pair<'_> {
         let input = || format!("output of {out}\n{}", show_heading(heading, records));
         self.settle(Call::WriteGrammar, answers, buffer, input)?;
         self.add_order(Call::WriteGrammar, answers.0, |r| &records[24 * r..]);
+        Ok(())
+    }
+
+    /// The numbers of categories and rules are free; all else is compared.
+    pub fn make_grammar(&mut self, given: &Given, out: usize) -> Done {
+        let Given { lexicon, words, start } = given;
+        let mut tested: Vec<u8> = lent(out, lexicon.len());
+        let mut expected = tested.clone();
+        let to = FENCE + out;
+        let answers = (
+            self.tested.make_grammar(lexicon, *words, *start, &mut tested[FENCE..to]),
+            Reference.make_grammar(lexicon, *words, *start, &mut expected[FENCE..to]),
+        );
+        let mut wrong = None;
+        if let Answer::Accepted(length) = answers.1 {
+            let written = FENCE..FENCE + length as usize;
+            let grammar = read(&expected[written.clone()]).expect("the reader takes what the reference makes");
+            wrong = other_grammar(&tested[written.clone()], &grammar);
+            self.tally.add_made(&grammar);
+            expected[written.clone()].copy_from_slice(&tested[written]);
+        }
+        let buffer = wrong.or(first_difference(&tested, &expected));
+        self.settle(Call::MakeGrammar, answers, buffer, || format!("output of {out}\n{}", show_lexicon(given)))?;
+        self.tally.add_lexicon(given, answers.1);
         Ok(())
     }
 

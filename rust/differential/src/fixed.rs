@@ -9,12 +9,14 @@ use reference::word;
 use crate::compare::{Done, Pair};
 use crate::damage::{at, seal};
 use crate::dates;
+use crate::fixed_lexicons;
 use crate::grammars::Made;
 use crate::orders;
 use crate::unclear;
 
 pub fn fixed(pair: &mut Pair) -> Done {
     known(pair)?;
+    fixed_lexicons::fixed(pair)?;
     lengths_of_lists(pair)?;
     lengths_of_outputs(pair)?;
     limits(pair)?;

@@ -6,7 +6,10 @@ mod compare;
 mod damage;
 mod dates;
 mod fixed;
+mod fixed_lexicons;
 mod grammars;
+mod lexicons;
+mod minimalist;
 mod options;
 mod orders;
 mod printed;
@@ -94,6 +97,8 @@ fn run(tested: &dyn Calls, options: &Options) -> bool {
     );
     println!("{} doubles in another order of their daughters, {} near misses", tally.doubles_in_another_order(), tally.near_misses);
     println!("{} days both ways, {} terms beside the next longer one", tally.days_both_ways(), tally.terms);
+    println!("{}", tally.lexicons());
+    println!("{} counts of made grammars beside the derivations, {} above 0", tally.derivations_compared(), tally.derivations_found());
     if options.program.is_some() {
         println!("{} runs of the program", tally.programs);
     }

@@ -1,40 +1,48 @@
-//! The comparison shows that it can fail: every copy of the reference with a fault is found out, and the copy without one is not.
+//! The comparison shows that it can fail: every copy of the reference with a fault is found out, and the copies without one are not.
 
-use reference::Calls;
+use reference::Reference;
 
 use crate::cases::case;
 use crate::compare::Pair;
 use crate::fixed::fixed;
 use crate::rng::Rng;
+use crate::tally::Tally;
 
 /// How many random cases a fault is looked for in, before the fixed inputs.
 const CASES: u64 = 150;
 
 pub fn self_test(seed: u64) -> bool {
-    let (by, clean) = found(faulty::unchanged().as_ref(), seed).map_or(("no difference".to_string(), true), |by| (by, false));
-    println!("no fault: {by}");
-    let faults = faulty::faulty();
-    let mut missed = 0;
-    for (name, copy) in &faults {
-        let by = found(copy.as_ref(), seed).unwrap_or_else(|| {
-            missed += 1;
-            "NOT FOUND".to_string()
-        });
-        println!("{name}: {by}");
+    let unchanged = [("no fault", faulty::unchanged())];
+    let mut clean = true;
+    for (name, copy) in unchanged.into_iter().chain(faulty::harmless()) {
+        let by = found(Pair::new(copy.as_ref()), seed);
+        clean &= by.is_none();
+        println!("{name}: {}", by.unwrap_or("no difference".to_string()));
     }
-    println!("{} of {} faults found", faults.len() - missed, faults.len());
+    let (mut faults, mut missed) = (0, 0);
+    let mut add = |name: &str, by: Option<String>| {
+        faults += 1;
+        missed += by.is_none() as usize;
+        println!("{name}: {}", by.unwrap_or("NOT FOUND".to_string()));
+    };
+    for (name, copy) in faulty::faulty() {
+        add(name, found(Pair::new(copy.as_ref()), seed));
+    }
+    for (name, derivations) in faulty::faulty_derivations() {
+        add(name, found(Pair { derivations, ..Pair::new(&Reference) }, seed));
+    }
+    println!("{} of {faults} faults found", faults - missed);
     clean && missed == 0
 }
 
 /// The first input that finds a difference, in words.
-fn found(copy: &dyn Calls, seed: u64) -> Option<String> {
-    let mut pair = Pair::new(copy);
+fn found(mut pair: Pair, seed: u64) -> Option<String> {
     for number in 0..CASES {
         if let Err(difference) = case(&mut pair, &mut Rng::new(seed, number)) {
             return Some(format!("random case {number}, {:?}", difference.call));
         }
     }
-    let mut pair = Pair::new(copy);
+    pair.tally = Tally::new();
     match fixed(&mut pair) {
         Err(difference) => Some(format!("fixed input {}, {:?}", pair.tally.inputs(), difference.call)),
         Ok(()) => None,
@@ -44,7 +52,6 @@ fn found(copy: &dyn Calls, seed: u64) -> Option<String> {
 #[cfg(test)]
 mod tests {
     use super::*;
-    use reference::Reference;
 
     /// Some random cases and the fixed inputs meet every refusal, and the reference does not differ from itself. At least half of the random
     /// sentences have single words.

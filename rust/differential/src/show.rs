@@ -1,7 +1,10 @@
 //! Inputs in writing, for reports.
 
 use reference::file::BLOCK;
+use reference::lexicon::ENTRY;
 use reference::Heading;
+
+use crate::lexicons::Given;
 
 /// The file's blocks as hexadecimal bytes, each without the zeros before its check.
 pub fn show_file(file: &[u8]) -> String {
@@ -18,6 +21,14 @@ pub fn show_heading(heading: &Heading, records: &[u8]) -> String {
     let mut text = format!("{heading:?}\n{} record bytes\n", records.len());
     for record in records.chunks(24) {
         text += &format!("{}\n", hex(record));
+    }
+    text
+}
+
+pub fn show_lexicon(given: &Given) -> String {
+    let mut text = format!("words {} start {}\n{} lexicon bytes\n", given.words, given.start, given.lexicon.len());
+    for entry in given.lexicon.chunks(ENTRY) {
+        text += &format!("{}\n", hex(entry));
     }
     text
 }

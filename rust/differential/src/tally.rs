@@ -2,8 +2,12 @@
 
 use std::fmt;
 
+use reference::grammar::{Body, Grammar};
+use reference::lexicon::read_lexicon;
+use reference::made::{named_grammar, Excess};
 use reference::Answer;
 
+use crate::lexicons::Given;
 use crate::orders::ORDERS;
 
 #[derive(Clone, Copy, Debug, PartialEq, Eq)]
@@ -23,9 +27,10 @@ pub enum Call {
     DateOf,
     OpeningDay,
     IsOpen,
+    MakeGrammar,
 }
 
-pub const CALLS: [Call; 15] = [
+pub const CALLS: [Call; 16] = [
     Call::ReadGrammar,
     Call::WriteGrammar,
     Call::CheckTrace,
@@ -41,6 +46,7 @@ pub const CALLS: [Call; 15] = [
     Call::DateOf,
     Call::OpeningDay,
     Call::IsOpen,
+    Call::MakeGrammar,
 ];
 
 impl Call {
@@ -61,6 +67,7 @@ impl Call {
             Call::Survey => file.chain([23]).collect(),
             Call::DayNumber | Call::DateOf => vec![27],
             Call::OpeningDay | Call::IsOpen => vec![27, 28],
+            Call::MakeGrammar => vec![30, 10, 31, 23],
         }
     }
 
@@ -85,7 +92,11 @@ const HIGHEST_SUM: u32 = 96 * 255;
 pub const DAYS: usize = 400 * 365 + 97;
 
 /// The refusals, from 1, and 0 for accepted.
-const NUMBERS: usize = 30;
+const NUMBERS: usize = 32;
+
+/// Why a lexicon is refused with 31, and which forms of the wanted category a made grammar starts from.
+const EXCESSES: [&str; 3] = ["for its categories", "for its rules", "for want of a start"];
+const START_FORMS: [&str; 3] = ["the lexical form", "the derived form", "both forms"];
 
 /// How many calls the table has beside each other.
 const BESIDE: usize = 11;
@@ -115,6 +126,14 @@ pub struct Tally {
     both_ways: Vec<[bool; 2]>,
     /// Terms whose opening day was compared with that of the term a month longer, which has one too.
     pub terms: u64,
+    /// Lexicons refused with 31, for each reason.
+    excesses: [u64; EXCESSES.len()],
+    /// Made grammars with a start rule from the lexical form of the wanted category alone, from the derived one alone, and from both.
+    start_forms: [u64; START_FORMS.len()],
+    /// The most categories and the most rules of a made grammar.
+    most_made: (usize, usize),
+    /// Counts of made grammars beside the derivations of their lexicons: all, those above 0, and of these the ones of unclear sentences.
+    derivations: [u64; 3],
     /// Runs of the program.
     pub programs: u64,
 }
@@ -135,6 +154,10 @@ impl Tally {
             near_misses: 0,
             both_ways: vec![[false; 2]; DAYS],
             terms: 0,
+            excesses: [0; EXCESSES.len()],
+            start_forms: [0; START_FORMS.len()],
+            most_made: (0, 0),
+            derivations: [0; 3],
             programs: 0,
         }
     }
@@ -193,6 +216,49 @@ impl Tally {
         self.both_ways.iter().filter(|ways| **ways == [true; 2]).count()
     }
 
+    /// The reference made this grammar of a lexicon.
+    pub fn add_made(&mut self, grammar: &Grammar) {
+        let forms = [true, false]
+            .map(|lexical| grammar.rules.iter().any(|rule| rule.category == grammar.start && lexical == is_entry(grammar, &rule.body)));
+        self.start_forms[if forms == [true; 2] { 2 } else { forms[1] as usize }] += 1;
+        self.most_made = (self.most_made.0.max(grammar.dimensions.len()), self.most_made.1.max(grammar.rules.len()));
+    }
+
+    /// The reference answered this to a lexicon: of refusal 31 the reason.
+    pub fn add_lexicon(&mut self, given: &Given, answer: Answer) {
+        if !matches!(answer, Answer::Refused(refusal) if refusal.number == 31) {
+            return;
+        }
+        let lexicon = read_lexicon(&given.lexicon, given.words, given.start).expect("31 comes after 30 and 10");
+        match named_grammar(&lexicon).expect_err("it is refused") {
+            Excess::Categories => self.excesses[0] += 1,
+            Excess::Rules => self.excesses[1] += 1,
+            Excess::NoStart => self.excesses[2] += 1,
+        }
+    }
+
+    /// A made grammar counted as many analyses of a sentence as its lexicon has derivations.
+    pub fn add_derivations(&mut self, number: u64, unclear: bool) {
+        self.derivations[0] += 1;
+        self.derivations[1] += (number > 0) as u64;
+        self.derivations[2] += (number > 0 && unclear) as u64;
+    }
+
+    pub fn derivations_compared(&self) -> u64 {
+        self.derivations[0]
+    }
+
+    pub fn derivations_found(&self) -> u64 {
+        self.derivations[1]
+    }
+
+    pub fn lexicons(&self) -> String {
+        let list = |numbers: &[u64], names: &[&str]| {
+            numbers.iter().zip(names).map(|(number, name)| format!("{number} {name}")).collect::<Vec<_>>().join(", ")
+        };
+        format!("made grammars start from {}; 31 {}", list(&self.start_forms, &START_FORMS), list(&self.excesses, &EXCESSES))
+    }
+
     /// The number of inputs compared.
     pub fn inputs(&self) -> u64 {
         self.met.iter().flatten().sum()
@@ -229,6 +295,15 @@ impl Tally {
         if self.days_both_ways() < DAYS {
             missing.push(format!("{} of {DAYS} days both ways", self.days_both_ways()));
         }
+        for (name, _) in START_FORMS.iter().zip(self.start_forms).filter(|(_, made)| *made == 0) {
+            missing.push(format!("made grammars never started from {name} of the wanted category"));
+        }
+        for (name, _) in EXCESSES.iter().zip(self.excesses).filter(|(_, met)| *met == 0) {
+            missing.push(format!("MakeGrammar never met 31 {name}"));
+        }
+        if self.most_made != (64, 256) {
+            missing.push(format!("made grammars had at most {:?} categories and rules, not 64 and 256", self.most_made));
+        }
         for (done, none) in [
             (self.round_trips, "no round trip"),
             (self.agreements, "no listing by trees and by live prefixes"),
@@ -236,6 +311,8 @@ impl Tally {
             (self.reweighed, "no grammar with other weights"),
             (self.near_misses, "no near miss of a double"),
             (self.terms, "no term beside the next longer one"),
+            (self.derivations[1], "no count above 0 of a made grammar beside its derivations"),
+            (self.derivations[2], "no count above 0 of a made grammar and an unclear sentence"),
         ] {
             if done == 0 {
                 missing.push(none.to_string());
@@ -269,11 +346,17 @@ impl Tally {
     }
 }
 
+/// Whether the body's one daughter is the category of an entry: it has a lexical rule.
+fn is_entry(grammar: &Grammar, body: &Body) -> bool {
+    let has_word = |daughter: usize| grammar.rules.iter().any(|rule| rule.category == daughter && matches!(rule.body, Body::Lexical(_)));
+    matches!(body, Body::Nonlexical { daughters, .. } if daughters.iter().all(|&daughter| has_word(daughter)))
+}
+
 /// A row of the table: accepted, or whose refusal and which.
 fn row(number: usize) -> String {
     match number {
         0 => "accepted".to_string(),
-        1..=10 => format!("grammar's {number}"),
+        1..=10 | 30 | 31 => format!("grammar's {number}"),
         11..=22 | 29 => format!("analysis's {number}"),
         _ => format!("desk's {number}"),
     }
@@ -288,6 +371,8 @@ impl fmt::Display for Tally {
 #[cfg(test)]
 mod tests {
     use super::*;
+    use crate::lexicons::full;
+    use reference::file::read;
 
     /// A day that was gone through one way alone is missing.
     #[test]
@@ -325,6 +410,7 @@ mod tests {
         let mut tally = Tally::new();
         let missing = |tally: &Tally| tally.missing().into_iter().filter(|text| text.contains("unclear sentence")).collect::<Vec<_>>();
         tally.listings_of_several = 1;
+        tally.add_derivations(1, true);
         assert_eq!(missing(&tally).len(), 8);
         for call in CALLS.into_iter().filter(|call| call.is_given_a_sentence()) {
             tally.add_sentence(call, true, Answer::Refused(reference::Refusal::desk(25)));
@@ -353,12 +439,48 @@ mod tests {
             "no grammar with other weights",
             "no near miss of a double",
             "no term beside the next longer one",
+            "no count above 0 of a made grammar beside its derivations",
+            "no count above 0 of a made grammar and an unclear sentence",
         ];
         assert_eq!(none(&tally), all);
         (tally.round_trips, tally.agreements, tally.reweighed, tally.highest_sum) = (1, 1, 1, HIGHEST_SUM);
         (tally.near_misses, tally.listings_of_several) = (1, 1);
-        assert_eq!(none(&tally), ["no term beside the next longer one"]);
+        assert_eq!(none(&tally), &all[6..]);
         tally.terms = 1;
+        tally.add_derivations(0, true);
+        assert_eq!(none(&tally), &all[7..]);
+        tally.add_derivations(2, false);
+        assert_eq!(none(&tally), &all[8..]);
+        tally.add_derivations(1, true);
         assert_eq!(none(&tally), Vec::<String>::new());
+        assert_eq!((tally.derivations_compared(), tally.derivations_found()), (3, 2));
+    }
+
+    /// A form of the wanted category, a reason for 31 and a limit that were never met are missing.
+    #[test]
+    fn lexicons_of_every_kind() {
+        let mut tally = Tally::new();
+        let missing =
+            |tally: &Tally| tally.missing().into_iter().filter(|text| text.contains("made") || text.contains("31 ")).collect::<Vec<_>>();
+        assert_eq!(missing(&tally).len(), 3 + 3 + 1 + 2);
+        let mut add = |text: &str, start: &str| {
+            let given = Given::of_text(text, start);
+            match given.file() {
+                Some(file) => tally.add_made(&read(&file).unwrap()),
+                None => tally.add_lexicon(&given, Answer::Refused(reference::Refusal::grammar(31, 0))),
+            }
+            (tally.start_forms, tally.excesses, tally.most_made)
+        };
+        assert_eq!(add("a :: c", "c"), ([1, 0, 0], [0, 0, 0], (2, 2)));
+        assert_eq!(add("a :: d\nb :: =d c", "c"), ([1, 1, 0], [0, 0, 0], (4, 4)));
+        assert_eq!(add("a :: c\nb :: =c c", "c"), ([1, 1, 1], [0, 0, 0], (4, 6)));
+        assert_eq!(add("a :: d\nb :: =c d", "c"), ([1, 1, 1], [0, 0, 1], (4, 6)));
+        for (words, others) in [(17, 3), (18, 3), (16, 4)] {
+            let given = full(words, others);
+            tally.add_lexicon(&given, Answer::Refused(reference::Refusal::grammar(31 - (words == 17) as u8, 0)));
+            given.file().iter().for_each(|file| tally.add_made(&read(file).unwrap()));
+        }
+        assert_eq!((tally.start_forms, tally.excesses, tally.most_made), ([1, 1, 2], [1, 1, 1], (64, 256)));
+        assert_eq!(missing(&tally).len(), 2);
     }
 }

@@ -32,8 +32,8 @@ impl Refusal {
 /// A verdict: the values of the call, or its refusal.
 #[derive(Clone, Copy, Debug, PartialEq, Eq)]
 pub enum Answer {
-    /// A node count; of the reader R, of the survey C, of the writer the file's length, of an entry its number of steps, of a weighing
-    /// the sum of weights, of a date and of the opening day the day's number, of open or not 1 or 0.
+    /// A node count; of the reader R, of the survey C, of the writer and of a made grammar the file's length, of an entry its number of
+    /// steps, of a weighing the sum of weights, of a date and of the opening day the day's number, of open or not 1 or 0.
     Accepted(u32),
     Counted {
         count: u32,
@@ -80,6 +80,8 @@ pub fn words(lowest: u16, highest: u16) -> u32 {
 pub trait Calls: TreeCalls + DateCalls {
     fn read_grammar(&self, file: &[u8]) -> Answer;
     fn write_grammar(&self, heading: &Heading, records: &[u8], out: &mut [u8]) -> Answer;
+    /// The grammar file of a lexicon of features with this word count and this start category (document 02, paper 6).
+    fn make_grammar(&self, lexicon: &[u8], words: u32, start: u32, out: &mut [u8]) -> Answer;
     fn check_trace(&self, file: &[u8], sentence: &[u32], trace: &[u16]) -> Answer;
     fn weigh_trace(&self, file: &[u8], sentence: &[u32], trace: &[u16]) -> Answer;
     fn count(&self, file: &[u8], sentence: &[u32], node_limit: u64, effort_limit: u64) -> Answer;

@@ -20,6 +20,7 @@ extern "C" {
         out: *mut u8,
         out_len: usize,
     ) -> u64;
+    fn dg_make_grammar(lexicon: *const u8, lexicon_len: usize, words: u32, start: u32, out: *mut u8, out_len: usize) -> u64;
     fn dg_check_trace(file: *const u8, file_len: usize, sentence: *const u32, words: usize, trace: *const u16, trace_len: usize) -> u64;
     fn dg_weigh_trace(file: *const u8, file_len: usize, sentence: *const u32, words: usize, trace: *const u16, trace_len: usize) -> u64;
     fn dg_count(file: *const u8, file_len: usize, sentence: *const u32, words: usize, node_limit: u64, effort_limit: u64) -> u64;
@@ -79,6 +80,10 @@ impl Calls for Library {
                 out.len(),
             )
         })
+    }
+
+    fn make_grammar(&self, lexicon: &[u8], words: u32, start: u32, out: &mut [u8]) -> Answer {
+        verdict(unsafe { dg_make_grammar(at(lexicon), lexicon.len(), words, start, at_mut(out), out.len()) })
     }
 
     fn check_trace(&self, file: &[u8], sentence: &[u32], trace: &[u16]) -> Answer {

@@ -99,6 +99,6 @@ impl Trees<'_> {
 }
 
 /// Whether the string fits a part of the sentence, in one piece.
-fn occurs(string: &[u16], sentence: &[u32]) -> bool {
+pub fn occurs(string: &[u16], sentence: &[u32]) -> bool {
     string.is_empty() || sentence.windows(string.len()).any(|window| fits(string, window))
 }

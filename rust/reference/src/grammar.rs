@@ -12,7 +12,7 @@ pub struct Grammar {
     pub rules: Vec<Rule>,
 }
 
-#[derive(Clone, Debug, PartialEq, Eq)]
+#[derive(Clone, Debug, PartialEq, Eq, PartialOrd, Ord)]
 pub struct Rule {
     pub category: usize,
     pub body: Body,
@@ -20,7 +20,7 @@ pub struct Rule {
     pub weight: u8,
 }
 
-#[derive(Clone, Debug, PartialEq, Eq)]
+#[derive(Clone, Debug, PartialEq, Eq, PartialOrd, Ord)]
 pub enum Body {
     /// A lexical rule: one word, or the empty word.
     Lexical(Option<u16>),
@@ -28,7 +28,7 @@ pub enum Body {
     Nonlexical { daughters: Vec<usize>, components: Vec<Vec<Variable>> },
 }
 
-#[derive(Clone, Copy, Debug, PartialEq, Eq)]
+#[derive(Clone, Copy, Debug, PartialEq, Eq, PartialOrd, Ord)]
 pub struct Variable {
     pub daughter: usize,
     pub component: usize,

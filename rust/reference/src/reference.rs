@@ -4,6 +4,7 @@ use crate::calls::{Answer, Calls, Date, DateCalls, Heading, Refusal, TreeCalls};
 use crate::dates::{date_of, day_number, is_open, opening_day};
 use crate::file::read;
 use crate::listing::{entry, listing};
+use crate::made::make;
 use crate::sentence::MOST;
 use crate::survey::least_heights;
 use crate::trace::{check_trace, trace_to_tree};
@@ -32,6 +33,16 @@ fn test_output(out: &[u16]) -> Result<(), Refusal> {
 fn put(list: &[u16], out: &mut [u16]) -> usize {
     out[..list.len()].copy_from_slice(list);
     list.len()
+}
+
+/// 23: an output shorter than the file. Otherwise writes the file to the front of the output, which keeps its other bytes, and gives its
+/// length.
+fn put_file(file: &[u8], out: &mut [u8]) -> Result<usize, Refusal> {
+    if out.len() < file.len() {
+        return Err(Refusal::desk(23));
+    }
+    out[..file.len()].copy_from_slice(file);
+    Ok(file.len())
 }
 
 impl Reference {
@@ -64,11 +75,12 @@ impl Reference {
 
     fn written_file(&self, heading: &Heading, records: &[u8], out: &mut [u8]) -> Result<usize, Refusal> {
         let file = write(heading, records)?;
-        if out.len() < file.len() {
-            return Err(Refusal::desk(23));
-        }
-        out[..file.len()].copy_from_slice(&file);
-        Ok(file.len())
+        put_file(&file, out)
+    }
+
+    fn made_file(&self, lexicon: &[u8], words: u32, start: u32, out: &mut [u8]) -> Result<usize, Refusal> {
+        let file = make(lexicon, words, start)?;
+        put_file(&file, out)
     }
 }
 
@@ -79,6 +91,10 @@ impl Calls for Reference {
 
     fn write_grammar(&self, heading: &Heading, records: &[u8], out: &mut [u8]) -> Answer {
         answer(self.written_file(heading, records, out))
+    }
+
+    fn make_grammar(&self, lexicon: &[u8], words: u32, start: u32, out: &mut [u8]) -> Answer {
+        answer(self.made_file(lexicon, words, start, out))
     }
 
     fn check_trace(&self, file: &[u8], sentence: &[u32], trace: &[u16]) -> Answer {

@@ -92,3 +92,64 @@ VP <- 4
 
 /// Small grammars with several analyses, empty words, empty components and components out of order.
 pub const SMALL: [&str; 8] = [COPY, PAIR, CROSSING, CHAIN, SILENT, SWAPPED, SHUFFLED, TWELVE];
+
+/// Example 2 of the source, section 3.1, a lexicon with the start category C.
+pub const KNOWS: &str = "
+Mary :: D
+John :: D
+who :: D -wh
+likes :: =D =D V
+knows :: =C =D V
+empty :: =V C
+empty :: =V +wh C
+";
+
+/// English questions, a lexicon with the start category C: an empty complementizer attracts the question word of an embedded question, and
+/// `does` that of a main one, whose verb then has no ending. Mary knows who John likes; who does Mary like.
+pub const QUESTION: &str = "
+empty :: =V C
+empty :: =V +wh Q
+does :: =I +wh C
+Mary :: D
+John :: D
+who :: D -wh
+likes :: =D =D V
+knows :: =Q =D V
+like :: =D =D I
+know :: =Q =D I
+";
+
+/// Lexicons with the start category c: trees that branch, with and without empty words, chains that move once and twice, past each other
+/// and along with what they are in, and expressions that end nowhere because of a chain without features, of one that begins with no
+/// licensee or of two that begin with the same.
+pub const LEXICONS: [&str; 9] = [
+    "a :: c\nb :: =c c\nempty :: =c c",
+    "a :: c\nb :: =c =c c",
+    "a :: d -w\nb :: =d +w c\nempty :: d -w\na :: d",
+    "a :: d -w -v\nb :: =d +w +v c\nb :: =d +w e\nempty :: =e +v c",
+    "a :: d -w -v\nb :: h -u\na :: =d =h +w +u +v c\nb :: =h =d +w +v +u c\nempty :: =d =h +u +w +v c",
+    "a :: d -v\nb :: =d e -w\na :: h -u\nb :: =h =e +u +w +v c\nempty :: h -u",
+    "a :: d -w\nb :: =d =d +w c\nb :: =d =d +w +w c\nempty :: d\na :: d -v\nb :: =d +v d",
+    "a :: c\nb :: =c\na :: c =c\nb :: =c c -w\nempty :: =c +w c\nb :: c c",
+    "a :: c -w\nb :: =c c -w\na :: =c +w c\nb :: =c +w c -v\nempty :: =c +v c",
+];
+
+/// The entries of a lexicon with the start category 1 that makes 236 rules and 61 categories, with so many more words of its category 1, a
+/// rule each, and so many entries that are in no other rule, a rule and a category each: 64 categories and 256 rules of 17 and 3.
+///
+/// It has 1, 1 -u, 1 -v, 1 -w, =1 1, =1 =1 1 and =1 =1 =1 1. The 16 rows of different licensees are the moving chains of categories
+/// <0, 1, ..>, <0, =1 1, ..> and <0, =1 =1 1, ..>: 48 categories. Each of the three entries that select merges with <1, 1>, with 16
+/// categories <0, 1, ..> and with three entries that then move: 60 rules. Each row can be cut in two in one more way than it has chains: 49
+/// ways, by which a category <0, =1 .., ..> merges with one <0, 1, ..>; 16 such categories merge with <1, 1>, and 15 times one of them
+/// merges with an entry that then moves: 160 rules of two heads. With the seven entries, the new start and its two rules these are 229
+/// rules and 56 categories.
+///
+/// 3 -u and =3 +u 1 are four rules and three categories more, 2 and =2 1 are three rules and two categories.
+pub fn full_lexicon(words: usize, others: usize) -> Vec<u8> {
+    let rows: [&[u8]; 11] =
+        [&[1], &[1, 49], &[1, 50], &[1, 51], &[17, 1], &[17, 17, 1], &[17, 17, 17, 1], &[3, 49], &[19, 33, 1], &[2], &[18, 1]];
+    let entry = |word: usize, row: &[u8]| [&[word as u8, 0], row, &[0; 6][row.len()..]].concat();
+    let others = (0..others).map(|other| entry(0, &[4 + other as u8]));
+    let words = (1..=words).map(|word| entry(word, &[1]));
+    rows.into_iter().map(|row| entry(0, row)).chain(others).chain(words).flatten().collect()
+}

@@ -1,0 +1,46 @@
+/* Makes the grammar file of a lexicon of features, from the file with its entries, its word count and its start category: writes the grammar file to standard
+ * output, or prints R with the number and the place of the refusal. ROOM is the length of the output that the library is lent; without it there is room for
+ * every grammar file.
+ *
+ *     cc -Iinclude examples/make_grammar.c target/staticlib/libdowngrater.a -o make_grammar && ./make_grammar examples/question/lexicon 8 1 >grammar */
+#include "downgrater.h"
+
+#include <stdio.h>
+#include <stdlib.h>
+
+/* Of entries one byte more than a lexicon can have, so that one that is too long is refused. */
+enum { ENTRIES = 32 * 8 + 1, FILE_LENGTH = 14 * 512 };
+
+/* The number as it is written, or the largest of 32 bits, which is no word count, start category or room. */
+static uint32_t number(const char *text)
+{
+    char *end;
+    unsigned long long n = strtoull(text, &end, 10);
+    return *text < '0' || *text > '9' || *end || n > UINT32_MAX ? UINT32_MAX : (uint32_t)n;
+}
+
+int main(int argc, char **argv)
+{
+    if (argc < 4 || argc > 5) {
+        fprintf(stderr, "make_grammar LEXICON WORDS START [ROOM]\n");
+        return 1;
+    }
+    FILE *file = fopen(argv[1], "rb");
+    if (!file) {
+        perror(argv[1]);
+        return 1;
+    }
+    static uint8_t lexicon[ENTRIES], grammar[FILE_LENGTH];
+    size_t length = fread(lexicon, 1, sizeof lexicon, file);
+    fclose(file);
+    uint32_t room = argc > 4 ? number(argv[4]) : FILE_LENGTH;
+    if (room > FILE_LENGTH)
+        room = FILE_LENGTH;
+
+    uint64_t answer = dg_make_grammar(lexicon, length, number(argv[2]), number(argv[3]), grammar, room);
+    if (dg_refused(answer))
+        printf("R %u %u\n", dg_number(answer), (unsigned)dg_place(answer));
+    else
+        fwrite(grammar, 1, dg_value(answer), stdout);
+    return 0;
+}
