@@ -2,7 +2,7 @@
  * output, or prints R with the number and the place of the refusal. ROOM is the length of the output that the library is lent; without it there is room for
  * every grammar file.
  *
- *     cc -Iinclude examples/make_grammar.c target/staticlib/libdowngrater.a -o make_grammar && ./make_grammar examples/question/lexicon 8 1 >grammar */
+ *     cc -Iinclude examples/make_grammar.c target/staticlib/libdowngrater.a -o make_grammar && ./make_grammar examples/question/lexicon 8 2 >grammar */
 #include "downgrater.h"
 
 #include <stdio.h>

@@ -123,11 +123,13 @@ moveCode t [] = 33 + t
 moveCode t (m ∷ []) = 33 + t
 moveCode t (m ∷ f ∷ β) = 41 + t
 
+-- the place of the chain that moves
+abbrev pub moverOf : Form → ℕ
+moverOf a = placeIn (getD (a .head) 0 0 + 16) (map (λ c. getD c 0 0) (a .moving))
+
 abbrev pub MoveIs : Form → Option Instance → ℕ → List ℕ → Type 0
 MoveIs a none r after = r ≡ 0
-MoveIs a (some s) r after =
-    (r ≡ moveCode (placeIn (getD (a .head) 0 0 + 16) (map (λ c. getD c 0 0) (a .moving))) (getD (a .moving) (placeIn (getD (a .head) 0 0 + 16) (map (λ c. getD c 0 0) (a .moving))) []))
-    × (after ≡ rowOf (s .result))
+MoveIs a (some s) r after = (r ≡ moveCode (moverOf a) (getD (a .moving) (moverOf a) [])) × (after ≡ rowOf (s .result))
 
 abbrev pub SaysMove : List ℕ → ℕ → List ℕ → Type 0
 SaysMove x r after = (a : Form) → Small a → x ≡ rowOf a → MoveIs a (moveScheme a) r after

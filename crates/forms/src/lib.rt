@@ -9,4 +9,6 @@ pub use forms::movers;
 pub use forms::put_entry_row;
 pub use forms::put_start_row;
 pub use merges::merge_rows;
+pub use moves::chain_in;
 pub use moves::move_row;
+pub use moves::scheme_in;

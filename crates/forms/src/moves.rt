@@ -1,6 +1,6 @@
 // The move of a form, as rows: the fourth and the fifth scheme.
 ghost use mathlib.Core.Path.{_≡_};
-ghost use Prim.Native.Nat.{_<_, _≤_};
+ghost use Prim.Native.Nat.{_<_, _≤_, _/_, _%_};
 ghost use lib.ListN.{length};
 ghost use Rattle.model.specs.Base.{occurrences};
 ghost use Rattle.forms.specs.Rows.{firstsIn, placeIn, landByte, stayByte, moveByte, FilledBy, SaysMove};
@@ -117,4 +117,18 @@ pub fn move_row(a: &[u8], row: &mut [u8]) -> u8
     }
     put_move(a, n, t, false, row);
     ((41 + t) % 256) as u8
+}
+
+// The scheme that a move's answer names.
+pub fn scheme_in(code: u8) -> u8
+    ensures { λ r. ⌜ r ≡ code / 8 ⌝ }
+{
+    code / 8
+}
+
+// The number of the chain that it names.
+pub fn chain_in(code: u8) -> u8
+    ensures { λ r. ⌜ r ≡ code % 8 ⌝ }
+{
+    code % 8
 }

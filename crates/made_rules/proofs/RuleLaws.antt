@@ -164,10 +164,11 @@ module _ {table x row : List ℕ} {n i code : ℕ} (hi : i < n) (ex : x ≡ rowA
         go forms t none w m = refl
         go forms t (some s) w m = rw (sym (left (s .result) (moved-small forms t s w) (m .1)) ∙ e)
 
-    pub move-rule : {before after : List ℕ} {k r c u : ℕ} → (code ≡ 0 → ⊥) → out ≡ false → c ≡ firstSame (rowAt table) row 0 n + 1 → u ≡ getD x 7 0
-        → AddsRule (Move c (i + 1) (code / 8) u (code % 8)) before k r after → Lists (withMove i) table n before k r after
-    move-rule {c = c} {u} d e is-number eu p =
-        lists-one table n (Move c (i + 1) (code / 8) u (code % 8)) p
+    pub move-rule : {before after : List ℕ} {k r c s u v : ℕ} → (code ≡ 0 → ⊥) → out ≡ false → c ≡ firstSame (rowAt table) row 0 n + 1 → s ≡ code / 8 → u ≡ getD x 7 0
+        → v ≡ code % 8 → AddsRule (Move c (i + 1) s u v) before k r after → Lists (withMove i) table n before k r after
+    move-rule {before} {after} {k} {r} {c} {s} {u} {v} d e is-number es eu ev p =
+        lists-one table n (Move c (i + 1) (code / 8) u (code % 8))
+        (subst (λ (q : ℕ). AddsRule (Move c (i + 1) (code / 8) u q) before k r after) ev (subst (λ (q : ℕ). AddsRule (Move c (i + 1) q u v) before k r after) es p))
         (λ forms t once. go forms t once (moveScheme (formAt forms i)) refl (move-is hi ex says forms t))
       where
         go : (forms : List Form) → Holds table n forms → Once forms → (o : Option Instance) → moveScheme (formAt forms i) ≡ o → MoveIs (formAt forms i) o code row

@@ -7,10 +7,12 @@ ghost use Rattle.made_rules.specs.Listed.{Lists, withMerge, withMerges, 
 use crate::numbers::number_of;
 use derivable::row_of;
 use forms::ROW;
+use forms::chain_in;
 use forms::left_out;
 use forms::merge_rows;
 use forms::move_row;
 use forms::movers;
+use forms::scheme_in;
 use made_records::MadeRule;
 use made_records::add_rule;
 
@@ -63,9 +65,9 @@ fn add_move_rule(table: &[u8], n: usize, i: usize, records: &mut [u8], k: usize)
         MadeRule::Move {
             category: number_of(table, n, &row),
             daughter: (i + 1) as u8,
-            scheme: code / 8,
+            scheme: scheme_in(code),
             chains: movers(a) as u8,
-            chain: code % 8,
+            chain: chain_in(code),
         },
     )
 }

@@ -43,11 +43,17 @@ add-t20 c = search needs
 cast-t21 : tie.Need-cast-t21
 cast-t21 c = search needs
 
+scheme-in-requires : tie.Need-scheme-in-requires
+scheme-in-requires c κs = search needs
+
 movers-requires : tie.Need-movers-requires
 movers-requires c κs = search needs
 
 cast-t24 : tie.Need-cast-t24
 cast-t24 c = search needs
+
+chain-in-requires : tie.Need-chain-in-requires
+chain-in-requires c κs = search needs
 
 add-rule-requires : tie.Need-add-rule-requires
 add-rule-requires c κs = search needs
@@ -57,8 +63,9 @@ same-length c = search needs
 
 returns-3 : tie.Need-returns-3
 returns-3 c =
-    let a = c .before .before .before .before .before .before .before .before .before .before .before .before .before .before .before .before .before .args in
-    move-rule {n = a .n} {i = a .i} (omega arith) (c .before .before .before .before .before .before .before .before .before .before .before .before .before .before .row-of .ensures) (c .before .before .before .before .before .before .before .before .before .before .before .before .move-row .ensures) (c .before .before .before .before .before .before .before .before .left-out .ensures) (c .before .before .before .before .before .before .before .before .before .before .if1 .left) (c .before .before .before .before .before .before .before .if2 .left) (c .before .before .before .before .number-of .ensures) (c .before .before .before .movers .ensures .0) (c .before .before .add-rule .ensures)
+    let a = c .before .before .before .before .before .before .before .before .before .before .before .before .before .before .before .before .before .before .before .args in
+    move-rule {n = a .n} {i = a .i} (omega arith) (c .before .before .before .before .before .before .before .before .before .before .before .before .before .before .before .before .row-of .ensures) (c .before .before .before .before .before .before .before .before .before .before .before .before .before .before .move-row .ensures) (c .before .before .before .before .before .before .before .before .before .before .left-out .ensures) (c .before .before .before .before .before .before .before .before .before .before .before .before .if1 .left) (c .before .before .before .before .before .before .before .before .before .if2 .left)
+    (c .before .before .before .before .before .before .number-of .ensures) (c .before .before .before .before .before .scheme-in .ensures) (c .before .before .before .before .movers .ensures .0) (c .before .before .before .chain-in .ensures) (c .before .before .add-rule .ensures)
 
 pub add-move-rule-spec : {M : Type 1} → statement M
 add-move-rule-spec =
@@ -75,8 +82,10 @@ add-move-rule-spec =
     number-of-requires
     add-t20
     cast-t21
+    scheme-in-requires
     movers-requires
     cast-t24
+    chain-in-requires
     add-rule-requires
     same-length
     returns-3)
