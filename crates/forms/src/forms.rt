@@ -1,6 +1,6 @@
 // Forms as rows of 64 bytes: 8 cells of 8, the head's and those of the moving chains.
 ghost use mathlib.Core.Path.{_≡_};
-ghost use Prim.Native.Nat.{_+_, _-_, _*_, _<_};
+ghost use Prim.Native.Nat.{_-_, _<_};
 ghost use lib.ListN.{length, getD};
 ghost use Rattle.minimalist.specs.Lexicon.{entryOf};
 ghost use Rattle.minimalist.specs.Schemes.{lexicalForm};
@@ -11,8 +11,13 @@ use grammar::fields;
 use lexicon::before_zero;
 use lexicon::is_licensee;
 
-// The bytes of a row.
+// The bytes of a row, and of a cell of it.
 pub const ROW: usize = 64;
+pub const CELL: usize = 8;
+
+// The bytes of the head's cell that say whether the form is lexical, and how many chains move.
+pub const LEXICAL: usize = 6;
+pub const MOVERS: usize = 7;
 
 // Byte p of the row of an entry's lexical form, from its 6 feature bytes, of which n are features.
 fn entry_byte(six: &[u8], n: usize, p: usize) -> u8
@@ -21,7 +26,7 @@ fn entry_byte(six: &[u8], n: usize, p: usize) -> u8
     if p < n {
         return byte(six, p);
     }
-    if p == 6 {
+    if p == LEXICAL {
         return 1;
     }
     0
@@ -48,7 +53,7 @@ fn start_byte(start: u8, lexical: bool, p: usize) -> u8
     if p == 0 {
         return start;
     }
-    if p == 6 {
+    if p == LEXICAL {
         if lexical {
             return 1;
         }
@@ -73,7 +78,7 @@ pub fn put_start_row(start: u8, lexical: bool, row: &mut [u8])
 pub fn movers(row: &[u8]) -> usize
     ensures { λ n. ⌜ (n ≡ getD (now (row .entry)) 7 0) × (n < 256) ⌝ }
 {
-    byte(row, 7) as usize
+    byte(row, MOVERS) as usize
 }
 
 // Whether a moving chain from chain k on, of n, begins with the byte m.
@@ -83,7 +88,7 @@ fn begins_later(row: &[u8], k: usize, n: usize, m: u8) -> bool
 {
     let mut j = k;
     while j < n {
-        if m == byte(row, 8 * (j + 1)) {
+        if m == byte(row, CELL * (j + 1)) {
             return true;
         }
         j += 1;
@@ -98,7 +103,7 @@ fn wrong_moving(row: &[u8], n: usize) -> bool
 {
     let mut k: usize = 0;
     while k < n {
-        let m = byte(row, 8 * (k + 1));
+        let m = byte(row, CELL * (k + 1));
         if !is_licensee(m) {
             return true;
         }

@@ -3,6 +3,9 @@ ghost use mathlib.Core.Path.{_≡_};
 ghost use Prim.Native.Nat.{_<_, _≤_};
 ghost use lib.ListN.{length};
 ghost use Rattle.forms.specs.Rows.{restByte, goingByte, lateByte, mergeByte, FilledBy, SaysMerge};
+use crate::forms::CELL;
+use crate::forms::LEXICAL;
+use crate::forms::MOVERS;
 use crate::forms::ROW;
 use crate::forms::movers;
 use grammar::byte;
@@ -15,7 +18,7 @@ pub fn rest_byte(a: &[u8], n: usize, p: usize) -> u8
     if p < 5 {
         return byte(a, p + 1);
     }
-    if p == 7 {
+    if p == MOVERS {
         return (n % 256) as u8;
     }
     0
@@ -27,7 +30,7 @@ fn going_byte(b: &[u8], k: usize, x: usize) -> u8
     ensures { λ r. ⌜ r ≡ goingByte (now (b .entry)) k x ⌝ }
 {
     if 0 < k {
-        return byte(b, 8 * k + x);
+        return byte(b, CELL * k + x);
     }
     if x < 5 {
         return byte(b, x + 1);
@@ -51,13 +54,13 @@ fn merge_byte(a: &[u8], b: &[u8], i: usize, j: usize, from: usize, p: usize) -> 
     requires { ⌜ (i < 256) × (j < 256) × (from ≤ 1) × (p < 64) ⌝ }
     ensures { λ r. ⌜ r ≡ mergeByte (now (a .entry)) (now (b .entry)) i j from p ⌝ }
 {
-    if p < 8 {
+    if p < CELL {
         return rest_byte(a, i + j + 1 - from, p);
     }
-    if p / 8 <= i {
+    if p / CELL <= i {
         return byte(a, p);
     }
-    late_byte(b, j, p / 8 - i - 1 + from, p % 8)
+    late_byte(b, j, p / CELL - i - 1 + from, p % CELL)
 }
 
 // Puts the row of a merge.
@@ -85,7 +88,7 @@ pub fn merge_rows(a: &[u8], b: &[u8], row: &mut [u8]) -> u8
         return 3;
     }
     put_merge(a, b, movers(a), movers(b), 1, row);
-    if byte(a, 6) == 1 {
+    if byte(a, LEXICAL) == 1 {
         return 1;
     }
     2

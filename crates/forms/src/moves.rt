@@ -4,6 +4,7 @@ ghost use Prim.Native.Nat.{_<_, _≤_, _/_, _%_};
 ghost use lib.ListN.{length};
 ghost use Rattle.model.specs.Base.{occurrences};
 ghost use Rattle.forms.specs.Rows.{firstsIn, placeIn, landByte, stayByte, moveByte, FilledBy, SaysMove};
+use crate::forms::CELL;
 use crate::forms::ROW;
 use crate::forms::movers;
 use crate::merges::rest_byte;
@@ -11,6 +12,10 @@ use grammar::byte;
 use grammar::less;
 use lexicon::PARTNER;
 use lexicon::is_licensor;
+
+// What a move of the first chain answers: 8 times the scheme's number, plus 1.
+const FIRST_LANDS: usize = 33;
+const FIRST_STAYS: usize = 41;
 
 // How many of the n moving chains begin with the byte m.
 fn how_many(row: &[u8], n: usize, m: u8) -> usize
@@ -20,7 +25,7 @@ fn how_many(row: &[u8], n: usize, m: u8) -> usize
     let mut found: usize = 0;
     let mut j: usize = 0;
     while j < n {
-        if m == byte(row, 8 * (j + 1)) {
+        if m == byte(row, CELL * (j + 1)) {
             found += 1;
         }
         j += 1;
@@ -35,7 +40,7 @@ fn first_begins(row: &[u8], n: usize, m: u8) -> usize
 {
     let mut j: usize = 0;
     while j < n {
-        if m == byte(row, 8 * (j + 1)) {
+        if m == byte(row, CELL * (j + 1)) {
             return j;
         }
         j += 1;
@@ -48,7 +53,7 @@ fn land_byte(a: &[u8], t: usize, p: usize) -> u8
     requires { ⌜ (8 ≤ p) × (p < 64) ⌝ }
     ensures { λ r. ⌜ r ≡ landByte (now (a .entry)) t p ⌝ }
 {
-    if p / 8 - 1 < t {
+    if p / CELL - 1 < t {
         return byte(a, p);
     }
     byte(a, p + 8)
@@ -59,10 +64,10 @@ fn stay_byte(a: &[u8], t: usize, p: usize) -> u8
     requires { ⌜ (8 ≤ p) × (p < 64) ⌝ }
     ensures { λ r. ⌜ r ≡ stayByte (now (a .entry)) t p ⌝ }
 {
-    if p / 8 - 1 != t {
+    if p / CELL - 1 != t {
         return byte(a, p);
     }
-    if p % 8 < 5 {
+    if p % CELL < 5 {
         return byte(a, p + 1);
     }
     0
@@ -73,7 +78,7 @@ fn move_byte(a: &[u8], n: usize, t: usize, ends: bool, p: usize) -> u8
     requires { ⌜ p < 64 ⌝ }
     ensures { λ r. ⌜ r ≡ moveByte (now (a .entry)) n t ends p ⌝ }
 {
-    if p < 8 {
+    if p < CELL {
         if ends {
             return rest_byte(a, less(n, 1), p);
         }
@@ -111,12 +116,12 @@ pub fn move_row(a: &[u8], row: &mut [u8]) -> u8
         return 0;
     }
     let t = first_begins(a, n, f + PARTNER);
-    if byte(a, 8 * (t + 1) + 1) == 0 {
+    if byte(a, CELL * (t + 1) + 1) == 0 {
         put_move(a, n, t, true, row);
-        return ((33 + t) % 256) as u8;
+        return ((FIRST_LANDS + t) % 256) as u8;
     }
     put_move(a, n, t, false, row);
-    ((41 + t) % 256) as u8
+    ((FIRST_STAYS + t) % 256) as u8
 }
 
 // The scheme that a move's answer names.
