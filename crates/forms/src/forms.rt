@@ -11,12 +11,16 @@ use grammar::fields;
 use lexicon::before_zero;
 use lexicon::is_licensee;
 
-// The bytes of a row, and of a cell of it.
+// The bytes of a row.
 pub const ROW: usize = 64;
+
+// The bytes of a cell of a row.
 pub const CELL: usize = 8;
 
-// The bytes of the head's cell that say whether the form is lexical, and how many chains move.
+// The byte of the head's cell that says whether the form is lexical.
 pub const LEXICAL: usize = 6;
+
+// The byte of the head's cell that says how many chains move.
 pub const MOVERS: usize = 7;
 
 // Byte p of the row of an entry's lexical form, from its 6 feature bytes, of which n are features.

@@ -13,8 +13,10 @@ use grammar::less;
 use lexicon::PARTNER;
 use lexicon::is_licensor;
 
-// What a move of the first chain answers: 8 times the scheme's number, plus 1.
+// What a move of the first chain answers by the fourth scheme: 8 times its number, plus 1.
 const FIRST_LANDS: usize = 33;
+
+// The same by the fifth scheme.
 const FIRST_STAYS: usize = 41;
 
 // How many of the n moving chains begin with the byte m.
