@@ -1,6 +1,6 @@
 /* Makes the grammar file of a lexicon of features, from the file with its entries, its word count and its start category: writes the grammar file to standard
- * output, or prints R with the number and the place of the refusal. ROOM is the length of the output that the library is lent; without it there is room for
- * every grammar file.
+ * output, or, with status 1, R with the number and the place of the refusal to standard error. ROOM is the length of the output that the library is lent; without
+ * it there is room for every grammar file.
  *
  *     cc -Iinclude examples/make_grammar.c target/staticlib/libdowngrater.a -o make_grammar && ./make_grammar examples/question/lexicon 8 2 >grammar */
 #include "downgrater.h"
@@ -11,7 +11,7 @@
 /* Of entries one byte more than a lexicon can have, so that one that is too long is refused. */
 enum { ENTRIES = 32 * 8 + 1, FILE_LENGTH = 14 * 512 };
 
-/* The number as it is written, or the largest of 32 bits, which is no word count, start category or room. */
+/* The number as it is written, or the largest of 32 bits, which is no word count and no start category, and as a room stands for that of every grammar file. */
 static uint32_t number(const char *text)
 {
     char *end;
@@ -38,9 +38,13 @@ int main(int argc, char **argv)
         room = FILE_LENGTH;
 
     uint64_t answer = dg_make_grammar(lexicon, length, number(argv[2]), number(argv[3]), grammar, room);
-    if (dg_refused(answer))
-        printf("R %u %u\n", dg_number(answer), (unsigned)dg_place(answer));
-    else
-        fwrite(grammar, 1, dg_value(answer), stdout);
+    if (dg_refused(answer)) {
+        fprintf(stderr, "R %u %u\n", dg_number(answer), (unsigned)dg_place(answer));
+        return 1;
+    }
+    if (fwrite(grammar, 1, dg_value(answer), stdout) != dg_value(answer) || fflush(stdout)) {
+        perror("make_grammar");
+        return 1;
+    }
     return 0;
 }

@@ -3,7 +3,7 @@ ghost use mathlib.Core.Path.{_≡_};
 ghost use Rattle.minimalist.specs.Lexicon.{featureOf, isFeature, selects, isLicensor, isLicensee};
 ghost use Rattle.lexicon.specs.Features.{asFeature, isCategory};
 
-// A selector or licensee is so far above its partner.
+// How far a selector or licensee is above its partner.
 pub const PARTNER: u8 = 16;
 
 // A feature: its kind, and a number that partners share.

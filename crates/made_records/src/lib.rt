@@ -6,13 +6,13 @@ ghost use Rattle.made_records.specs.Records.{single, pair, mergeShape, m
 use grammar::byte;
 use grammar::less;
 
-// At most so many rules; 1 more stands for too many.
+// The most rules; one more stands for too many.
 pub const RULES: usize = 256;
 
-// A record has so many bytes.
+// The bytes of a record.
 pub const RECORD: usize = 24;
 
-// All records have so many.
+// The bytes of the most records.
 pub const RECORDS: usize = 6144;
 
 // A rule of the made grammar.

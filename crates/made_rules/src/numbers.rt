@@ -8,7 +8,7 @@ use derivable::find_row;
 use derivable::row_of;
 use forms::movers;
 
-// There are at most so many categories.
+// The most categories.
 pub const CATEGORIES: usize = 64;
 
 // The number of the category whose form has this row; n + 1 if none of the n forms has it.

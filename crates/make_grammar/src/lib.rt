@@ -25,10 +25,10 @@ use model::Verdict;
 use reader::blocks_for;
 use writer::put_file;
 
-// At most so many categories beside the new start.
+// The most categories beside the new start.
 const FORMS: usize = 63;
 
-// That each element is below 256, which every list of bytes has, is said for the callers.
+// Tells its callers that every element is below 256; the answer is not used.
 fn known_bytes(bytes: &[u8]) -> u8
     ensures { λ r. ⌜ T (allBytes (now (bytes .entry))) ⌝ }
 {

@@ -1,5 +1,5 @@
 -- Minimalist derivations (W11-0605, section 3): expressions with their strings, merge and move, and the derivations that paper 6 of document 02 counts.
--- No grammar and no category is left out here.
+-- No grammar is named here, and no category is left out.
 -- Assumes nothing.
 use mathlib.Core.Path.{_≡_}
 use mathlib.Core.Bool.{Bool, true, false, _&&_, _||_}

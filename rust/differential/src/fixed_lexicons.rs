@@ -55,7 +55,7 @@ fn lengths(pair: &mut Pair) -> Done {
     }
     // as many bytes as a lexicon has, once the length is cut to 8 or 16 bits
     for length in [256 + 8, 65_536 + 8] {
-        pair.make_grammar(&Given { lexicon: vec![1; length], words: 40, start: 1 }, ROOM)?;
+        pair.make_grammar(&Given { lexicon: entry(0, &[1]).repeat(length / ENTRY), words: 40, start: 1 }, ROOM)?;
     }
     Ok(())
 }
@@ -122,11 +122,14 @@ fn limits(pair: &mut Pair) -> Done {
     Ok(())
 }
 
-/// Outputs of every length around that of the file, of accepted lexicons and of refused ones.
+/// Outputs of lengths around that of the file, of accepted lexicons and of refused ones; of one lexicon every length.
 fn outputs(pair: &mut Pair) -> Done {
     for given in samples().into_iter().chain([full(17, 3), full(0, 0)]) {
         let length = given.file().expect("a lexicon").len();
         for out in [0, 1, 511, 512, 1023, 1024, length - 512, length - 1, length, length + 1, length + 77, ROOM, ROOM + 1] {
+            pair.make_grammar(&given, out)?;
+        }
+        for out in if length == 1024 { 0..=length + 80 } else { 0..=0 } {
             pair.make_grammar(&given, out)?;
         }
         for out in [0, length - 1, length] {

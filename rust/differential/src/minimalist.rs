@@ -39,26 +39,25 @@ fn made(pair: &Pair, given: &Given) -> Option<Made> {
 }
 
 /// The count of a right sentence is the number of derivations that fit it and have fewer nodes than the limit, where neither takes too
-/// long: the tested side's count by its own file.
-fn as_derivations(pair: &mut Pair, given: &Given, made: &Made, sentence: &[u32], limits: (usize, u64)) -> Done {
+/// long: the tested side's count by its own file. Says whether they were compared.
+fn as_derivations(pair: &mut Pair, given: &Given, made: &Made, sentence: &[u32], limits: (usize, u64)) -> Result<bool, Difference> {
     let answer = pair.tested.count(&made.file, sentence, limits.0 as u64, limits.1);
     if answer == Answer::Refused(Refusal::desk(25)) {
-        return Ok(());
+        return Ok(false);
     }
-    let Some(derivations) = (pair.derivations)(&made.lexicon, sentence, limits.0, MOST_TRIES) else { return Ok(()) };
+    let Some(derivations) = (pair.derivations)(&made.lexicon, sentence, limits.0, MOST_TRIES) else { return Ok(false) };
     match answer {
         Answer::Counted { count, .. } if count as u64 == derivations => {
             pair.tally.add_derivations(derivations, is_unclear(sentence));
-            Ok(())
+            Ok(true)
         }
-        _ => {
-            let input = format!("sentence {}\nlimits {limits:?}\n{}", places(sentence), show_lexicon(given));
-            Err(Difference {
-                call: Call::MakeGrammar,
-                text: format!("the made grammar counts {answer:?}\nexpected {derivations}\n{input}"),
-            })
-        }
+        _ => Err(counted_otherwise(given, sentence, limits, &format!("the made grammar counts {answer:?}\nexpected {derivations}"))),
     }
+}
+
+fn counted_otherwise(given: &Given, sentence: &[u32], limits: (usize, u64), what: &str) -> Difference {
+    let input = format!("sentence {}\nlimits {limits:?}\n{}", places(sentence), show_lexicon(given));
+    Difference { call: Call::MakeGrammar, text: format!("{what}\n{input}") }
 }
 
 /// Some sentences of a lexicon, with node limits around those of its derivations.
@@ -133,8 +132,10 @@ fn questions(pair: &mut Pair) -> Done {
         let given = Given::of_text(text, "C");
         let Some(made) = made(pair, &given) else { continue };
         let sentence: Vec<u32> = sentence.iter().map(|&(lowest, highest)| words(lowest, highest)).collect();
-        for node_limit in [8, 9, 14, 15] {
-            as_derivations(pair, &given, &made, &sentence, (node_limit, 100_000))?;
+        for limits in [8, 9, 14, 15].map(|node_limit| (node_limit, 100_000)) {
+            if !as_derivations(pair, &given, &made, &sentence, limits)? {
+                return Err(counted_otherwise(&given, &sentence, limits, "the count is not compared with the derivations"));
+            }
         }
     }
     Ok(())

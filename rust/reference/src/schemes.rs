@@ -7,7 +7,7 @@ use crate::lexicon::{Feature, Lexicon};
 /// A row of features.
 pub type Chain = Vec<Feature>;
 
-/// "a category is a tuple <x, d0, d1, .., dj>": whether x is 1, the head's chain, and then the moving chains. Moving chains in another
+/// "a category is a tuple" <x, d0, d1, .., dj>: whether x is 1, the head's chain, and then the moving chains. Moving chains in another
 /// order are another category.
 #[derive(Clone, Debug, PartialEq, Eq)]
 pub struct Tuple {

@@ -2,7 +2,7 @@
 //! the places of 10, the limits of 31, 23, and derivations counted by hand and beside the counts of the made grammars.
 
 use reference::file::read;
-use reference::grammar::Grammar;
+use reference::grammar::{Grammar, Variable};
 use reference::lexicon::{read_lexicon, Feature, Lexicon};
 use reference::lexicon_notation::WrittenLexicon;
 use reference::made::{named_grammar, Excess, Name, NamedRule};
@@ -133,7 +133,7 @@ fn start_forms() {
         let written = WrittenLexicon::new(text);
         assert_eq!(answer_to(&written.bytes, 2, written.category("c")), Err(refused(31, 0)), "{text}");
     }
-    // the grammar is the same but for the start
+    // with another start there are as many rules
     assert_eq!(made("a :: c\nb :: =c d", "c").rules.len(), made("a :: c\nb :: =c d", "d").rules.len());
 }
 
@@ -231,7 +231,10 @@ fn the_example_of_the_source() {
     let select_v = Feature::Selector(written.category("V") as u8);
     let derived = |feature: Feature| Tuple { lexical: false, chains: vec![vec![feature]] };
     let daughters = vec![Tuple::of_entry(&[select_v, c]), derived(v)];
-    let rule = |instance: &Instance| instance.category == derived(c) && instance.daughters == daughters;
+    let string = |daughter| Variable { daughter, component: 0 };
+    let components = vec![vec![string(0), string(1)]];
+    let rule =
+        |instance: &Instance| instance.category == derived(c) && instance.daughters == daughters && instance.components == components;
     assert_eq!(grammar.rules.iter().filter(|known| matches!(known, NamedRule::Instance(known) if rule(known))).count(), 1);
     assert_eq!(grammar.categories.len(), 1 + 6 + 8);
     assert!(grammar.categories.contains(&Name::NewStart));

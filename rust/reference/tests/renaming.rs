@@ -10,20 +10,22 @@ fn grammar(text: &str) -> Grammar {
     read(&grammar_file(text)).unwrap()
 }
 
+/// The rule with other names for the categories.
+fn renamed(rule: &Rule, name: impl Fn(usize) -> usize) -> Rule {
+    let mut rule = Rule { category: name(rule.category), ..rule.clone() };
+    if let Body::Nonlexical { daughters, .. } = &mut rule.body {
+        daughters.iter_mut().for_each(|daughter| *daughter = name(*daughter));
+    }
+    rule
+}
+
 /// The category with number c gets the number (factor * c + shift) modulo the number of categories, and the rules stand in another order.
 fn renumbered(grammar: &Grammar, factor: usize, shift: usize) -> Grammar {
     let n = grammar.dimensions.len();
     let name = |c: usize| (factor * c + shift) % n;
     let mut dimensions = vec![0; n];
     (0..n).for_each(|c| dimensions[name(c)] = grammar.dimensions[c]);
-    let renamed = |rule: &Rule| {
-        let mut rule = Rule { category: name(rule.category), ..rule.clone() };
-        if let Body::Nonlexical { daughters, .. } = &mut rule.body {
-            daughters.iter_mut().for_each(|daughter| *daughter = name(*daughter));
-        }
-        rule
-    };
-    let mut rules: Vec<Rule> = grammar.rules.iter().map(renamed).collect();
+    let mut rules: Vec<Rule> = grammar.rules.iter().map(|rule| renamed(rule, name)).collect();
     let rule_count = rules.len();
     rules.rotate_left(shift % rule_count);
     rules.reverse();
@@ -43,10 +45,12 @@ fn other_numbers() {
                 // these names make the one grammar the other
                 assert_eq!(names[grammar.start], other.start);
                 assert!((0..n).all(|c| grammar.dimensions[c] == other.dimensions[names[c]]));
-                assert!(grammar
-                    .rules
-                    .iter()
-                    .all(|rule| other.rules.iter().any(|o| o.category == names[rule.category] && o.weight == rule.weight)));
+                let sorted = |mut rules: Vec<Rule>| {
+                    rules.sort();
+                    rules
+                };
+                let by_names = grammar.rules.iter().map(|rule| renamed(rule, |c| names[c])).collect();
+                assert_eq!(sorted(by_names), sorted(other.rules.clone()));
             }
         }
     }
