@@ -1,5 +1,8 @@
 //! The comparison shows that it can fail: every copy of the reference with a fault is found out, and the copies without one are not.
 
+use std::num::NonZero;
+use std::thread;
+
 use reference::Reference;
 
 use crate::cases::case;
@@ -19,20 +22,40 @@ pub fn self_test(seed: u64) -> bool {
         clean &= by.is_none();
         println!("{name}: {}", by.unwrap_or("no difference".to_string()));
     }
-    let (mut faults, mut missed) = (0, 0);
-    let mut add = |name: &str, by: Option<String>| {
-        faults += 1;
-        missed += by.is_none() as usize;
-        println!("{name}: {}", by.unwrap_or("NOT FOUND".to_string()));
-    };
-    for (name, copy) in faulty::faulty() {
-        add(name, found(Pair::new(copy.as_ref()), seed));
+    let faults = all_found(seed);
+    let missed = faults.iter().filter(|(_, by)| by.is_none()).count();
+    for (name, by) in &faults {
+        println!("{name}: {}", by.as_deref().unwrap_or("NOT FOUND"));
     }
-    for (name, derivations) in faulty::faulty_derivations() {
-        add(name, found(Pair { derivations, ..Pair::new(&Reference) }, seed));
-    }
-    println!("{} of {faults} faults found", faults - missed);
+    println!("{} of {} faults found", faults.len() - missed, faults.len());
     clean && missed == 0
+}
+
+/// Each fault in words, in the order of the list, with the first input that finds it. The faults are dealt out to as many threads as there
+/// are processors.
+fn all_found(seed: u64) -> Vec<(&'static str, Option<String>)> {
+    let threads = thread::available_parallelism().map_or(1, NonZero::get);
+    let mut faults: Vec<(usize, &str, Option<String>)> = thread::scope(|scope| {
+        let parts: Vec<_> = (0..threads).map(|part| scope.spawn(move || found_in_part(seed, part, threads))).collect();
+        parts.into_iter().flat_map(|part| part.join().expect("the comparison does not panic")).collect()
+    });
+    faults.sort_by_key(|&(number, ..)| number);
+    faults.into_iter().map(|(_, name, by)| (name, by)).collect()
+}
+
+/// The faults of one part of so many, each with its number in the list.
+fn found_in_part(seed: u64, part: usize, parts: usize) -> Vec<(usize, &'static str, Option<String>)> {
+    let is_of_part = |number: usize| number % parts == part;
+    let (calls, counts) = (faulty::faulty(), faulty::faulty_derivations());
+    let first_count = calls.len();
+    let mut faults = Vec::new();
+    for (number, (name, copy)) in calls.into_iter().enumerate().filter(|&(number, _)| is_of_part(number)) {
+        faults.push((number, name, found(Pair::new(copy.as_ref()), seed)));
+    }
+    for (number, (name, derivations)) in (first_count..).zip(counts).filter(|&(number, _)| is_of_part(number)) {
+        faults.push((number, name, found(Pair { derivations, ..Pair::new(&Reference) }, seed)));
+    }
+    faults
 }
 
 /// The first input that finds a difference, in words.
