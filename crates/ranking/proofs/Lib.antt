@@ -1,0 +1,13 @@
+pub mod Places
+pub mod Held
+pub mod Sorted
+pub mod Gaps
+pub mod Steps
+pub mod Alike
+pub mod DigitCalls
+pub mod RanksAgree
+pub mod Bounds
+pub mod Limits
+pub mod Marks
+pub mod Moving
+pub mod Numbered

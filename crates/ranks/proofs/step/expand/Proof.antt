@@ -1,0 +1,149 @@
+-- `ranks::step::expand` meets its contract.
+-- Assumes nothing.
+use mathlib.Core.Path.{_≡_, sym, ap, ap₂, subst, subst⁻¹, _∙_}
+use mathlib.Core.List.{List, [], _∷_, _++_, map}
+use Prim.Native.Nat.{ℕ, _+_, _-_}
+use native.Mathlib.Omega.{arith}
+use borrow.Author.Needs.{needs}
+use lib.ListN.{length, take}
+use lib.Seq.{slice}
+use Rattle.ranking.specs.Ranks.{shifted}
+use Rattle.ranks.specs.Prediction.{remade}
+use Rattle.ranks.specs.Queue.{Steps, Next}
+use Rattle.ranks.specs.Step.{expanded, WideStep}
+use Rattle.ranks.proofs.Expanding.{narrow-at, wide-at, cells-at, daughters-at, step-fits, short, behind, end-is, wide-step, wide-is, ready-small, length-at, narrow-written}
+use Rattle.ranks.proofs.step.expand.Statement.{statement}
+use Rattle.ranks.proofs.step.expand.Tie as tie
+
+-- what is written, and needed, under other names
+next-as : (w w′ : List ℕ) (to : ℕ) {l m : List ℕ} {e f : ℕ} → l ≡ m → e ≡ f → Next l w w′ to e → Next m w w′ to f
+next-as w w′ to {m = m} {e = e} p q h = subst (λ (x : ℕ). Next m w w′ to x) q (subst (λ (x : List ℕ). Next x w w′ to e) p h)
+
+wide-as : (t : List ℕ) (mark : ℕ) (w : List ℕ) (from to : ℕ) {i j n m : ℕ} → i ≡ j → n ≡ m → WideStep t i n mark w from to → WideStep t j m mark w from to
+wide-as t mark w from to {j = j} {n = n} p q h = subst (λ (x : ℕ). WideStep t j x mark w from to) q (subst (λ (x : ℕ). WideStep t x n mark w from to) p h)
+
+place-of-requires : tie.Need-place-of-requires
+place-of-requires c κs = search needs
+
+
+daughters-requires : tie.Need-daughters-requires
+daughters-requires c κs =
+    let s = c .before in
+    let a = s .args in
+    let p = s .pre in
+    cells-at (p .grammar) (a .t .now) (a .w .now) (a .r .0) (a .mark) (a .from) (a .to) (p .expands) (c .place-of .result) (c .place-of .ensures)
+
+narrow-requires : tie.Need-narrow-requires
+narrow-requires c κs =
+    let s = c .before .before in
+    let a = s .args in
+    let p = s .pre in
+    cells-at (p .grammar) (a .t .now) (a .w .now) (a .r .0) (a .mark) (a .from) (a .to) (p .expands) (c .before .place-of .result) (c .before .place-of .ensures)
+
+first-length-requires : tie.Need-first-length-requires
+first-length-requires c κs =
+    let s = c .before .before .before .before in
+    let a = s .args in
+    let p = s .pre in
+    cells-at (p .grammar) (a .t .now) (a .w .now) (a .r .0) (a .mark) (a .from) (a .to) (p .expands) (c .before .before .before .place-of .result) (c .before .before .before .place-of .ensures)
+
+ready-made-requires : tie.Need-ready-made-requires
+ready-made-requires c κs =
+    let s = c .before .before .before .before .before in
+    let a = s .args in
+    let p = s .pre in
+    let at = c .before .before .before .before .place-of in
+    let is-one = narrow-at (p .grammar) (a .t .now) (a .w .now) (a .r .0) (a .mark) (a .from) (a .to) (p .expands) (at .result) (at .ensures) (c .before .before .narrow .result) (c .before .before .narrow .ensures) (c .before .if1 .taken) in
+    (cells-at (p .grammar) (a .t .now) (a .w .now) (a .r .0) (a .mark) (a .from) (a .to) (p .expands) (at .result) (at .ensures), omega arith, ready-small (p .grammar) (a .t .now) (a .w .now) (a .r .0) (a .mark) (a .from) (a .to) (p .expands) is-one (at .result) 0 (at .result + 2 + 0) (at .ensures) (omega arith) (omega arith), omega (arith, p .expands .small))
+
+ready-made-requires-2 : tie.Need-ready-made-requires-2
+ready-made-requires-2 c κs =
+    let s = c .before .before .before .before .before .before in
+    let a = s .args in
+    let p = s .pre in
+    let at = c .before .before .before .before .before .place-of in
+    let is-one = narrow-at (p .grammar) (a .t .now) (a .w .now) (a .r .0) (a .mark) (a .from) (a .to) (p .expands) (at .result) (at .ensures) (c .before .before .before .narrow .result) (c .before .before .before .narrow .ensures) (c .before .before .if1 .taken) in
+    (cells-at (p .grammar) (a .t .now) (a .w .now) (a .r .0) (a .mark) (a .from) (a .to) (p .expands) (at .result) (at .ensures), omega arith, ready-small (p .grammar) (a .t .now) (a .w .now) (a .r .0) (a .mark) (a .from) (a .to) (p .expands) is-one (at .result) 1 (at .result + 2 + 2) (at .ensures) (omega arith) (omega arith), omega (arith, p .expands .small))
+
+ready-made-requires-3 : tie.Need-ready-made-requires-3
+ready-made-requires-3 c κs =
+    let s = c .before .before .before .before .before .before .before in
+    let a = s .args in
+    let p = s .pre in
+    let at = c .before .before .before .before .before .before .place-of in
+    let is-one = narrow-at (p .grammar) (a .t .now) (a .w .now) (a .r .0) (a .mark) (a .from) (a .to) (p .expands) (at .result) (at .ensures) (c .before .before .before .before .narrow .result) (c .before .before .before .before .narrow .ensures) (c .before .before .before .if1 .taken) in
+    (cells-at (p .grammar) (a .t .now) (a .w .now) (a .r .0) (a .mark) (a .from) (a .to) (p .expands) (at .result) (at .ensures), omega arith, ready-small (p .grammar) (a .t .now) (a .w .now) (a .r .0) (a .mark) (a .from) (a .to) (p .expands) is-one (at .result) 2 (at .result + 2 + 4) (at .ensures) (omega arith) (omega arith), omega (arith, p .expands .small))
+
+expand-narrow-requires : tie.Need-expand-narrow-requires
+expand-narrow-requires c κs =
+    let s = c .before .before .before .before .before .before .before .before .before in
+    let a = s .args in
+    let p = s .pre in
+    let at = c .before .before .before .before .before .before .before .before .place-of in
+    let d = c .before .before .before .before .before .before .before .daughters in
+    let f = c .before .before .before .before .first-length in
+    let is-one = narrow-at (p .grammar) (a .t .now) (a .w .now) (a .r .0) (a .mark) (a .from) (a .to) (p .expands) (at .result) (at .ensures) (c .before .before .before .before .before .before .narrow .result) (c .before .before .before .before .before .before .narrow .ensures) (c .before .before .before .before .before .if1 .taken) in (
+      subst⁻¹ (λ (n : ℕ). Steps (a .w .now) (a .from) (a .to) n) (daughters-at (p .grammar) (a .t .now) (a .w .now) (a .r .0) (a .mark) (a .from) (a .to) (p .expands) (at .result) (d .result) (at .ensures) (d .ensures .0)) (step-fits (p .grammar) (a .t .now) (a .w .now) (a .r .0) (a .mark) (a .from) (a .to) (p .expands)),
+      short (p .grammar) (a .t .now) (a .w .now) (a .r .0) (a .mark) (a .from) (a .to) (p .expands),
+      behind (p .grammar) (a .t .now) (a .w .now) (a .r .0) (a .mark) (a .from) (a .to) (p .expands),
+      length-at (p .grammar) (a .t .now) (a .w .now) (a .r .0) (a .mark) (a .from) (a .to) (p .expands) is-one (at .result) (f .result) (at .ensures) (f .ensures),
+    )
+
+returns : tie.Need-returns
+returns c =
+    let a = c .before .before .before .before .before .before .before .before .before .before .args in
+    let at = c .before .before .before .before .before .before .before .before .before .place-of in
+    let d = c .before .before .before .before .before .before .before .before .daughters in
+    let f = c .before .before .before .before .before .first-length in
+    let d0 = c .before .before .before .before .ready-made in
+    let d1 = c .before .before .before .ready-made2 in
+    let d2 = c .before .before .ready-made3 in
+    record {
+      of-grammar = λ g h.
+          let n : d .result ≡ length (h .rule .daughters) = daughters-at g (a .t .now) (a .w .now) (a .r .0) (a .mark) (a .from) (a .to) h (at .result) (d .result) (at .ensures) (d .ensures .0) in
+          let is-one = narrow-at g (a .t .now) (a .w .now) (a .r .0) (a .mark) (a .from) (a .to) h (at .result) (at .ensures) (c .before .before .before .before .before .before .before .narrow .result) (c .before .before .before .before .before .before .before .narrow .ensures) (c .before .before .before .before .before .before .if1 .taken) in
+          next-as (a .w .now) (c .expand-narrow .last .0) (a .to)
+          (ap (λ (m : ℕ). take m (d0 .result ∷ (d1 .result ∷ (d2 .result ∷ []))) ++ map (remade (shifted (0 ∷ []) (f .result ∷ []))) (slice (a .from + 1) (a .to) (a .w .now))) n
+          ∙ narrow-written g (a .t .now) (a .w .now) (a .r .0) (a .mark) (a .from) (a .to) h is-one (at .result) (f .result) (d0 .result) (d1 .result) (d2 .result) (at .ensures) (f .ensures) (d0 .ensures) (d1 .ensures) (d2 .ensures))
+          (ap (λ (m : ℕ). a .to + m + (a .to - (a .from + 1))) n ∙ end-is g (a .t .now) (a .w .now) (a .r .0) (a .mark) (a .from) (a .to) h) (c .expand-narrow .ensures);
+    }
+
+expand-wide-requires : tie.Need-expand-wide-requires
+expand-wide-requires c κs =
+    let s = c .before .before .before .before .before in
+    let a = s .args in
+    let p = s .pre in
+    let at = c .before .before .before .before .place-of in
+    let d = c .before .before .before .daughters in
+    wide-as (a .t .now) (a .mark) (a .w .now) (a .from) (a .to) (sym (at .ensures)) (sym (daughters-at (p .grammar) (a .t .now) (a .w .now) (a .r .0) (a .mark) (a .from) (a .to) (p .expands) (at .result) (d .result) (at .ensures) (d .ensures .0)))
+    (wide-step (p .grammar) (a .t .now) (a .w .now) (a .r .0) (a .mark) (a .from) (a .to) (p .expands) (wide-at (p .grammar) (a .t .now) (a .w .now) (a .r .0) (a .mark) (a .from) (a .to) (p .expands) (at .result) (at .ensures) (c .before .before .narrow .result) (c .before .before .narrow .ensures) (c .before .if1 .left)))
+
+returns-2 : tie.Need-returns-2
+returns-2 c =
+    let a = c .before .before .before .before .before .before .args in
+    let at = c .before .before .before .before .before .place-of in
+    let d = c .before .before .before .before .daughters in
+    record {
+      of-grammar = λ g h.
+          let n : d .result ≡ length (h .rule .daughters) = daughters-at g (a .t .now) (a .w .now) (a .r .0) (a .mark) (a .from) (a .to) h (at .result) (d .result) (at .ensures) (d .ensures .0) in
+          let wide = wide-at g (a .t .now) (a .w .now) (a .r .0) (a .mark) (a .from) (a .to) h (at .result) (at .ensures) (c .before .before .before .narrow .result) (c .before .before .before .narrow .ensures) (c .before .before .if1 .left) in
+          next-as (a .w .now) (c .expand-wide .last .1 .1 .1 .1 .0) (a .to)
+          (ap₂ (λ (i m : ℕ). expanded (a .t .now) i m (a .mark) (a .w .now) (a .from) (a .to)) (at .ensures) n ∙ wide-is g (a .t .now) (a .w .now) (a .r .0) (a .mark) (a .from) (a .to) h wide)
+          (ap (λ (m : ℕ). a .to + m + (a .to - (a .from + 1))) n ∙ end-is g (a .t .now) (a .w .now) (a .r .0) (a .mark) (a .from) (a .to) h) (c .expand-wide .ensures);
+    }
+
+pub expand-spec : {M : Type 1} → statement M
+expand-spec =
+    tie.close
+    (tie.spec
+    place-of-requires
+    daughters-requires
+    narrow-requires
+    first-length-requires
+    ready-made-requires
+    ready-made-requires-2
+    ready-made-requires-3
+    expand-narrow-requires
+    returns
+    expand-wide-requires
+    returns-2)

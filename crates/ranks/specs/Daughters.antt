@@ -1,0 +1,33 @@
+-- The daughters of a nonlexical step.
+-- Assumes nothing.
+use mathlib.Core.Path.{_≡_}
+use mathlib.Core.List.{List, [], _∷_}
+use Prim.Native.Nat.{ℕ, _+_, _/_, _%_, _≤_, min}
+use lib.ListN.{getD}
+use Rattle.ranks.specs.Prediction.{Prediction, unpacked}
+use Rattle.ranks.specs.Queue.{insert, insertAll}
+
+-- a prediction of these ranks, otherwise as the packed one, with `mark` added to its number
+abbrev pub reranked : ℕ → ℕ → ℕ → ℕ → ℕ → ℕ → Prediction
+reranked cell mark r0 r1 r2 r3 = record { least = min (min r0 r1) (min r2 r3); number = mark + unpacked cell .number; category = unpacked cell .category; rank3 = r3; rank2 = r2; rank1 = r1; rank0 = r0 }
+
+-- A daughter from its two cells: `cell` is a packed prediction with positions for ranks, and `places` has, 8 times each, for each of its components the
+-- component of the front in which it stands. It begins where that component begins: bs are the ranks at which the front's components begin.
+abbrev pub daughter : List ℕ → ℕ → ℕ → ℕ → Prediction
+daughter bs cell places mark = reranked cell mark (getD bs (places / 8 % 4) 0 + unpacked cell .rank0) (getD bs (places / 64 % 4) 0 + unpacked cell .rank1) (getD bs (places / 512 % 4) 0 + unpacked cell .rank2) (getD bs (places / 4096 % 4) 0 + unpacked cell .rank3)
+
+-- `places` has at its end the dimension of the daughter; one with a single component repeats it
+pub record Alone (cell places : ℕ) : Type 0 where
+  pub least : unpacked cell .least ≡ 0
+  pub rank1 : unpacked cell .rank1 ≡ unpacked cell .rank0
+  pub rank2 : unpacked cell .rank2 ≡ unpacked cell .rank0
+  pub rank3 : unpacked cell .rank3 ≡ unpacked cell .rank0
+  pub place1 : places / 64 % 4 ≡ places / 8 % 4
+  pub place2 : places / 512 % 4 ≡ places / 8 % 4
+  pub place3 : places / 4096 % 4 ≡ places / 8 % 4
+
+-- three numbers in rising order, which together settle as x, y and z do
+pub record Rising (x y z low mid high : ℕ) : Type 0 where
+  pub first : low ≤ mid
+  pub second : mid ≤ high
+  pub same : (q : List ℕ) → insertAll (low ∷ (mid ∷ (high ∷ []))) q ≡ insertAll (x ∷ (y ∷ (z ∷ []))) q

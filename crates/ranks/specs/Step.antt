@@ -1,0 +1,84 @@
+-- A nonlexical step on the queue: the rule's cells in the table of rules.
+-- Assumes nothing.
+use mathlib.Core.Path.{_≡_}
+use mathlib.Core.Bool.{false}
+use mathlib.Core.Option.{some}
+use mathlib.Core.List.{List, [], _∷_, map}
+use Prim.Native.Nat.{ℕ, _+_, _-_, _<_, _≤_}
+use lib.ListN.{length, getD, take}
+use lib.Seq.{slice}
+use Rattle.ranks.specs.declared.moves.Moves.{Moves}
+use Rattle.model.specs.Grammar.{Rule, Grammar, ruleAt, isLexical}
+use Rattle.model.specs.WellFormed.{WellFormed}
+use Rattle.ranking.specs.Ranks.{Ranked, shifted, predictRanked}
+use Rattle.ranking.proofs.Limits.{Reached}
+use Rattle.ranking.proofs.Numbered.{Below}
+use Rattle.ranks.specs.Prediction.{Short, Behind, Apart, Sized, ranks, packed, unpacked, remade}
+use Rattle.ranks.specs.Queue.{room, Every, Steps, Next, insertAll}
+use Rattle.ranks.specs.Daughters.{daughter}
+use Rattle.ranks.specs.Moves.{movesRanks, movesLengths, gathered, lengthsOf, Bounded, begun, Begins}
+use Rattle.ranks.specs.Held.{numberOf, predictionOf, queueIn, Held}
+use Rattle.ranks.specs.Table.{cells, Compiled}
+
+-- Cell 1 of a rule has the lengths of its components; 2 and 3, 4 and 5, 6 and 7 are of its daughters
+abbrev pub frontMoves : List ℕ → ℕ → ℕ → Moves
+frontMoves t at front = gathered (ranks (unpacked front)) (lengthsOf (getD t (at + 1) 0))
+
+abbrev pub frontBegins : List ℕ → ℕ → ℕ → List ℕ
+frontBegins t at front = ranks (begun front (getD t (at + 1) 0))
+
+abbrev pub daughterAt : List ℕ → ℕ → ℕ → List ℕ → ℕ → ℕ
+daughterAt t i j bs mark = packed (daughter bs (getD t i 0) (getD t j 0) mark)
+
+-- the queue after a step on the queue from..to
+abbrev pub expanded : List ℕ → ℕ → ℕ → ℕ → List ℕ → ℕ → ℕ → List ℕ
+expanded t at n mark w from to =
+    insertAll (take n (daughterAt t (at + 2) (at + 3) (frontBegins t at (getD w from 0)) mark ∷ (daughterAt t (at + 4) (at + 5) (frontBegins t at (getD w from 0)) mark ∷ (daughterAt t (at + 6) (at + 7) (frontBegins t at (getD w from 0)) mark ∷ []))))
+    (map (remade (shifted (movesRanks (frontMoves t at (getD w from 0))) (movesLengths (frontMoves t at (getD w from 0))))) (slice (from + 1) to w))
+
+-- what the code of a wide step needs of the numbers
+pub record WideStep (t : List ℕ) (at n mark : ℕ) (w : List ℕ) (from to : ℕ) : Type 0 where
+  pub table : length t ≡ cells
+  pub rule : at + 8 ≤ cells
+  pub steps : Steps w from to n
+  pub some : 0 < n
+  pub short : Every Short w (from + 1) to
+  pub behind : Every Behind w (from + 1) to
+  pub apart : Every (Apart (movesRanks (frontMoves t at (getD w from 0))) (movesLengths (frontMoves t at (getD w from 0)))) w (from + 1) to
+  pub bounded : Bounded (frontMoves t at (getD w from 0))
+  pub begins : Begins (getD w from 0) (getD t (at + 1) 0)
+  pub first : 0 < n → Sized (daughter (frontBegins t at (getD w from 0)) (getD t (at + 2) 0) (getD t (at + 3) 0) mark)
+  pub second : 1 < n → Sized (daughter (frontBegins t at (getD w from 0)) (getD t (at + 4) 0) (getD t (at + 5) 0) mark)
+  pub third : 2 < n → Sized (daughter (frontBegins t at (getD w from 0)) (getD t (at + 6) 0) (getD t (at + 7) 0) mark)
+
+-- A nonlexical step by rule r can be made on the queue from..to: the table is the grammar's, the rule is one of the front's category, steps reach the queue, the
+-- next one has at most 64 predictions, and there is room for it behind. `mark` is the number of the first daughter, and others have numbers below it.
+pub record Expands (g : Grammar) (t : List ℕ) (r mark : ℕ) (w : List ℕ) (from to : ℕ) : Type 0 where
+  pub well : WellFormed g
+  pub compiled : Compiled g t
+  pub held : Held g w from to
+  pub predicted : from < to
+  pub rule : Rule
+  pub rule-is : ruleAt g r ≡ some rule
+  pub nonlexical : isLexical rule ≡ false
+  pub of-front : rule .category ≡ unpacked (getD w from 0) .category
+  pub words : List ℕ
+  pub reached : Reached g (record { queue = queueIn g w from to; words = words })
+  pub few : to - from - 1 + length (rule .daughters) ≤ 64
+  pub numbered : Below mark (queueIn g w from to)
+  pub small : mark + 3 ≤ 512
+  pub room-behind : to + 67 ≤ room
+
+-- the queue after the step by a rule
+abbrev pub expandedQueue : Grammar → Rule → ℕ → List ℕ → ℕ → ℕ → List (Ranked ℕ)
+expandedQueue g rule mark w from to = predictRanked (λ n j. mark + j) g rule (predictionOf g (getD w from 0)) (queueIn g w (from + 1) to)
+
+-- the next queue stands behind the queue, and before it nothing changes
+pub record Expanded (t : List ℕ) (r mark : ℕ) (w w′ : List ℕ) (from to : ℕ) : Type 0 where
+  pub of-grammar : (g : Grammar) (h : Expands g t r mark w from to)
+      → Next (map numberOf (expandedQueue g (h .rule) mark w from to)) w w′ to (to + (to - from - 1 + length (h .rule .daughters)))
+
+-- for some grammar it can be made
+pub record Expandable (t : List ℕ) (r mark : ℕ) (w : List ℕ) (from to : ℕ) : Type 0 where
+  pub grammar : Grammar
+  pub expands : Expands grammar t r mark w from to

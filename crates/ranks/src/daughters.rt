@@ -1,0 +1,70 @@
+// The daughters of a nonlexical step, as predictions of the next queue.
+ghost use mathlib.Core.Path.{_≡_};
+ghost use mathlib.Core.List.{[], _∷_};
+ghost use Prim.Native.Nat.{_+_, _<_, _≤_, min, max};
+ghost use lib.ListN.{length};
+ghost use Rattle.ranks.specs.Prediction.{Sized, packed};
+ghost use Rattle.ranks.specs.Daughters.{daughter, Rising};
+use crate::prediction::category;
+use crate::prediction::number;
+use crate::prediction::pack;
+use crate::prediction::rank;
+
+pub struct Three {
+    pub low: u64,
+    pub mid: u64,
+    pub high: u64,
+}
+
+// The smaller of two.
+pub fn smaller(x: u64, y: u64) -> u64
+    ensures { λ r. ⌜ r ≡ min x y ⌝ }
+{
+    if x < y { x } else { y }
+}
+
+// The larger of two.
+pub fn larger(x: u64, y: u64) -> u64
+    ensures { λ r. ⌜ r ≡ max x y ⌝ }
+{
+    if x < y { y } else { x }
+}
+
+// Three numbers in rising order.
+pub fn rising(x: u64, y: u64, z: u64) -> Three
+    ensures { λ r. ⌜ Rising x y z (r .low) (r .mid) (r .high) ⌝ }
+{
+    let a = smaller(x, y);
+    let b = larger(x, y);
+    let c = smaller(b, z);
+    Three {
+        low: smaller(a, c),
+        mid: larger(a, c),
+        high: larger(b, z),
+    }
+}
+
+// The daughter of these two cells, where the front's components begin at the ranks b. `mark` is added to its number.
+pub fn made(cell: u64, places: u64, b: &[u64; 4], mark: u64) -> u64
+    requires { ⌜ (length (now b) ≡ 4) × Sized (daughter (now b) cell places mark) ⌝ }
+    ensures { λ r. ⌜ r ≡ packed (daughter (now (b .entry)) cell places mark) ⌝ }
+{
+    let r0 = b[(places / 8 % 4) as usize] + rank(cell, 0);
+    let r1 = b[(places / 64 % 4) as usize] + rank(cell, 1);
+    let r2 = b[(places / 512 % 4) as usize] + rank(cell, 2);
+    let r3 = b[(places / 4096 % 4) as usize] + rank(cell, 3);
+    let least = smaller(smaller(r0, r1), smaller(r2, r3));
+    pack(least, mark + number(cell), category(cell), r3, r2, r1, r0)
+}
+
+// Daughter j of n, or 0 where there are not so many.
+pub fn made_if(j: usize, n: usize, cell: u64, places: u64, b: &[u64; 4], mark: u64) -> u64
+    requires { ⌜ (length (now b) ≡ 4) × (j < n → Sized (daughter (now b) cell places mark)) ⌝ }
+    ensures { λ r. ⌜ (j < n → r ≡ packed (daughter (now (b .entry)) cell places mark)) ⌝ }
+{
+    if j < n {
+        made(cell, places, b, mark)
+    } else {
+        0
+    }
+}

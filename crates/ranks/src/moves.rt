@@ -1,0 +1,131 @@
+// Which components of the front move the ranks of the queue: those whose lengths are not 1.
+ghost use mathlib.Core.Path.{_≡_};
+ghost use mathlib.Core.List.{[], _∷_};
+ghost use Prim.Native.Nat.{_+_, _<_, _≤_};
+ghost use Rattle.ranking.specs.Ranks.{shifted};
+ghost use Rattle.ranks.specs.Prediction.{ranks, unpacked, Short, Behind, Apart, remade};
+ghost use Rattle.ranks.specs.Queue.{Roomy, Every, Mapped};
+ghost use Rattle.ranks.specs.Moves.{movesRanks, movesLengths, withOne, gathered, lengthsOf, Bounded, begun, Begins};
+use crate::prediction::moved4;
+use crate::prediction::rank;
+use crate::queue::ROOM;
+use crate::queue::move1;
+use crate::queue::move3;
+use crate::queue::shift;
+
+// The component of rank 0 gives way to len0 variables, and the one of rank f1 to len1, and so on; where there is none the length is 1.
+pub struct Moves {
+    pub len0: u64,
+    pub f1: u64,
+    pub len1: u64,
+    pub f2: u64,
+    pub len2: u64,
+    pub f3: u64,
+    pub len3: u64,
+}
+
+// The highest rank: none lies above it.
+const HIGHEST: u64 = 255;
+// A length has 16 bits.
+const LENGTH: u64 = 65536;
+
+// m with a component of rank f and len variables.
+fn with_one(m: Moves, f: u64, len: u64) -> Moves
+    ensures { λ r. ⌜ r ≡ withOne m f len ⌝ }
+{
+    if len == 1 {
+        return m;
+    }
+    if f == 0 {
+        return Moves {
+            len0: len,
+            f1: m.f1,
+            len1: m.len1,
+            f2: m.f2,
+            len2: m.len2,
+            f3: m.f3,
+            len3: m.len3,
+        };
+    }
+    Moves {
+        len0: m.len0,
+        f1: f,
+        len1: len,
+        f2: m.f1,
+        len2: m.len1,
+        f3: m.f2,
+        len3: m.len2,
+    }
+}
+
+// Of the front, where the rule's components have these lengths.
+pub fn moves_of(front: u64, lens: u64) -> Moves
+    ensures { λ m. ⌜ m ≡ gathered (ranks (unpacked front)) (lengthsOf lens) ⌝ }
+{
+    let none = Moves {
+        len0: 1,
+        f1: HIGHEST,
+        len1: 1,
+        f2: HIGHEST,
+        len2: 1,
+        f3: HIGHEST,
+        len3: 1,
+    };
+    let m3 = with_one(none, rank(front, 3), lens / LENGTH / LENGTH / LENGTH);
+    let m2 = with_one(m3, rank(front, 2), lens / LENGTH / LENGTH % LENGTH);
+    let m1 = with_one(m2, rank(front, 1), lens / LENGTH % LENGTH);
+    with_one(m1, rank(front, 0), lens % LENGTH)
+}
+
+// The predictions from..to, which are behind the front, to `out` on.
+pub fn advance(w: &mut [u64; ROOM], from: usize, to: usize, out: usize, m: Moves)
+    requires { ⌜ Roomy (now w) from to out × Every Short (now w) from to × Every Behind (now w) from to × Every (Apart (movesRanks m) (movesLengths m)) (now w) from to × Bounded m ⌝ }
+    ensures { λ r. ⌜ Mapped (remade (shifted (movesRanks m) (movesLengths m))) (now (w .entry)) (now (w .exit)) from to out ⌝ }
+{
+    if m.len3 == 1 {
+        if m.len2 == 1 {
+            if m.len1 == 1 {
+                shift(w, from, to, out, m.len0);
+                return;
+            }
+            move1(w, from, to, out, m.len0, m.f1, m.len1);
+            return;
+        }
+    }
+    move3(
+        w,
+        from,
+        to,
+        out,
+        m.len0,
+        m.f1,
+        m.len1,
+        m.f2,
+        m.len2,
+        m.f3,
+        m.len3,
+    );
+}
+
+// The ranks at which the components of the front x begin after a step by a rule of these lengths.
+pub fn bases(x: u64, lens: u64) -> [u64; 4]
+    requires { ⌜ Begins x lens ⌝ }
+    ensures { λ b. ⌜ b ≡ ranks (begun x lens) ⌝ }
+{
+    let f0 = rank(x, 0);
+    let f1 = rank(x, 1);
+    let f2 = rank(x, 2);
+    let f3 = rank(x, 3);
+    let y = moved4(
+        x,
+        f0,
+        lens % LENGTH,
+        f1,
+        lens / LENGTH % LENGTH,
+        f2,
+        lens / LENGTH / LENGTH % LENGTH,
+        f3,
+        lens / LENGTH / LENGTH / LENGTH,
+    );
+    [rank(y, 0), rank(y, 1), rank(y, 2), rank(y, 3)]
+}

@@ -1,0 +1,162 @@
+// A prediction as one number: least rank, number, category, and the rank of each of 4 components, 9 bits each; the rank of component 0 stands again
+// where there is no component. How it is packed is known in this file alone. A rank is below 256: one bit of its 9 is free.
+ghost use mathlib.Core.Path.{_≡_};
+ghost use mathlib.Core.List.{[], _∷_};
+ghost use Prim.Native.Nat.{_+_, _<_, _≤_};
+ghost use lib.ListN.{getD};
+ghost use Rattle.ranking.specs.Ranks.{above, shifted};
+ghost use Rattle.ranks.specs.Table.{marked};
+ghost use Rattle.ranks.specs.Prediction.{Prediction, Short, Behind, Apart, Sized, Flags, ranks, packed, unpacked, marks, remade};
+
+// 1 in the place of each part.
+const LEAST: u64 = 2251799813685248;
+
+const NUMBER: u64 = 4398046511104;
+
+const CATEGORY: u64 = 68719476736;
+
+const RANK3: u64 = 134217728;
+
+const RANK2: u64 = 262144;
+
+const RANK1: u64 = 512;
+// 1 in the place of each rank, the least one's too.
+const ONES: u64 = 2251799948165633;
+// A rank's place has WIDTH bits, and LANE is above every number in it. The free bit is HIGH.
+const WIDTH: usize = 9;
+
+const LANE: u64 = 512;
+
+const HIGH: u64 = 256;
+
+const CATEGORIES: u64 = 64;
+
+// The prediction as a number.
+pub fn pack(least: u64, number: u64, category: u64, r3: u64, r2: u64, r1: u64, r0: u64) -> u64
+    requires { ⌜ Sized (record { least = least; number = number; category = category; rank3 = r3; rank2 = r2; rank1 = r1; rank0 = r0 }) ⌝ }
+    ensures { λ x. ⌜ x ≡ packed (record { least = least; number = number; category = category; rank3 = r3; rank2 = r2; rank1 = r1; rank0 = r0 }) ⌝ }
+{
+    least * LEAST
+        + number * NUMBER
+        + category * CATEGORY
+        + r3 * RANK3
+        + r2 * RANK2
+        + r1 * RANK1
+        + r0
+}
+
+// The prediction x with `mark` added to its number.
+pub fn marked(x: u64, mark: u64) -> u64
+    requires { ⌜ (x < 576460752303423488) × (mark < 512) ⌝ }
+    ensures { λ y. ⌜ y ≡ marked mark x ⌝ }
+{
+    x + mark * NUMBER
+}
+
+// Its least rank.
+pub fn least(x: u64) -> u64
+    ensures { λ l. ⌜ l ≡ unpacked x .least ⌝ }
+{
+    x / LEAST
+}
+
+// Its number.
+pub fn number(x: u64) -> u64
+    ensures { λ n. ⌜ n ≡ unpacked x .number ⌝ }
+{
+    x / NUMBER % LANE
+}
+
+// Its category.
+pub fn category(x: u64) -> u64
+    ensures { λ a. ⌜ a ≡ unpacked x .category ⌝ }
+{
+    x / CATEGORY % CATEGORIES
+}
+
+// The rank of component c.
+pub fn rank(x: u64, c: usize) -> u64
+    requires { ⌜ c < 4 ⌝ }
+    ensures { λ r. ⌜ r ≡ getD (ranks (unpacked x)) c 0 ⌝ }
+{
+    (x >> (WIDTH * c)) % LANE
+}
+
+// 1 in the place of each rank of x that lies above f.
+fn reached(x: u64, f: u64) -> u64
+    requires { ⌜ Short (unpacked x) × (f < 256) ⌝ }
+    ensures { λ t. ⌜ t ≡ packed (marks (above f 1) (unpacked x)) ⌝ }
+{
+    ((x + (HIGH - 1 - f) * ONES) / HIGH) & ONES
+}
+
+// len in the place of each 1 of t.
+fn spread(t: u64, len: u64) -> u64
+    requires { ⌜ Flags (unpacked t) × (len < 256) ⌝ }
+    ensures { λ y. ⌜ y ≡ packed (marks (above 0 len) (unpacked t)) ⌝ }
+{
+    (t * LANE - t) & (len * ONES)
+}
+
+// Each rank that lies above f has len - 1 more: where the component of rank f gives way to len variables.
+pub fn moved(x: u64, f: u64, len: u64) -> u64
+    requires { ⌜ Short (unpacked x) × (f < 256) × (len < 256) ⌝ }
+    ensures { λ y. ⌜ y ≡ remade (shifted (f ∷ []) (len ∷ [])) x ⌝ }
+{
+    let t = reached(x, f);
+    x + spread(t, len) - t
+}
+
+// The same for the front's component of rank 0 and one other, in a prediction that is not the front.
+pub fn moved1(x: u64, len0: u64, f1: u64, len1: u64) -> u64
+    requires { ⌜ Short (unpacked x) × Behind (unpacked x) × Apart (0 ∷ (f1 ∷ [])) (len0 ∷ (len1 ∷ [])) (unpacked x) × (len0 < 256) × (f1 < 256) × (len1 < 256) ⌝ }
+    ensures { λ y. ⌜ y ≡ remade (shifted (0 ∷ (f1 ∷ [])) (len0 ∷ (len1 ∷ []))) x ⌝ }
+{
+    let t1 = reached(x, f1);
+    x + len0 * ONES + spread(t1, len1) - t1 - ONES
+}
+
+// The same for the front's component of rank 0 and three others.
+pub fn moved3(x: u64, len0: u64, f1: u64, len1: u64, f2: u64, len2: u64, f3: u64, len3: u64) -> u64
+    requires { ⌜ Short (unpacked x) × Behind (unpacked x) × Apart (0 ∷ (f1 ∷ (f2 ∷ (f3 ∷ [])))) (len0 ∷ (len1 ∷ (len2 ∷ (len3 ∷ [])))) (unpacked x) × (len0 < 256) × (f1 < 256) × (len1 < 256) × (f2 < 256) × (len2 < 256) × (f3 < 256) × (len3 < 256) ⌝ }
+    ensures { λ y. ⌜ y ≡ remade (shifted (0 ∷ (f1 ∷ (f2 ∷ (f3 ∷ [])))) (len0 ∷ (len1 ∷ (len2 ∷ (len3 ∷ []))))) x ⌝ }
+{
+    let t1 = reached(x, f1);
+    let t2 = reached(x, f2);
+    let t3 = reached(x, f3);
+    x + len0 * ONES + spread(t1, len1) + spread(t2, len2) + spread(t3, len3) - t1 - t2 - t3 - ONES
+}
+
+// The same for the front's component of rank 0 alone: every rank of a prediction that is not the front has len0 - 1 more.
+pub fn shifted(x: u64, len0: u64) -> u64
+    requires { ⌜ Short (unpacked x) × Behind (unpacked x) × (len0 < 256) ⌝ }
+    ensures { λ y. ⌜ y ≡ remade (shifted (0 ∷ []) (len0 ∷ [])) x ⌝ }
+{
+    x + len0 * ONES - ONES
+}
+
+// Each rank where four components give way, the front's own among them.
+pub fn moved4(
+    x: u64,
+    f0: u64,
+    len0: u64,
+    f1: u64,
+    len1: u64,
+    f2: u64,
+    len2: u64,
+    f3: u64,
+    len3: u64,
+) -> u64
+    requires { ⌜ Short (unpacked x) × Apart (f0 ∷ (f1 ∷ (f2 ∷ (f3 ∷ [])))) (len0 ∷ (len1 ∷ (len2 ∷ (len3 ∷ [])))) (unpacked x) × (f0 < 256) × (len0 < 256) × (f1 < 256) × (len1 < 256) × (f2 < 256) × (len2 < 256) × (f3 < 256) × (len3 < 256) ⌝ }
+    ensures { λ y. ⌜ y ≡ remade (shifted (f0 ∷ (f1 ∷ (f2 ∷ (f3 ∷ [])))) (len0 ∷ (len1 ∷ (len2 ∷ (len3 ∷ []))))) x ⌝ }
+{
+    let t0 = reached(x, f0);
+    let t1 = reached(x, f1);
+    let t2 = reached(x, f2);
+    let t3 = reached(x, f3);
+    x + spread(t0, len0) + spread(t1, len1) + spread(t2, len2) + spread(t3, len3)
+        - t0
+        - t1
+        - t2
+        - t3
+}

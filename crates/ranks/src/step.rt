@@ -1,0 +1,131 @@
+// A nonlexical step on the queue.
+ghost use mathlib.Core.Path.{_≡_};
+ghost use mathlib.Core.List.{[], _∷_, _++_, map};
+ghost use Prim.Native.Nat.{_+_, _-_, _<_, _≤_};
+ghost use lib.ListN.{take};
+ghost use lib.Seq.{slice};
+ghost use Rattle.ranking.specs.Ranks.{shifted};
+ghost use Rattle.ranks.specs.Prediction.{Short, Behind, Apart, remade};
+ghost use Rattle.ranks.specs.Moves.{movesRanks, movesLengths, Bounded};
+ghost use Rattle.ranks.specs.Step.{expanded, WideStep, Expandable, Expanded};
+ghost use Rattle.ranks.specs.Queue.{Every, Gap, Placed, Steps, Next, insertAll};
+use crate::daughters::larger;
+use crate::daughters::made_if;
+use crate::daughters::rising;
+use crate::daughters::smaller;
+use crate::moves::Moves;
+use crate::moves::advance;
+use crate::moves::bases;
+use crate::moves::moves_of;
+use crate::queue::ROOM;
+use crate::queue::settle1;
+use crate::queue::settle2;
+use crate::queue::settle3;
+use crate::queue::shift;
+use crate::table::TABLE;
+use crate::table::daughters;
+use crate::table::first_length;
+use crate::table::narrow;
+use crate::table::place_of;
+use crate::table::ready_made;
+use model::RuleNumber;
+
+// A step by a rule of dimension 1. Its component has len variables, so the n daughters, the first n of d0, d1 and d2, hold the ranks below len, and every
+// other rank moves up by len - 1: the daughters come first, in their order. The next queue begins at `to`.
+pub fn expand_narrow(
+    w: &mut [u64; ROOM],
+    from: usize,
+    to: usize,
+    n: usize,
+    len: u64,
+    d0: u64,
+    d1: u64,
+    d2: u64,
+)
+    requires { ⌜ Steps (now w) from to n × Every Short (now w) (from + 1) to × Every Behind (now w) (from + 1) to × (len < 256) ⌝ }
+    ensures { λ r. ⌜ Next (take n (d0 ∷ (d1 ∷ (d2 ∷ []))) ++ map (remade (shifted (0 ∷ []) (len ∷ []))) (slice (from + 1) to (now (w .entry)))) (now (w .entry)) (now (w .exit)) to (to + n + (to - (from + 1))) ⌝ }
+{
+    w[to] = d0;
+    w[to + 1] = d1;
+    w[to + 2] = d2;
+    shift(w, from + 1, to, to + n, len);
+}
+
+// The n daughters, the first n of e0, e1 and e2, put in their places in the rising list of from + n .. end, which fills from..end then.
+fn settle_some(w: &mut [u64; ROOM], from: usize, end: usize, n: usize, e0: u64, e1: u64, e2: u64)
+    requires { ⌜ Gap (now w) from n end × (n ≤ 3) ⌝ }
+    ensures { λ r. ⌜ Placed (take n (e0 ∷ (e1 ∷ (e2 ∷ [])))) (now (w .entry)) (now (w .exit)) from n end ⌝ }
+{
+    if n == 1 {
+        settle1(w, from, end, e0);
+        return;
+    }
+    if n == 2 {
+        settle2(w, from, end, smaller(e0, e1), larger(e0, e1));
+        return;
+    }
+    let r = rising(e0, e1, e2);
+    settle3(w, from, end, r.low, r.mid, r.high);
+}
+
+// A step whose daughters are the first n of e0, e1 and e2, in any order: the others move as m says, and the daughters settle among them. The next queue
+// begins at `to`.
+fn replace(
+    w: &mut [u64; ROOM],
+    from: usize,
+    to: usize,
+    n: usize,
+    m: Moves,
+    e0: u64,
+    e1: u64,
+    e2: u64,
+)
+    requires { ⌜ Steps (now w) from to n × (0 < n) × Every Short (now w) (from + 1) to × Every Behind (now w) (from + 1) to × Every (Apart (movesRanks m) (movesLengths m)) (now w) (from + 1) to × Bounded m ⌝ }
+    ensures { λ r. ⌜ Next (insertAll (take n (e0 ∷ (e1 ∷ (e2 ∷ [])))) (map (remade (shifted (movesRanks m) (movesLengths m))) (slice (from + 1) to (now (w .entry))))) (now (w .entry)) (now (w .exit)) to (to + n + (to - (from + 1))) ⌝ }
+{
+    advance(w, from + 1, to, to + n, m);
+    settle_some(w, to, to + n + (to - (from + 1)), n, e0, e1, e2);
+}
+
+// A step by the rule whose cells begin at `at`, which has n daughters: the queue from..to to the one that begins at `to`. `mark` is added to the daughters'
+// numbers.
+pub fn expand_wide(
+    t: &[u64; TABLE],
+    at: usize,
+    n: usize,
+    mark: u64,
+    w: &mut [u64; ROOM],
+    from: usize,
+    to: usize,
+)
+    requires { ⌜ WideStep (now t) at n mark (now w) from to ⌝ }
+    ensures { λ r. ⌜ Next (expanded (now (t .entry)) at n mark (now (w .entry)) from to) (now (w .entry)) (now (w .exit)) to (to + n + (to - (from + 1))) ⌝ }
+{
+    let front = w[from];
+    let lens = t[at + 1];
+    let b = bases(front, lens);
+    let e0 = made_if(0, n, t[at + 2], t[at + 3], &b, mark);
+    let e1 = made_if(1, n, t[at + 4], t[at + 5], &b, mark);
+    let e2 = made_if(2, n, t[at + 6], t[at + 7], &b, mark);
+    let m = moves_of(front, lens);
+    replace(w, from, to, n, m, e0, e1, e2);
+}
+
+// A step by nonlexical rule r, which is of the category of the front of the queue from..to. The next queue is written from `to` on. The daughters have the
+// numbers `mark`, `mark` + 1 and `mark` + 2.
+pub fn expand(t: &[u64; TABLE], r: RuleNumber, mark: u64, w: &mut [u64; ROOM], from: usize, to: usize)
+    requires { ⌜ Expandable (now t) (r .0) mark (now w) from to ⌝ }
+    ensures { λ s. ⌜ Expanded (now (t .entry)) (r .0) mark (now (w .entry)) (now (w .exit)) from to ⌝ }
+{
+    let at = place_of(r);
+    let n = daughters(t, at);
+    if narrow(t, at) {
+        let len = first_length(t, at);
+        let d0 = ready_made(t, at, 0, mark);
+        let d1 = ready_made(t, at, 1, mark);
+        let d2 = ready_made(t, at, 2, mark);
+        expand_narrow(w, from, to, n, len, d0, d1, d2);
+        return;
+    }
+    expand_wide(t, at, n, mark, w, from, to);
+}
