@@ -32,7 +32,7 @@ use Rattle.ranks.proofs.Fitting.{all-fit}
 use Rattle.ranks.proofs.Numbers.{sized, unpacked-number, put-perm}
 use Rattle.ranks.proofs.Moved.{above-zero}
 use Rattle.ranks.proofs.Sorting.{insert-after}
-use Rattle.ranks.proofs.Fronts.{front-least}
+use Rattle.ranks.proofs.Scanning as alone
 use Rattle.ranks.proofs.Holding.{queue-length, queue-first, front-number, others-numbers, each-held}
 use Rattle.ranks.proofs.Predicting.{goesTo, daughters-are, others-short, others-behind, gathered-goes, gathered-fits, others-apart, begun-ranks, begun-components, front-begins, daughters-fit, predicted-numbers}
 use Rattle.ranks.proofs.Stepping.{take-same}
@@ -198,10 +198,10 @@ module _ (g : Grammar) (t w : List ℕ) (r mark from to : ℕ) (h : Expands g t 
   step-fits = record { long = h .held .long; some = h .predicted; few = few-daughters; fits = omega (arith, h .room-behind, queue-length g w from to (h .held), h .few, some-daughters) }
 
   pub short : places.Every Short w (from + 1) to
-  short = others Short (others-short g rule right (h .nonlexical) x R (h .words) reached fit (h .of-front))
+  short = others Short (others-short g x R (h .words) reached fit)
 
   pub behind : places.Every Behind w (from + 1) to
-  behind = others Behind (others-behind g rule right (h .nonlexical) x R (h .words) reached fit (h .of-front))
+  behind = others Behind (others-behind g x R (h .words) reached fit)
 
   pub end-is : to + length (rule .daughters) + (to - (from + 1)) ≡ to + (to - from - 1 + length (rule .daughters))
   end-is = omega (arith, h .predicted)
@@ -264,22 +264,17 @@ module _ (g : Grammar) (t w : List ℕ) (r mark from to : ℕ) (h : Expands g t 
 
   -- a rule of dimension 1: its front has rank 0 alone, and every other rank moves by the same
   module _ (is-one : dimensionIn t (8 * r) ≡ 1) where
-    alone : dimension g (rule .category) ≡ 1
-    alone = sym (cells .dimension-is) ∙ is-one
+    one-component : dimension g (rule .category) ≡ 1
+    one-component = sym (cells .dimension-is) ∙ is-one
 
     narrow : NarrowCells g rule t (8 * r)
     narrow = narrow-cells is-one
 
     front-alone : x .ranks ≡ 0 ∷ []
-    front-alone = go (x .ranks) (fit .0 .sized ∙ ap (dimension g) (sym (h .of-front)) ∙ alone) (front-least g x R (h .words) reached)
-      where
-        go : (rs : List ℕ) → length rs ≡ 1 → leastRank rs ≡ 0 → rs ≡ 0 ∷ []
-        go [] e z = absurd (omega arith)
-        go (a ∷ []) e z = ap (λ (n : ℕ). n ∷ []) z
-        go (a ∷ b ∷ rs) e z = absurd (omega arith)
+    front-alone = alone.front-alone g x R (h .words) reached (fit .0) (ap (dimension g) (sym (h .of-front)) ∙ one-component)
 
     lengths-alone : lengths rule ≡ getD (lengths rule) 0 0 ∷ []
-    lengths-alone = go (lengths rule) (length-map (rule .components) length ∙ right .components (h .nonlexical) ∙ alone)
+    lengths-alone = go (lengths rule) (length-map (rule .components) length ∙ right .components (h .nonlexical) ∙ one-component)
       where
         go : (ns : List ℕ) → length ns ≡ 1 → ns ≡ getD ns 0 0 ∷ []
         go [] e = absurd (omega arith)
@@ -305,7 +300,7 @@ module _ (g : Grammar) (t w : List ℕ) (r mark from to : ℕ) (h : Expands g t 
 
     -- the others, moved, are at least len on top
     others-above : Every (λ y. len * 2251799813685248 ≤ y) (map (remade (shifted (0 ∷ []) (len ∷ []))) (map numberOf R))
-    others-above = go R (fit .1) (others-behind g rule right (h .nonlexical) x R (h .words) reached fit (h .of-front))
+    others-above = go R (fit .1) (others-behind g x R (h .words) reached fit)
       where
         one : (p : Ranked ℕ) → Fits g p → 0 < leastRank (p .ranks) → len * 2251799813685248 ≤ remade (shifted (0 ∷ []) (len ∷ [])) (numberOf p)
         one p f k = omega (arith, remade-least (shifted (0 ∷ []) (len ∷ [])) (numberOf p), ap (λ (u : Prediction). u .least) (unpacked-number g p f), only (unpacked (numberOf p) .least) (omega (arith, ap (λ (u : Prediction). u .least) (unpacked-number g p f))))

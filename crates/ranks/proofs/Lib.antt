@@ -15,4 +15,5 @@ pub mod Numbers
 pub mod Fronts
 pub mod Holding
 pub mod Predicting
+pub mod Scanning
 pub mod Expanding

@@ -79,6 +79,18 @@ daughters-from g rule bs mark n j (d ∷ ds) h =
 pub daughters-are : (g : Grammar) (rule : Rule) (p : Ranked ℕ) (mark : ℕ) → expandRanked (λ m k. mark + k) g rule p ≡ daughtersOf g rule (p .ranks) mark
 daughters-are g rule p mark = daughters-from g rule (p .ranks) mark (p .node) 0 (rule .daughters) (λ i. let z : i ≡ 0 + i = omega arith in ap (λ (k : ℕ). getD (rule .daughters) k 0) z)
 
+-- those behind the front of a queue that steps reach
+module _ (g : Grammar) (x : Ranked ℕ) (R : List (Ranked ℕ)) (ws : List ℕ) (reached : Reached g (record { queue = x ∷ R; words = ws })) (fit : Every (Fits g) (x ∷ R)) where
+  pub others-short : Every (λ p. Short (inLanes p)) R
+  others-short = every-to (Fits g) (λ p. Short (inLanes p)) (λ p h. record { least = h .least-small; rank3 = h .small 3; rank2 = h .small 2; rank1 = h .small 1; rank0 = h .small 0 }) R (fit .1)
+
+  pub others-behind : Every (λ p. Behind (inLanes p)) R
+  others-behind =
+      every-mem (λ p. Behind (inLanes p)) R
+      (λ p m.
+      let k = mem-every (λ (y : Ranked ℕ). Every (λ r. 0 < r) (y .ranks)) R (others-positive x R (ranks-rising g (reached .0) (record { queue = x ∷ R; words = ws }) (reached .1))) p m in
+      each-lane g (λ r. 0 < r) p (mem-every (Fits g) R (fit .1) p m) (λ r n. mem-every (λ r. 0 < r) (p .ranks) k r n))
+
 -- of a front x with R behind it, which steps reach, and a nonlexical rule of its category
 module _ (g : Grammar) (rule : Rule) (right : RightRule g rule) (lex : isLexical rule ≡ false) (x : Ranked ℕ) (R : List (Ranked ℕ)) (ws : List ℕ)
     (reached : Reached g (record { queue = x ∷ R; words = ws })) (fit : Every (Fits g) (x ∷ R)) (of-front : rule .category ≡ x .category) where
@@ -93,16 +105,6 @@ module _ (g : Grammar) (rule : Rule) (right : RightRule g rule) (lex : isLexical
 
   pub others-moved : map (remade (goesTo rule x)) (map numberOf R) ≡ map numberOf (map (rerank (goesTo rule x)) R)
   others-moved = moved-numbers g (goesTo rule x) R (fit .1) least-goes
-
-  pub others-short : Every (λ p. Short (inLanes p)) R
-  others-short = every-to (Fits g) (λ p. Short (inLanes p)) (λ p h. record { least = h .least-small; rank3 = h .small 3; rank2 = h .small 2; rank1 = h .small 1; rank0 = h .small 0 }) R (fit .1)
-
-  pub others-behind : Every (λ p. Behind (inLanes p)) R
-  others-behind =
-      every-mem (λ p. Behind (inLanes p)) R
-      (λ p m.
-      let k = mem-every (λ (y : Ranked ℕ). Every (λ r. 0 < r) (y .ranks)) R (others-positive x R (ranks-rising g (reached .0) (record { queue = x ∷ R; words = ws }) (reached .1))) p m in
-      each-lane g (λ r. 0 < r) p (mem-every (Fits g) R (fit .1) p m) (λ r n. mem-every (λ r. 0 < r) (p .ranks) k r n))
 
   -- the front as a number, and the cell of the rule's lengths
   module _ (front cell : ℕ) (front-is : front ≡ numberOf x) (lens : RuleLengths rule cell) where

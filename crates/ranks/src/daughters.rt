@@ -54,7 +54,15 @@ pub fn made(cell: u64, places: u64, b: &[u64; 4], mark: u64) -> u64
     let r2 = b[(places / 512 % 4) as usize] + rank(cell, 2);
     let r3 = b[(places / 4096 % 4) as usize] + rank(cell, 3);
     let least = smaller(smaller(r0, r1), smaller(r2, r3));
-    pack(least, mark + number(cell), category(cell), r3, r2, r1, r0)
+    pack(
+        least,
+        mark + number(cell),
+        category(cell).0 as u64,
+        r3,
+        r2,
+        r1,
+        r0,
+    )
 }
 
 // Daughter j of n, or 0 where there are not so many.

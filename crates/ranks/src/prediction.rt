@@ -8,6 +8,8 @@ ghost use Rattle.ranking.specs.Ranks.{above, shifted};
 ghost use Rattle.ranks.specs.Table.{marked};
 ghost use Rattle.ranks.specs.Prediction.{Prediction, Short, Behind, Apart, Sized, Flags, ranks, packed, unpacked, marks, remade};
 
+use model::Category;
+
 // 1 in the place of each part.
 const LEAST: u64 = 2251799813685248;
 
@@ -68,10 +70,10 @@ pub fn number(x: u64) -> u64
 }
 
 // Its category.
-pub fn category(x: u64) -> u64
-    ensures { λ a. ⌜ a ≡ unpacked x .category ⌝ }
+pub fn category(x: u64) -> Category
+    ensures { λ a. ⌜ (a .0 ≡ unpacked x .category) × (a .0 < 64) ⌝ }
 {
-    x / CATEGORY % CATEGORIES
+    Category((x / CATEGORY % CATEGORIES) as u8)
 }
 
 // The rank of component c.

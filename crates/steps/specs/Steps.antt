@@ -4,10 +4,11 @@ use mathlib.Core.Path.{_≡_}
 use mathlib.Core.Option.{some}
 use mathlib.Core.List.{List}
 use Prim.Native.Nat.{ℕ, _+_, _-_, _*_, _<_, _≤_}
-use lib.Dec.{eqb}
+use lib.Dec.{eqb, ltb}
 use lib.ListN.{length, getD, take, drop}
 use Rattle.model.specs.Base.{if_then_else_}
 use Rattle.model.specs.Grammar.{Rule, Grammar, emptyWord, ruleAt}
+use Rattle.model.specs.Step.{wordFits}
 use Rattle.model.specs.WellFormed.{WellFormed}
 use Rattle.ranking.specs.Recognizer.{stops, goes}
 use Rattle.ranking.specs.Ranks.{RankedState, stepRanked}
@@ -18,6 +19,8 @@ use Rattle.ranks.specs.Prediction.{unpacked}
 use Rattle.ranks.specs.Held.{queueIn, Held}
 use Rattle.ranks.specs.Table.{Compiled, daughtersIn, wordIn}
 use Rattle.steps.specs.declared.Standing.{Standing}
+use Rattle.steps.specs.declared.Heard.{Heard}
+use Rattle.steps.specs.declared.Heard.the-variants.{Next, Other}
 use Rattle.steps.specs.declared.Stepped.{Stepped}
 use Rattle.steps.specs.declared.Stepped.the-variants.{Halts, Long, Leads}
 
@@ -50,20 +53,26 @@ pub record Fronted (g : Grammar) (w : List ℕ) (at : Standing) (r : ℕ) : Type
   pub rule-is : ruleAt g r ≡ some rule
   pub of-front : rule .category ≡ unpacked (getD w (at .from) 0) .category
 
--- how many words the step of rule r reads
+-- how many words are read after the word of a lexical rule, which must be the next one: it is where it fits the next place; the empty word takes none
+abbrev pub heardBy : ℕ → List ℕ → ℕ → Heard
+heardBy word sentence read =
+    if eqb word emptyWord then Next read
+    else if ltb read (length sentence) then (if wordFits word (getD sentence read 0) then Next (read + 1) else Other)
+    else Other
+
+-- how many words a word takes, and the step of rule r
+abbrev pub taken : ℕ → ℕ
+taken word = if eqb word emptyWord then 0 else 1
+
 abbrev pub readBy : List ℕ → ℕ → ℕ
-readBy t r = if eqb (daughtersIn t (8 * r)) 0 then (if eqb (wordIn t (8 * r)) emptyWord then 0 else 1) else 0
+readBy t r = if eqb (daughtersIn t (8 * r)) 0 then taken (wordIn t (8 * r)) else 0
 
 -- where the step of rule r leads, and where the recognizer stood before it
+abbrev pub aheadWith : List ℕ → Standing → ℕ → ℕ → Standing
+aheadWith t at r read = record { from = at .to; to = at .to + (at .to - at .from - 1 + daughtersIn t (8 * r)); read = read; steps = at .steps + 1; left = at .left - 1 }
+
 abbrev pub ahead : List ℕ → Standing → ℕ → Standing
-ahead t at r =
-    record {
-      from = at .to;
-      to = at .to + (at .to - at .from - 1 + daughtersIn t (8 * r));
-      read = at .read + readBy t r;
-      steps = at .steps + 1;
-      left = at .left - 1;
-    }
+ahead t at r = aheadWith t at r (at .read + readBy t r)
 
 abbrev pub behind : List ℕ → Standing → ℕ → Standing
 behind t at r =
@@ -74,6 +83,12 @@ behind t at r =
       steps = at .steps - 1;
       left = at .left + 1;
     }
+
+-- a step can be made from `at`, and its numbers are small
+pub record Advances (at : Standing) : Type 0 where
+  pub predicted : at .from < at .to
+  pub left : 1 ≤ at .left
+  pub small : (at .to ≤ 6272) × (at .steps ≤ 96)
 
 -- a step led to `at`: there was a prediction before it, and the numbers of the standing before it are none below 0
 pub record TakenBack (t : List ℕ) (at : Standing) (r : ℕ) : Type 0 where

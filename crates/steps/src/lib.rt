@@ -1,13 +1,19 @@
 // One step of the recognizer, whose predictions hold ranks: a rule number applied to the front prediction (document 01, "One step"; document 02, paper 7).
 ghost use mathlib.Core.Path.{_≡_};
-ghost use Prim.Native.Nat.{_<_};
+ghost use Prim.Native.Nat.{_*_, _<_};
 ghost use Rattle.model.specs.GrammarFile.{grammarOf};
-ghost use Rattle.steps.specs.Steps.{begin, Ready, Applies, Applied, StepSays, TakenBack, readBy, behind};
+ghost use Rattle.ranks.specs.Table.{daughtersIn};
+ghost use Rattle.steps.specs.Steps.{begin, Ready, Applies, Applied, StepSays, TakenBack, heardBy, readBy, Advances, aheadWith, behind};
 use grammar::rules;
 use model::EMPTY_WORD;
 use model::RuleNumber;
+use model::Word;
+use ranks::prediction::category;
 use ranks::queue::ROOM;
+use ranks::queue::scan;
+use ranks::step::expand;
 use ranks::table::TABLE;
+use ranks::table::category as category_in;
 use ranks::table::daughters;
 use ranks::table::place_of;
 use ranks::table::word;
@@ -72,4 +78,108 @@ pub fn back(t: &[u64; TABLE], at: Standing, r: RuleNumber) -> Standing
         steps: at.steps - 1,
         left: at.left + 1,
     }
+}
+
+// How many words are read after a word; or it is another word than the next one.
+enum Heard {
+    Next(usize),
+    Other,
+}
+
+// The word of a lexical rule must be the next one, which it is where it fits the next place; the empty word takes none.
+fn hear(word: Word, sentence: &[u32], read: usize) -> Heard
+    ensures { λ h. ⌜ h ≡ heardBy (word .0) (now (sentence .entry)) read ⌝ }
+{
+    if word.0 == EMPTY_WORD {
+        return Heard::Next(read);
+    }
+    if sentence.len() <= read {
+        return Heard::Other;
+    }
+    if fits(word, sentence[read]) {
+        return Heard::Next(read + 1);
+    }
+    Heard::Other
+}
+
+// Where the step of rule r leads, with so many words read.
+fn ahead(t: &[u64; TABLE], at: Standing, r: RuleNumber, read: usize) -> Standing
+    requires { ⌜ (r .0 < 256) × Advances at ⌝ }
+    ensures { λ s. ⌜ s ≡ aheadWith (now (t .entry)) at (r .0) read ⌝ }
+{
+    let d = daughters(t, place_of(r));
+    Standing {
+        from: at.to,
+        to: at.to + (at.to - at.from - 1 + d),
+        read,
+        steps: at.steps + 1,
+        left: at.left - 1,
+    }
+}
+
+// The step of lexical rule r, which is of the front's category: where its word is the next one, the front goes.
+fn lexical(
+    t: &[u64; TABLE],
+    sentence: &[u32],
+    w: &mut [u64; ROOM],
+    at: Standing,
+    r: RuleNumber,
+) -> Stepped
+    requires { ⌜ Applies (now t) (now sentence) (now w) at (r .0) × (daughtersIn (now t) (8 * r .0) ≡ 0) ⌝ }
+    ensures { λ s. ⌜ Applied (now (t .entry)) (now (sentence .entry)) (now (w .entry)) (now (w .exit)) at (r .0) s ⌝ }
+{
+    let heard = hear(word(t, place_of(RuleNumber(r.0))), sentence, at.read);
+    let Heard::Next(read) = heard else {
+        return Stepped::Halts(16);
+    };
+    scan(w, at.from, at.to);
+    Stepped::Leads(ahead(t, at, r, read))
+}
+
+// The step of rule r, which is of the front's category. The next queue is written from `at.to` on, and what stands before it is as it was.
+pub fn apply(
+    t: &[u64; TABLE],
+    sentence: &[u32],
+    w: &mut [u64; ROOM],
+    at: Standing,
+    r: RuleNumber,
+) -> Stepped
+    requires { ⌜ Applies (now t) (now sentence) (now w) at (r .0) ⌝ }
+    ensures { λ s. ⌜ Applied (now (t .entry)) (now (sentence .entry)) (now (w .entry)) (now (w .exit)) at (r .0) s ⌝ }
+{
+    let d = daughters(t, place_of(RuleNumber(r.0)));
+    if d == 0 {
+        return lexical(t, sentence, w, at, r);
+    }
+    if at.left < at.to - at.from + d {
+        return Stepped::Long;
+    }
+    let mark = 4 * (at.steps as u64 + 1);
+    expand(t, RuleNumber(r.0), mark, w, at.from, at.to);
+    Stepped::Leads(ahead(t, at, r, at.read))
+}
+
+// The step of rule number r: refusals 13, 14 and 15, and what the step of a rule of the front's category does.
+pub fn step(
+    file: &[u8],
+    t: &[u64; TABLE],
+    sentence: &[u32],
+    w: &mut [u64; ROOM],
+    at: Standing,
+    r: RuleNumber,
+) -> Stepped
+    requires { ⌜ Ready (grammarOf (now file)) (now t) (now sentence) (now w) at ⌝ }
+    ensures { λ s. ⌜ StepSays (grammarOf (now (file .entry))) (now (t .entry)) (now (sentence .entry)) (now (w .entry)) (now (w .exit)) at (r .0) s ⌝ }
+{
+    if rules(file) <= r.0 {
+        return Stepped::Halts(13);
+    }
+    let from = at.from;
+    if at.to <= from {
+        return Stepped::Halts(14);
+    }
+    if category_in(t, place_of(RuleNumber(r.0))).0 != category(w[from]).0 {
+        return Stepped::Halts(15);
+    }
+    apply(t, sentence, w, at, r)
 }

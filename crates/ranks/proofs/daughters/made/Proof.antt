@@ -81,7 +81,7 @@ module _ (c : tie.After-category) where
   parts = record {
     least = c .before .before .smaller3 .result;
     number = c .before .before .before .before .before .before .before .before .before .before .before .before .before .args .mark + c .before .number .result;
-    category = c .category .result;
+    category = c .category .result .0;
     rank3 = getD (c .before .before .before .before .before .before .before .before .before .before .before .before .before .args .b .now) (c .before .before .before .before .before .before .before .before .before .before .before .before .before .args .places / 4096 % 4) 0 + c .before .before .before .before .before .rank4 .result;
     rank2 = getD (c .before .before .before .before .before .before .before .before .before .before .before .before .before .args .b .now) (c .before .before .before .before .before .before .before .before .before .before .before .before .before .args .places / 512 % 4) 0 + c .before .before .before .before .before .before .before .rank3 .result;
     rank1 = getD (c .before .before .before .before .before .before .before .before .before .before .before .before .before .args .b .now) (c .before .before .before .before .before .before .before .before .before .before .before .before .before .args .places / 64 % 4) 0 + c .before .before .before .before .before .before .before .before .before .rank2 .result;
@@ -97,14 +97,17 @@ module _ (c : tie.After-category) where
       let q3 = ap (λ (r : ℕ). getD (a .b .now) (a .places / 4096 % 4) 0 + r) (c .before .before .before .before .before .rank4 .ensures) in
       let n = ap (λ (m : ℕ). a .mark + m) (c .before .number .ensures) in
       let l = c .before .before .smaller3 .ensures ∙ ap₂ min (c .before .before .before .before .smaller .ensures ∙ ap₂ min q0 q1) (c .before .before .before .smaller2 .ensures ∙ ap₂ min q2 q3) in
-      let k = c .category .ensures in
+      let k = c .category .ensures .0 in
       λ i. record { least = l i; number = n i; category = k i; rank3 = q3 i; rank2 = q2 i; rank1 = q1 i; rank0 = q0 i }
 
+cast-pack : tie.Need-cast-pack
+cast-pack c = search needs
+
 pack-requires : tie.Need-pack-requires
-pack-requires c κs = subst⁻¹ Sized (is-daughter c) (c .before .before .before .before .before .before .before .before .before .before .before .before .before .pre .1)
+pack-requires c κs = subst⁻¹ Sized (is-daughter (c .before)) (c .before .before .before .before .before .before .before .before .before .before .before .before .before .before .pre .1)
 
 returns : tie.Need-returns
-returns c = c .pack .ensures ∙ ap packed (is-daughter (c .before))
+returns c = c .pack .ensures ∙ ap packed (is-daughter (c .before .before))
 
 pub made-spec : {M : Type 1} → statement M
-made-spec = tie.close (tie.spec mul-r0 element-copy-out-r0 rank-requires add-r0 mul-r1 element-copy-out-r1 rank-requires-2 add-r1 mul-r2 element-copy-out-r2 rank-requires-3 add-r2 mul-r3 element-copy-out-r3 rank-requires-4 add-r3 smaller-requires smaller-requires-2 smaller-requires-3 number-requires add-pack category-requires pack-requires returns)
+made-spec = tie.close (tie.spec mul-r0 element-copy-out-r0 rank-requires add-r0 mul-r1 element-copy-out-r1 rank-requires-2 add-r1 mul-r2 element-copy-out-r2 rank-requires-3 add-r2 mul-r3 element-copy-out-r3 rank-requires-4 add-r3 smaller-requires smaller-requires-2 smaller-requires-3 number-requires add-pack category-requires cast-pack pack-requires returns)

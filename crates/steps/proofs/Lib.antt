@@ -1,0 +1,3 @@
+pub mod Behind
+pub mod Onward
+pub mod Applying
