@@ -1,11 +1,8 @@
--- What the count and the call for an entry test before and after the search, in their order; the sheet that they search with; and the numbers of an entry
--- as the output holds them.
+-- What the count and the call for an entry test before and after the search, in their order.
 -- Assumes nothing.
-use mathlib.Core.Path.{_≡_}
-use mathlib.Core.List.{List, map}
+use mathlib.Core.List.{List}
 use mathlib.Core.Option.{Option}
-use Prim.Native.Nat.{ℕ, _%_}
-use lib.ListN.{length, getD}
+use Prim.Native.Nat.{ℕ}
 use Rattle.model.specs.declared.Refusal.{Refusal}
 use Rattle.model.specs.Base.{_orElse_}
 use Rattle.model.specs.GrammarFile.{grammarRefusal, grammarOf}
@@ -22,14 +19,3 @@ beforeEntry file sentence n limit out =
 
 abbrev pub afterSearch : List ℕ → List ℕ → ℕ → ℕ → ℕ → Option Refusal
 afterSearch file sentence n limit m = effortRefusal (grammarOf file) sentence n limit orElse entryRefusal (grammarOf file) sentence n m
-
--- the sheet before the search: nothing is counted, and it has the budget and the number of the entry that is asked for
-pub record SheetFor (budget m : ℕ) (sheet : List ℕ) : Type 0 where
-  pub long : length sheet ≡ 100
-  pub none-counted : getD sheet 0 0 ≡ 0
-  pub budget-is : getD sheet 1 0 ≡ budget
-  pub asked : getD sheet 2 0 ≡ m
-
--- 64-bit cells as 16-bit numbers
-abbrev pub lowWords : List ℕ → List ℕ
-lowWords l = map (λ x. x % 65536) l

@@ -327,8 +327,8 @@ module _ (g : Grammar) (t w : List ℕ) (r mark from to : ℕ) (h : Expands g t 
         below j i l e = subst (λ (k : ℕ). marked mark (getD t k 0) < len * 2251799813685248) e (narrow .within mark (h .small) j l)
 
     -- the code of a narrow step: the cells that it reads, and what it writes
-    pub ready-small : (at j i : ℕ) → at ≡ 8 * r → j < 3 → at + 2 + 2 * j ≡ i → getD t i 0 < 576460752303423488
-    ready-small at j i e l d = let z : 8 * r + 2 + 2 * j ≡ i = omega arith in subst (λ (k : ℕ). getD t k 0 < 576460752303423488) z (narrow .small j l)
+    pub ready-small : (at j i : ℕ) → at ≡ 8 * r → j < 3 → at + 2 + 2 * j ≡ i → getD t i 0 < 1152921504606846976
+    ready-small at j i e l d = let z : 8 * r + 2 + 2 * j ≡ i = omega arith in subst (λ (k : ℕ). getD t k 0 < 1152921504606846976) z (narrow .small j l)
 
     pub length-at : (at l : ℕ) → at ≡ 8 * r → l ≡ getD t (at + 1) 0 % 65536 → l < 256
     length-at at l e d = omega (arith, length-small, d ∙ ap (λ (i : ℕ). getD t (i + 1) 0 % 65536) e ∙ length-is)

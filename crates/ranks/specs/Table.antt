@@ -79,7 +79,7 @@ pub record NarrowCells (g : Grammar) (rule : Rule) (t : List ℕ) (at : ℕ) : T
   -- the least rank of each, which is on top of the number, is one of the component's
   pub within : (mark : ℕ) → mark + 3 ≤ 512 → (j : ℕ) → j < length (rule .daughters) → marked mark (getD t (at + 2 + 2 * j) 0) < getD (lengths rule) 0 0 * 2251799813685248
   -- and their numbers leave room for a mark
-  pub small : (j : ℕ) → j < 3 → getD t (at + 2 + 2 * j) 0 < 576460752303423488
+  pub small : (j : ℕ) → j < 3 → getD t (at + 2 + 2 * j) 0 < 1152921504606846976
 
 -- the cells from `at` on hold the rule
 pub record RuleCells (g : Grammar) (rule : Rule) (t : List ℕ) (at : ℕ) : Type 0 where

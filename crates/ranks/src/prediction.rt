@@ -49,7 +49,7 @@ pub fn pack(least: u64, number: u64, category: u64, r3: u64, r2: u64, r1: u64, r
 
 // The prediction x with `mark` added to its number.
 pub fn marked(x: u64, mark: u64) -> u64
-    requires { ⌜ (x < 576460752303423488) × (mark < 512) ⌝ }
+    requires { ⌜ (x < 1152921504606846976) × (mark < 512) ⌝ }
     ensures { λ y. ⌜ y ≡ marked mark x ⌝ }
 {
     x + mark * NUMBER

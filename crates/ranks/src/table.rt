@@ -68,7 +68,7 @@ pub fn first_length(t: &[u64; TABLE], at: usize) -> u64
 
 // The j-th of the daughters that a rule of dimension 1 has ready made, with `mark` added to its number.
 pub fn ready_made(t: &[u64; TABLE], at: usize, j: usize, mark: u64) -> u64
-    requires { ⌜ (at + 8 ≤ 2048) × (j < 3) × (getD (now t) (at + 2 + 2 * j) 0 < 576460752303423488) × (mark < 512) ⌝ }
+    requires { ⌜ (at + 8 ≤ 2048) × (j < 3) × (getD (now t) (at + 2 + 2 * j) 0 < 1152921504606846976) × (mark < 512) ⌝ }
     ensures { λ y. ⌜ y ≡ marked mark (getD (now (t .entry)) (at + 2 + 2 * j) 0) ⌝ }
 {
     marked(t[at + 2 + 2 * j], mark)

@@ -1,3 +1,4 @@
+pub mod Begin
 pub mod Behind
 pub mod Onward
 pub mod Applying

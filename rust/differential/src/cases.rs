@@ -185,7 +185,7 @@ fn wrong_analyses(pair: &mut Pair, rng: &mut Rng, made: &Made, analysis: &Analys
 /// Counts and entries around the effort and the count of one sentence.
 fn counts(pair: &mut Pair, rng: &mut Rng, made: &Made, sentence: &[u32], nodes: usize) -> Done {
     let any = rng.from_to(1, 96);
-    let node_limit = rng.pick(&[nodes, nodes, nodes + 1, nodes + 2, nodes - 1, any]).clamp(1, 96);
+    let node_limit = rng.pick(&[nodes, nodes, nodes + 1, nodes + 2, nodes - 1, any, 96]).clamp(1, 96);
     let most = if made.grammar.rules.len() < 30 { rng.pick(&[300, 300, 300, 300, 1_000, 1_000, 1_000, 4_000]) } else { 300 };
     let n = node_limit as u64;
     let right = test_sentence(&made.grammar, sentence).is_ok();

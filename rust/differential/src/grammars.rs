@@ -1,5 +1,6 @@
 //! Random grammars that the reader accepts: dimensions 1 to 4, empty words and components, 1 to 3 daughters, 1 to 256 rules, no two of them
-//! equal in any order of their daughters, with weights and without.
+//! equal in any order of their daughters, with weights and without. Some have every dimension from 1 to 4, and some rules with many empty
+//! components.
 
 use std::collections::HashSet;
 
@@ -58,23 +59,35 @@ pub fn random(rng: &mut Rng) -> Made {
 }
 
 fn without_weights(rng: &mut Rng) -> Made {
-    match rng.below(21) {
+    match rng.below(24) {
+        21 => sized(rng, (5, 12), (10, 30), (1, 3), Shape::Mixed),
+        22..=23 => sized(rng, (4, 8), (8, 24), (1, 3), Shape::Crowded),
         0 => Made::of_text(rng.pick(&SMALL)),
-        1..=8 => sized(rng, (1, 4), (1, 10), (1, 3)),
-        9..=12 => sized(rng, (2, 8), (6, 21), (1, 5)),
-        13..=15 => sized(rng, (3, 10), (8, 24), (1, 2)),
-        16..=17 => sized(rng, (4, 64), (19, 66), (1, 40)),
-        18 => sized(rng, (20, 64), (60, 256), (1, 4096)),
-        19 => sized(rng, (1, 3), (30, 120), (1, 3)),
-        _ => {
+        1..=8 => sized(rng, (1, 4), (1, 10), (1, 3), Shape::Any),
+        9..=12 => sized(rng, (2, 8), (6, 21), (1, 5), Shape::Any),
+        13..=15 => sized(rng, (3, 10), (8, 24), (1, 2), Shape::Any),
+        16..=17 => sized(rng, (4, 64), (19, 66), (1, 40), Shape::Any),
+        18 => sized(rng, (20, 64), (60, 256), (1, 4096), Shape::Any),
+        19 => sized(rng, (1, 3), (30, 120), (1, 3), Shape::Any),
+        20 => {
             let rules = rng.pick(&[20, 21, 22, 41, 42, 43, 63, 64, 84, 105, 231, 252, 253, 255, 256]);
-            sized(rng, (1, 64), (rules, rules), (1, 4096))
+            sized(rng, (1, 64), (rules, rules), (1, 4096), Shape::Any)
         }
+        _ => unreachable!("a number below 24"),
     }
 }
 
+/// What a random grammar has: any dimensions; categories of each dimension from 1 to 4; or these, and rules whose variables stand in one or two
+/// of their components, so that the others are empty.
+#[derive(Clone, Copy, PartialEq)]
+enum Shape {
+    Any,
+    Mixed,
+    Crowded,
+}
+
 /// A random grammar with numbers of categories, rules and words between these bounds.
-fn sized(rng: &mut Rng, categories: (usize, usize), rules: (usize, usize), words: (usize, usize)) -> Made {
+fn sized(rng: &mut Rng, categories: (usize, usize), rules: (usize, usize), words: (usize, usize), shape: Shape) -> Made {
     let categories = rng.from_to(categories.0, categories.1);
     let rules = rng.from_to(rules.0, rules.1);
     let words = rng.from_to(words.0, words.1);
@@ -82,7 +95,13 @@ fn sized(rng: &mut Rng, categories: (usize, usize), rules: (usize, usize), words
     let row: &[u8] = rng.pick(&[&[1, 1, 1, 2][..], &[1, 2], &[1, 2, 3, 4], &[1, 4, 4], &[1]]);
     let mut dimensions: Vec<u8> = (0..categories).map(|_| rng.pick(row)).collect();
     dimensions[start] = 1;
-    let mut maker = Maker { dimensions, words, known: HashSet::new(), records: vec![] };
+    if shape != Shape::Any {
+        for dimension in 2..=4 {
+            dimensions[(start + dimension) % categories] = dimension as u8;
+        }
+    }
+    let crowded = shape == Shape::Crowded;
+    let mut maker = Maker { dimensions, words, crowded, known: HashSet::new(), records: vec![] };
     let with_trees = maker.base_rules(rng, rules);
     maker.start_rules(rng, rules, start, &with_trees);
     for _ in 0..20 * rules {
@@ -103,6 +122,8 @@ fn sized(rng: &mut Rng, categories: (usize, usize), rules: (usize, usize), words
 struct Maker {
     dimensions: Vec<u8>,
     words: usize,
+    /// Most nonlexical rules have empty components.
+    crowded: bool,
     /// The records so far, each in the least order of its daughters.
     known: HashSet<Record>,
     records: Vec<Record>,
@@ -135,7 +156,7 @@ impl Maker {
             } else {
                 let count = rng.pick(&[1, 2, 2, 3]);
                 let daughters: Vec<usize> = (0..count).map(|_| rng.pick(&with_trees)).collect();
-                self.keep(nonlexical(rng, &self.dimensions, category, &daughters));
+                self.nonlexical(rng, category, &daughters);
             }
             with_trees.push(category);
         }
@@ -153,7 +174,7 @@ impl Maker {
             let from = if rng.chance(60) { &high } else { with_trees };
             let count = rng.pick(&[1, 2, 3]);
             let daughters: Vec<usize> = (0..count).map(|_| rng.pick(from)).collect();
-            self.keep(nonlexical(rng, &self.dimensions, start, &daughters));
+            self.nonlexical(rng, start, &daughters);
         }
     }
 
@@ -165,8 +186,15 @@ impl Maker {
         } else {
             let count = rng.pick(&[1, 1, 2, 2, 2, 3, 3]);
             let daughters: Vec<usize> = (0..count).map(|_| rng.below(self.dimensions.len())).collect();
-            self.keep(nonlexical(rng, &self.dimensions, category, &daughters));
+            self.nonlexical(rng, category, &daughters);
         }
+    }
+
+    fn nonlexical(&mut self, rng: &mut Rng, category: usize, daughters: &[usize]) {
+        let components = self.dimensions[category] as usize;
+        let used = if self.crowded && rng.chance(80) { rng.from_to(1, 2).min(components) } else { components };
+        let record = cut(rng, &self.dimensions, category, daughters, used);
+        self.keep(record);
     }
 
     fn word(&self, rng: &mut Rng) -> u16 {
@@ -180,6 +208,11 @@ impl Maker {
 
 /// The variables of the daughters in any order, cut into components anywhere.
 pub fn nonlexical(rng: &mut Rng, dimensions: &[u8], category: usize, daughters: &[usize]) -> Record {
+    cut(rng, dimensions, category, daughters, dimensions[category] as usize)
+}
+
+/// The variables of the daughters in any order, in so many of the components, which begin anywhere; the others are empty.
+fn cut(rng: &mut Rng, dimensions: &[u8], category: usize, daughters: &[usize], used: usize) -> Record {
     let mut record = [0; 24];
     record[0] = category as u8;
     record[1] = daughters.len() as u8;
@@ -190,8 +223,10 @@ pub fn nonlexical(rng: &mut Rng, dimensions: &[u8], category: usize, daughters: 
     }
     rng.shuffle(&mut variables);
     record[11..11 + variables.len()].copy_from_slice(&variables);
+    let components = dimensions[category] as usize;
+    let first = rng.below(components);
     for _ in &variables {
-        record[7 + rng.below(dimensions[category] as usize)] += 1;
+        record[7 + (first + rng.below(used)) % components] += 1;
     }
     record
 }

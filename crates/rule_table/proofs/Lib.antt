@@ -1,0 +1,9 @@
+pub mod Standing
+pub mod Sizes
+pub mod Ordering
+pub mod Writing
+pub mod VariableRanks
+pub mod RuleVariables
+pub mod DaughterCells
+pub mod ReadyMade
+pub mod Compiled

@@ -1,0 +1,4 @@
+pub mod Copied
+pub mod Notes
+pub mod Passed
+pub mod Says

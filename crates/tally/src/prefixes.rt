@@ -1,0 +1,121 @@
+// A walk over all live prefixes: how many they are, how many of them are complete, and the one asked for of these.
+ghost use mathlib.Core.List.{_++_};
+ghost use mathlib.Core.Path.{_≡_};
+ghost use Prim.Native.Nat.{_≤_};
+ghost use lib.ListN.{length, take, drop};
+ghost use Rattle.walk.specs.Walking.{atEnd};
+ghost use Rattle.tally.specs.Tallies.{MayNote, Noted, MayTally, TalliedAll};
+use ranks::queue::ROOM;
+use ranks::table::TABLE;
+use steps::Standing;
+use steps::first_standing;
+use walk::Walked;
+use walk::next;
+
+// How many complete prefixes there are so far, how many live prefixes, and how many steps the complete one has that is held.
+pub struct Tally {
+    pub count: u64,
+    pub effort: u64,
+    pub steps: usize,
+}
+
+// There are more live prefixes than the limit; or all are passed.
+pub enum Tallied {
+    Over,
+    All(Tally),
+}
+
+// Whether the prefix is complete: nothing is predicted, and every word is read.
+fn at_end(sentence: &[u32], at: Standing) -> bool
+    ensures { λ b. ⌜ b ≡ atEnd (now (sentence .entry)) at ⌝ }
+{
+    if at.from == at.to {
+        return at.read == sentence.len();
+    }
+    false
+}
+
+// Copies the first `steps` numbers of the path to the front of the output.
+pub fn copy_path(path: &[u16; 96], steps: usize, out: &mut [u16])
+    requires { ⌜ (steps ≤ 96) × (length (now path) ≡ 96) × (steps ≤ length (now out)) ⌝ }
+    ensures { λ r. ⌜ now (out .exit) ≡ take steps (now (path .entry)) ++ drop steps (now (out .entry)) ⌝ }
+{
+    let mut i: usize = 0;
+    while i < steps {
+        out[i] = path[i];
+        i += 1;
+    }
+}
+
+// The tally with the live prefix on the path: of the complete ones, number m is held.
+fn note(
+    sentence: &[u32],
+    path: &[u16; 96],
+    at: Standing,
+    m: u64,
+    held: &mut [u16],
+    so: Tally,
+) -> Tally
+    requires { ⌜ MayNote (now path) at (now held) so ⌝ }
+    ensures { λ r. ⌜ Noted (now (sentence .entry)) (now (path .entry)) at m (now (held .entry)) (now (held .exit)) so r ⌝ }
+{
+    if at_end(sentence, at) {
+        if so.count == m {
+            let k = at.steps;
+            copy_path(path, k, held);
+            return Tally {
+                count: so.count + 1,
+                effort: so.effort + 1,
+                steps: k,
+            };
+        }
+        return Tally {
+            count: so.count + 1,
+            effort: so.effort + 1,
+            steps: so.steps,
+        };
+    }
+    Tally {
+        count: so.count,
+        effort: so.effort + 1,
+        steps: so.steps,
+    }
+}
+
+// The tally of all live prefixes with n steps, from the first on; complete prefix m is held.
+pub fn tally_all(
+    t: &[u64; TABLE],
+    chain: &[u16; 320],
+    sentence: &[u32],
+    w: &mut [u64; ROOM],
+    n: usize,
+    limit: u64,
+    m: u64,
+    held: &mut [u16],
+) -> Tallied
+    requires { ⌜ MayTally (now t) (now chain) (now sentence) (now w) n limit (now held) ⌝ }
+    ensures { λ r. ⌜ TalliedAll (now (t .entry)) (now (chain .entry)) (now (sentence .entry)) (now (w .entry)) n limit m (now (held .entry)) (now (held .exit)) r ⌝ }
+{
+    let mut path = [0u16; 96];
+    let mut at = first_standing(n);
+    let mut so = Tally {
+        count: 0,
+        effort: 0,
+        steps: 0,
+    };
+    loop {
+        if so.effort == limit {
+            return Tallied::Over;
+        }
+        so = note(sentence, &path, at, m, held, so);
+        let s = next(t, chain, sentence, w, &mut path, at);
+        match s {
+            Walked::Came(x) => {
+                at = x;
+            }
+            Walked::Ended => {
+                return Tallied::All(so);
+            }
+        }
+    }
+}

@@ -1,0 +1,12 @@
+pub mod Linked
+pub mod Remaining
+pub mod InOrder
+pub mod Kept
+pub mod Tried
+pub mod Along
+pub mod Turns
+pub mod Answers
+pub mod Going
+pub mod Nexts
+pub mod Start
+pub mod Ended

@@ -1,0 +1,4 @@
+pub mod Chain
+pub mod Rest
+pub mod Walking
+pub mod Turns

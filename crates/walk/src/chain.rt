@@ -1,0 +1,54 @@
+// The rules of each category, found without looking at the others: a table made once for a call.
+ghost use mathlib.Core.Option.{none};
+ghost use mathlib.Core.Path.{_≡_};
+ghost use Prim.Native.Nat.{_+_, _<_, _≤_};
+ghost use lib.ListN.{getD};
+ghost use Rattle.model.specs.GrammarFile.{rulesOf, grammarRefusal, grammarOf};
+ghost use Rattle.walk.specs.Chain.{noRule, Chained};
+use grammar::category_of;
+use grammar::rules;
+use model::Category;
+use model::RuleNumber;
+
+// One past the last rule number: there is no rule, or no further one.
+pub const NO_RULE: u16 = 256;
+
+// How many rules there are; a table holds those of 256 rules.
+fn rule_count(file: &[u8]) -> u16
+    ensures { λ n. ⌜ (n ≤ 256) × (rulesOf (now (file .entry)) ≤ 256 → n ≡ rulesOf (now (file .entry))) ⌝ }
+{
+    let n = rules(file);
+    if n <= 256 { n } else { 256 }
+}
+
+// Cell a has the first rule of category a, cell 64 + r the next one of rule r's category; NO_RULE where there is none.
+pub fn chain_rules(file: &[u8]) -> [u16; 320]
+    ensures { λ c. ⌜ (grammarRefusal (now (file .entry)) ≡ none → Chained (grammarOf (now (file .entry))) c) ⌝ }
+{
+    let mut chain = [NO_RULE; 320];
+    let mut r = rule_count(file);
+    while 0 < r {
+        r -= 1;
+        let a = category_of(file, RuleNumber(r)).0 as usize;
+        let i = r as usize;
+        chain[64 + i] = chain[a];
+        chain[a] = r;
+    }
+    chain
+}
+
+// The first rule of a category, or NO_RULE.
+pub fn first_rule(chain: &[u16; 320], a: Category) -> RuleNumber
+    requires { ⌜ a .0 < 64 ⌝ }
+    ensures { λ r. ⌜ r .0 ≡ getD (now (chain .entry)) (a .0) 0 ⌝ }
+{
+    RuleNumber(chain[a.0 as usize])
+}
+
+// The rule of the same category that comes next after rule r, or NO_RULE.
+pub fn next_rule(chain: &[u16; 320], r: RuleNumber) -> RuleNumber
+    requires { ⌜ r .0 < noRule ⌝ }
+    ensures { λ s. ⌜ s .0 ≡ getD (now (chain .entry)) (64 + r .0) 0 ⌝ }
+{
+    RuleNumber(chain[64 + r.0 as usize])
+}

@@ -1,0 +1,10 @@
+// The walk from one live prefix to the next, and the chain of the rules of a category (document 01, "Counting and listing").
+mod chain;
+mod prefixes;
+
+pub use chain::NO_RULE;
+pub use chain::chain_rules;
+pub use chain::first_rule;
+pub use chain::next_rule;
+pub use prefixes::Walked;
+pub use prefixes::next;
