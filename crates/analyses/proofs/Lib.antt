@@ -1,4 +1,5 @@
 pub mod Limits
+pub mod Counted
+pub mod Tables
 pub mod EntryCall
 pub mod Answered
-pub mod Starts

@@ -1,4 +1,4 @@
--- What the count and the call for an entry test before and after the search, in their order.
+-- What the count and the call for an entry test before and after the walk over the live prefixes, in their order.
 -- Assumes nothing.
 use mathlib.Core.List.{List}
 use mathlib.Core.Option.{Option}

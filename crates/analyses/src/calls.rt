@@ -8,15 +8,15 @@ ghost use Rattle.model.specs.Counting.{limitsRefusal, effortRefusal, count, eff
 ghost use Rattle.model.specs.GrammarFile.{grammarRefusal, grammarOf};
 ghost use Rattle.model.specs.Verdict.{tested, verdict, countVerdict};
 ghost use Rattle.analyses.specs.Tests.{beforeSearch, beforeEntry, afterSearch};
+use rule_table::compile;
 use buffers::room_refusal;
 use grammar::start;
 use model::CountVerdict;
 use model::Refusal;
 use model::Tested;
 use model::Verdict;
-use reader::grammar_refusal;
 use ranks::queue::first_queue;
-use rule_table::compile;
+use reader::grammar_refusal;
 use sentences::sentence_refusal;
 use tally::count_from;
 use tally::entry_from;
@@ -96,7 +96,7 @@ fn found_entry(
     entry_from(&t, &chain, sentence, &mut w, n as usize, limit, m, out)
 }
 
-// Entry m of the listing under node limit n: refusals 1 to 10, 23, 24, 11 and 29, 25, 26; else its steps, at the front of the output. One search.
+// Entry m of the listing under node limit n: refusals 1 to 10, 23, 24, 11 and 29, 25, 26; else its steps, at the front of the output. One walk.
 pub fn entry(file: &[u8], sentence: &[u32], n: u64, limit: u64, m: u64, out: &mut [u16]) -> Verdict
     ensures { λ v. ⌜ (v ≡ entryVerdict (now (file .entry)) (now (sentence .entry)) n limit m (now (out .entry))) × (now (out .exit) ≡ entryOutput (now (file .entry)) (now (sentence .entry)) n limit m (now (out .entry))) ⌝ }
 {
