@@ -8,7 +8,6 @@ ghost use Rattle.model.specs.Counting.{limitsRefusal, effortRefusal, count, eff
 ghost use Rattle.model.specs.GrammarFile.{grammarRefusal, grammarOf};
 ghost use Rattle.model.specs.Verdict.{tested, verdict, countVerdict};
 ghost use Rattle.analyses.specs.Tests.{beforeSearch, beforeEntry, afterSearch};
-use rule_table::compile;
 use buffers::room_refusal;
 use grammar::start;
 use model::CountVerdict;
@@ -17,6 +16,7 @@ use model::Tested;
 use model::Verdict;
 use ranks::queue::first_queue;
 use reader::grammar_refusal;
+use rule_table::compile;
 use sentences::sentence_refusal;
 use tally::count_from;
 use tally::entry_from;

@@ -1,12 +1,19 @@
 // Lent lists of 16-bit numbers: a number of a list, refusal 23, and a list written at the front of an output.
 ghost use mathlib.Core.Path.{_≡_};
 ghost use mathlib.Core.List.{_++_};
-ghost use Prim.Native.Nat.{_≤_};
+ghost use Prim.Native.Nat.{_<_, _≤_};
 ghost use lib.ListN.{getD, length, take, drop};
 ghost use Rattle.model.specs.Verdict.{tested};
 ghost use Rattle.model.specs.Calls.{roomRefusal};
 use model::Refusal;
 use model::Tested;
+
+// The same number, of which it is known that it has 16 bits.
+pub fn wide(x: u16) -> usize
+    ensures { λ n. ⌜ (n ≡ x) × (n < 65536) ⌝ }
+{
+    x as usize
+}
 
 // Number i of the list, 0 past its end.
 pub fn number_at(list: &[u16], i: usize) -> u16

@@ -1,4 +1,4 @@
-pub mod Arity
+pub mod Queued
 pub mod Names
 pub mod TreeRun
 pub mod RunCode

@@ -17,19 +17,29 @@ use Rattle.model.specs.Trace.{noNode, run, traceRefusal}
 use Rattle.model.specs.Tree.{Tree, Forest, node, nil, cons, preorder, preorders, hasRoot, hasRoots, spells, forest, treeOfList, nodesRefusal}
 use Rattle.model.specs.Conversions.{label, subtree, Traces, traceFrom, traceOf}
 use Rattle.model.specs.Demands.{Ends}
-use Rattle.model.specs.Rows.{RowState, beginRow, traceOfRow, stepsRefusalRow}
 use Rattle.model.proofs.Tests.{and-l, and-r, and-both, none-some}
 use Rattle.model.proofs.FromFile.{accepted-right}
+use Rattle.model.proofs.Apart.{Every}
 use Rattle.model.proofs.Marks.{bare, bareState, bareOutcome, step-bare}
 use Rattle.model.proofs.Reading.{read}
 use Rattle.model.proofs.Analyses.{at, trace-derives}
 use Rattle.model.proofs.Checker.{tree-accepted}
 use Rattle.model.proofs.Demands.{belongs, trace-only}
-use Rattle.model.proofs.RowsAgree.{rows-agree}
-use Rattle.rows.specs.Row.{stateOf, FirstRow}
-use Rattle.recognizer.proofs.Checked.{begins, trace-by-rows}
+use Rattle.ranking.specs.Ranks.{Ranked, RankedState}
+use Rattle.ranking.specs.Numbered.{beginNumbered, traceOfNumbered}
+use Rattle.ranking.proofs.Numbered.{trace-agrees}
+use Rattle.ranks.specs.Held.{queueIn, FirstQueue}
+use Rattle.ranks.specs.Table.{Compiled}
+use Rattle.steps.specs.declared.Standing.{Standing}
+use Rattle.steps.specs.Steps.{stateIn, begin}
+use Rattle.recognizer.specs.Traces.{refusalNumbered}
+use Rattle.recognizer.proofs.Checked.{trace-by-ranks, begin-runs, begin-state}
 use Rattle.trees.specs.Places.{Ended}
-use Rattle.derivation.specs.TreeRun.{Traced, Stood, RunSays, TreeRun, Spelled}
+use Rattle.derivation.specs.TreeRun.{Spelled}
+use Rattle.derivation.proofs.Queued.{numbersOf}
+use Rattle.derivation.proofs.Names.{Named}
+use Rattle.derivation.proofs.TreeRun.{Traced, RunSays, TreeRun}
+use Rattle.derivation.proofs.RunCode.{Looping}
 
 -- steps by the rules of the nodes that lead to the end are the trace that belongs to the trees
 module _ (g : Grammar) where
@@ -109,30 +119,30 @@ module _ (file sentence list : List ℕ) (accepted : grammarRefusal file ≡ non
   pub has-node : 0 < length list
   has-node = some-node g list tested
 
-  by-rows : traceOfRow g sentence list ≡ trace
-  by-rows = rows-agree file accepted sentence .traces list
+  by-numbers : traceOfNumbered g sentence list ≡ trace
+  by-numbers = trace-agrees file accepted sentence list
 
   -- the trace, as the checker takes it
-  row-refusal : length trace ≡ length list → stepsRefusalRow g sentence 0 (beginRow g sentence) (traceOfRow g sentence list) ≡ traceRefusal g sentence trace
-  row-refusal e = ap (stepsRefusalRow g sentence 0 (beginRow g sentence)) by-rows ∙ sym (trace-by-rows file sentence trace accepted (omega arith) (λ z. omega (arith, has-node)))
+  numbered-refusal : length trace ≡ length list → refusalNumbered g sentence 0 (beginNumbered g sentence) (traceOfNumbered g sentence list) ≡ traceRefusal g sentence trace
+  numbered-refusal e = ap (refusalNumbered g sentence 0 (beginNumbered g sentence)) by-numbers ∙ sym (trace-by-ranks file sentence trace accepted (omega arith) (λ z. omega (arith, has-node)))
 
-  pub traced-spells : Traced g sentence 0 (length list) names (beginRow g sentence) → T (spells g sentence tree)
+  pub traced-spells : Traced g sentence 0 (length list) names (beginNumbered g sentence) → T (spells g sentence tree)
   traced-spells t =
-      let n : length trace ≡ length list = ap length (sym by-rows) ∙ t .size in
-      let e : traceRefusal g sentence trace ≡ none = sym (row-refusal n) ∙ t .accepted in
+      let n : length trace ≡ length list = ap length (sym by-numbers) ∙ t .size in
+      let e : traceRefusal g sentence trace ≡ none = sym (numbered-refusal n) ∙ t .accepted in
       let h = traces-from g trace (length list) (at g right sentence tree) refl (trace-only g right sentence trace e) in
       and-r (hasRoot g tree (g .start)) (spells g sentence tree) (trace-derives g right sentence tree trace rooted h)
 
-  pub spells-traced : T (spells g sentence tree) → Traced g sentence 0 (length list) names (beginRow g sentence)
+  pub spells-traced : T (spells g sentence tree) → Traced g sentence 0 (length list) names (beginNumbered g sentence)
   spells-traced h =
       let d = and-both (hasRoot g tree (g .start)) (spells g sentence tree) rooted h in
       let n : length trace ≡ length list = ap (λ (l : List ℕ). length (traceOf g sentence l)) (sym listed) ∙ belongs g right sentence tree d .size ∙ ap length listed in
       let e : traceRefusal g sentence trace ≡ none
       = ap (λ (l : List ℕ). traceRefusal g sentence (traceOf g sentence l)) (sym listed) ∙ tree-accepted g right sentence tree d (omega (arith, ap length listed)) in
-      record { size = ap length by-rows ∙ n; accepted = row-refusal n ∙ e }
+      record { size = ap length by-numbers ∙ n; accepted = numbered-refusal n ∙ e }
 
-  spelled-by : (before after : List ℕ) → length before ≡ 96 → (b : Bool) → RunSays g sentence 0 (length list) names (beginRow g sentence) before after b → (c : Bool) → spells g sentence tree ≡ c → Spelled g sentence list after b
-  spelled-by before after l true h c e = record { spelled = sym (yes c e); stored = λ z. (ap length (h .1) ∙ length-sets before 0 (traceOfRow g sentence list) ∙ l, stored) }
+  spelled-by : (before after : List ℕ) → length before ≡ 96 → (b : Bool) → RunSays g sentence 0 (length list) names (beginNumbered g sentence) before after b → (c : Bool) → spells g sentence tree ≡ c → Spelled g sentence list after b
+  spelled-by before after l true h c e = record { spelled = sym (yes c e); stored = λ z. (ap length (h .1) ∙ length-sets before 0 (traceOfNumbered g sentence list) ∙ l, stored) }
     where
       yes : (c : Bool) → spells g sentence tree ≡ c → spells g sentence tree ≡ true
       yes true e = e
@@ -140,26 +150,49 @@ module _ (file sentence list : List ℕ) (accepted : grammarRefusal file ≡ non
 
       stored : take (length list) after ≡ trace
       stored =
-          let n : length (traceOfRow g sentence list) ≡ length list = h .0 .size in
-          ap (take (length list)) (h .1 ∙ sets-eq (traceOfRow g sentence list) before 0 (omega arith)) ∙ take-at (traceOfRow g sentence list) (drop (0 + length (traceOfRow g sentence list)) before) (length list) n ∙ by-rows
+          let n : length (traceOfNumbered g sentence list) ≡ length list = h .0 .size in
+          ap (take (length list)) (h .1 ∙ sets-eq (traceOfNumbered g sentence list) before 0 (omega arith)) ∙ take-at (traceOfNumbered g sentence list) (drop (0 + length (traceOfNumbered g sentence list)) before) (length list) n ∙ by-numbers
   spelled-by before after l false h true e = absurd (h (spells-traced (subst T (sym e) tt)))
   spelled-by before after l false h false e = record { spelled = sym e; stored = λ z. let y : _≡_ {A = ℕ} 0 1 = cc in absurd (omega arith) }
 
-  -- from the first row, with prediction 0 at place 0
-  module _ {q : List ℕ} {c : ℕ} (start : c ≡ startOf file) (first : FirstRow c q) where
-    pub run-spelled : (places before after : List ℕ) → getD places 0 0 ≡ 0 → length before ≡ 96 → (b : Bool) → TreeRun (grammarOf file) sentence list 0 (stateOf q 0 1 1 1 (drop 0 sentence)) places before after b
-        → Spelled (grammarOf file) sentence list after b
-    run-spelled places before after zero-is l b h =
-        let n : length list - 0 ≡ length list = omega arith in
-        let s : RunSays g sentence 0 (length list - 0) names (stateOf q 0 1 1 1 sentence) before after b = h names (λ p k. let e : p ≡ 0 = omega arith in sym (ap (λ (x : ℕ). treeOfList g (drop x list)) (ap (λ (x : ℕ). getD places x 0) e ∙ zero-is))) in
-        spelled-by before after l b (subst (λ (x : RowState). RunSays g sentence 0 (length list) names x before after b) (begins file sentence start first) (subst (λ (m : ℕ). RunSays g sentence 0 m names (stateOf q 0 1 1 1 sentence) before after b) n s)) (spells g sentence tree) refl
+  -- from the first queue, with prediction 0 at place 0
+  module _ {c : ℕ} {w : List ℕ} (start : c ≡ startOf file) (first : FirstQueue c w) {at : Standing} (standing : at ≡ begin (length list)) where
+    some-steps : length list ≡ 0 → ⊥
+    some-steps z = omega (arith, has-node)
 
-  pub first-stood : (ends places : List ℕ) → length ends ≡ 96 → Ended (grammarOf file) list ends 0 (length list) → length places ≡ 96 → getD places 0 0 ≡ 0 → Stood (grammarOf file) list ends places 1
-  first-stood ends places l e k z =
-      record {
-        tested = tested;
-        ends-long = l;
-        ended = e;
-        long = k;
-        inside = λ p b. let f : p ≡ 0 = omega arith in subst (λ (x : ℕ). getD places x 0 < length list) (sym f) (omega (arith, has-node));
-      }
+    begins : stateIn g sentence w at ≡ beginNumbered g sentence
+    begins = begin-state file sentence list accepted few some-steps start first standing
+
+    first-queue : queueIn g w (at .from) (at .to) ≡ beginNumbered g sentence .queue
+    first-queue = ap (λ (s : RankedState ℕ). s .queue) begins
+
+    -- the run of the tree begins there
+    pub first-looping : (t : List ℕ) → Compiled (grammarOf file) t → (ends places before : List ℕ) → length ends ≡ 96 → Ended (grammarOf file) list ends 0 (length list) → length places ≡ 388 → getD places 0 0 ≡ 0
+        → length before ≡ 96 → Looping (grammarOf file) t sentence list ends w places before at
+    first-looping t compiled ends places before l ended k z room =
+        record {
+          runs = begin-runs file sentence list accepted few some-steps start first standing t compiled;
+          stood =
+              record {
+                tested = tested;
+                ends-long = l;
+                ended = ended;
+                long = k;
+                inside = subst (λ (q : List (Ranked ℕ)). Every (λ n. getD places n 0 < length list) (numbersOf q)) (sym first-queue) (omega (arith, has-node), tt);
+              };
+          room = room;
+          back = λ after b h. spelled-by before after room b (from-begin after b h) (spells g sentence tree) refl;
+        }
+      where
+        named : Named g list places (queueIn g w (at .from) (at .to)) names
+        named =
+            subst (λ (q : List (Ranked ℕ)). Every (λ n. names n ≡ treeOfList g (drop (getD places n 0) list)) (numbersOf q)) (sym first-queue)
+            (sym (ap (λ (x : ℕ). treeOfList g (drop x list)) z), tt)
+
+        from-begin : (after : List ℕ) (b : Bool) → TreeRun g sentence list (at .steps) (stateIn g sentence w at) places before after b → RunSays g sentence 0 (length list) names (beginNumbered g sentence) before after b
+        from-begin after b h =
+            let e : at .steps ≡ 0 = ap (λ (x : Standing). x .steps) standing in
+            let n : length list - 0 ≡ length list = omega arith in
+            subst (λ (m : ℕ). RunSays g sentence 0 m names (beginNumbered g sentence) before after b) n
+            (subst (λ (s : RankedState ℕ). RunSays g sentence 0 (length list - 0) names s before after b) begins
+            (subst (λ (m : ℕ). RunSays g sentence m (length list - m) names (stateIn g sentence w at) before after b) e (h names named)))

@@ -1,5 +1,4 @@
 // The tree checker, and the conversion of a tree to its trace.
-ghost use mathlib.Core.List.{[], _∷_};
 ghost use mathlib.Core.Option.{none};
 ghost use mathlib.Core.Path.{_≡_};
 ghost use Prim.Native.Nat.{_≤_};
@@ -7,65 +6,34 @@ ghost use lib.ListN.{length};
 ghost use Rattle.model.specs.Calls.{written, checkTreeVerdict, treeToTraceVerdict, treeToTraceOutput};
 ghost use Rattle.model.specs.Conversions.{traceOf};
 ghost use Rattle.model.specs.GrammarFile.{grammarRefusal, grammarOf};
-ghost use Rattle.model.specs.Tree.{nodesRefusal, treeRefusal};
+ghost use Rattle.model.specs.Tree.{treeRefusal};
 ghost use Rattle.model.specs.Verdict.{tested, verdict};
-ghost use Rattle.trees.specs.Places.{Ended};
-ghost use Rattle.derivation.specs.TreeRun.{Spelled, TreeSays, beforeInput};
-use crate::run::run_tree;
+ghost use Rattle.derivation.specs.TreeRun.{TreeSays, beforeInput};
+use crate::run::spells;
 use buffers::room_refusal;
 use buffers::write_front;
-use grammar::start;
 use model::Refusal;
 use model::Tested;
 use model::Verdict;
 use reader::grammar_refusal;
-use rows::row::first_row;
-use rows::rules::compile;
 use sentences::sentence_refusal;
+use steps::MOST_STEPS;
 use trees::read_tree;
 
-// Whether the yield of the tree fits the sentence, for a list that passes the tests of its nodes; then its trace is stored. A tree's trace reads the words
-// of its yield in their order, so no yield is computed.
-fn spells(
+// A tree's verdict, for a grammar file and a sentence that are accepted, and for an accepted tree its trace.
+pub fn trace_tree(
     file: &[u8],
     sentence: &[u32],
     list: &[u16],
-    ends: &[u16; 96],
-    trace: &mut [u16; 96],
-) -> bool
-    requires { ⌜ (grammarRefusal (now file) ≡ none) × (length (now list) ≤ 96) × (nodesRefusal (grammarOf (now file)) 0 (grammarOf (now file) .start ∷ []) (now list) ≡ none) × (length (now ends) ≡ 96) × Ended (grammarOf (now file)) (now list) (now ends) 0 (length (now list)) × (length (now trace) ≡ 96) ⌝ }
-    ensures { λ b. ⌜ Spelled (grammarOf (now (file .entry))) (now (sentence .entry)) (now (list .entry)) (now (trace .exit)) b ⌝ }
-{
-    let t = compile(file);
-    let q = first_row(start(file));
-    let mut names = [0u16; 96];
-    run_tree(
-        file,
-        &t,
-        sentence,
-        list,
-        ends,
-        0,
-        0,
-        &q,
-        0,
-        1,
-        1,
-        1,
-        &mut names,
-        trace,
-    )
-}
-
-// A tree's verdict, for a grammar file and a sentence that are accepted, and for an accepted tree its trace.
-pub fn trace_tree(file: &[u8], sentence: &[u32], list: &[u16], trace: &mut [u16; 96]) -> Verdict
+    trace: &mut [u16; MOST_STEPS],
+) -> Verdict
     requires { ⌜ (grammarRefusal (now file) ≡ none) × (length (now trace) ≡ 96) ⌝ }
     ensures { λ v. ⌜ TreeSays (grammarOf (now (file .entry))) (now (sentence .entry)) (now (list .entry)) (now (trace .exit)) v ⌝ }
 {
-    if 96 < list.len() {
+    if MOST_STEPS < list.len() {
         return Verdict::Refused(Refusal::Analysis(12, 0));
     }
-    let mut ends = [0u16; 96];
+    let mut ends = [0u16; MOST_STEPS];
     let nodes = read_tree(file, list, &mut ends);
     if let Tested::Met(r) = nodes {
         return Verdict::Refused(r);
@@ -89,7 +57,7 @@ pub fn check_tree(file: &[u8], sentence: &[u32], tree: &[u16]) -> Verdict
     if let Tested::Met(r) = words {
         return Verdict::Refused(r);
     }
-    let mut trace = [0u16; 96];
+    let mut trace = [0u16; MOST_STEPS];
     trace_tree(file, sentence, tree, &mut trace)
 }
 
@@ -113,7 +81,7 @@ fn write_trace(file: &[u8], sentence: &[u32], tree: &[u16], out: &mut [u16]) -> 
     requires { ⌜ (grammarRefusal (now file) ≡ none) × (96 ≤ length (now out)) ⌝ }
     ensures { λ v. ⌜ (v ≡ verdict (treeRefusal (grammarOf (now (file .entry))) (now (sentence .entry)) (now (tree .entry))) (length (now (tree .entry)))) × (now (out .exit) ≡ written (treeRefusal (grammarOf (now (file .entry))) (now (sentence .entry)) (now (tree .entry))) (traceOf (grammarOf (now (file .entry))) (now (sentence .entry)) (now (tree .entry))) (now (out .entry))) ⌝ }
 {
-    let mut trace = [0u16; 96];
+    let mut trace = [0u16; MOST_STEPS];
     let v = trace_tree(file, sentence, tree, &mut trace);
     match v {
         Verdict::Accepted(_) => {

@@ -1,20 +1,39 @@
 // The run along a tree: its trace, and whether that is accepted.
+ghost use mathlib.Core.List.{[], _∷_};
+ghost use mathlib.Core.Option.{none};
 ghost use mathlib.Core.Path.{_≡_};
 ghost use Prim.Native.Nat.{ℕ, _+_, _<_, _≤_};
-ghost use lib.ListN.{length, getD, drop};
-ghost use Rattle.model.specs.GrammarFile.{grammarOf};
-ghost use Rattle.rows.specs.Row.{unpacked, stateOf};
-ghost use Rattle.trees.specs.Places.{sister};
-ghost use Rattle.derivation.specs.TreeRun.{NamesGiven, Ready, TreeRun};
+ghost use lib.ListN.{length, getD};
+ghost use Rattle.model.specs.GrammarFile.{grammarRefusal, grammarOf};
+ghost use Rattle.model.specs.Tree.{nodesRefusal};
+ghost use Rattle.ranks.specs.Prediction.{unpacked};
+ghost use Rattle.trees.specs.Places.{Ended, sister};
+ghost use Rattle.derivation.specs.TreeRun.{NamesGiven, Spelled};
+use buffers::wide;
+use grammar::start;
 use model::RuleNumber;
-use recognizer::step::Stepped;
-use recognizer::step::step;
-use rows::row::owner;
-use rows::rules::wide;
+use ranks::prediction::number;
+use ranks::queue::ROOM;
+use ranks::queue::first_queue;
+use ranks::table::daughters;
+use ranks::table::place_of;
+use rule_table::compile;
+use steps::MOST_STEPS;
+use steps::NUMBERS;
+use steps::Stepped;
+use steps::first_daughter;
+use steps::first_standing;
+use steps::step;
 
 // Names d predictions from number `made` on by the places of the daughters of the node at place i, which the table of ends gives.
-fn name_daughters(ends: &[u16; 96], i: usize, made: usize, d: usize, names: &mut [u16; 96])
-    requires { ⌜ (length (now ends) ≡ 96) × (length (now names) ≡ 96) × (made + d ≤ 96) × (i < 96) × ((j : ℕ) → j < d → sister (now ends) i j < 96) ⌝ }
+fn name_daughters(
+    ends: &[u16; MOST_STEPS],
+    i: usize,
+    made: usize,
+    d: usize,
+    names: &mut [u16; NUMBERS],
+)
+    requires { ⌜ (length (now ends) ≡ 96) × (length (now names) ≡ 388) × (made + d ≤ 388) × (i < 96) × ((j : ℕ) → j < d → sister (now ends) i j < 96) ⌝ }
     ensures { λ r. ⌜ NamesGiven (now (ends .entry)) i made d (now (names .entry)) (now (names .exit)) ⌝ }
 {
     let mut at = i + 1;
@@ -26,101 +45,50 @@ fn name_daughters(ends: &[u16; 96], i: usize, made: usize, d: usize, names: &mut
     }
 }
 
-// The place of the node that the front of the row q[from..] stands for.
-fn front_node(q: &[u16; 384], from: usize, names: &[u16; 96]) -> usize
-    requires { ⌜ (length (now q) ≡ 384) × (from < 384) × (length (now names) ≡ 96) × (unpacked (getD (now q) from 0) .owner < 96) ⌝ }
-    ensures { λ i. ⌜ i ≡ getD (now (names .entry)) (unpacked (getD (now (q .entry)) from 0) .owner) 0 ⌝ }
+// The place of the node that the front of the queue w[from..] stands for.
+fn front_node(w: &[u64; ROOM], from: usize, names: &[u16; NUMBERS]) -> usize
+    requires { ⌜ (length (now w) ≡ 6272) × (from < 6272) × (length (now names) ≡ 388) × (unpacked (getD (now w) from 0) .number < 388) ⌝ }
+    ensures { λ i. ⌜ i ≡ getD (now (names .entry)) (unpacked (getD (now (w .entry)) from 0) .number) 0 ⌝ }
 {
-    let p = wide(owner(q[from]));
+    let p = number(w[from]) as usize;
     wide(names[p])
 }
 
-// Steps k and after of the trace of the tree, from the row q[from..to], with so many words read; prediction p stands for the node at place names[p].
-// Stores the trace, and answers whether every step applies, the queue is never longer than the steps left, and no words are left.
-pub fn run_tree(
+// Whether the yield of the tree fits the sentence, for a list that passes the tests of its nodes; then its trace is stored. A tree's trace reads the words
+// of its yield in their order, so no yield is computed. The prediction of number p stands for the node at place names[p].
+pub fn spells(
     file: &[u8],
-    t: &[u16; 8192],
     sentence: &[u32],
     list: &[u16],
-    ends: &[u16; 96],
-    k: usize,
-    read: usize,
-    q: &[u16; 384],
-    from: usize,
-    to: usize,
-    made: u16,
-    pending: usize,
-    names: &mut [u16; 96],
-    trace: &mut [u16; 96],
+    ends: &[u16; MOST_STEPS],
+    trace: &mut [u16; MOST_STEPS],
 ) -> bool
-    requires { ⌜ Ready (now file) (now t) (now sentence) (now list) (now ends) (now q) (now names) (now trace) k read from to made pending ⌝ }
-    ensures { λ b. ⌜ TreeRun (grammarOf (now (file .entry))) (now (sentence .entry)) (now (list .entry)) k (stateOf (now (q .entry)) from to made pending (drop read (now (sentence .entry)))) (now (names .entry)) (now (trace .entry)) (now (trace .exit)) b ⌝ }
+    requires { ⌜ (grammarRefusal (now file) ≡ none) × (length (now list) ≤ 96) × (nodesRefusal (grammarOf (now file)) 0 (grammarOf (now file) .start ∷ []) (now list) ≡ none) × (length (now ends) ≡ 96) × Ended (grammarOf (now file)) (now list) (now ends) 0 (length (now list)) × (length (now trace) ≡ 96) ⌝ }
+    ensures { λ b. ⌜ Spelled (grammarOf (now (file .entry))) (now (sentence .entry)) (now (list .entry)) (now (trace .exit)) b ⌝ }
 {
-    if list.len() <= k {
-        return sentence.len() <= read;
-    }
-    if to <= from {
-        return false;
-    }
-    let mut out = [0u16; 384];
-    let i = front_node(q, from, names);
-    let r = RuleNumber(list[i]);
-    let left = list.len() - k - 1;
-    let s = step(
-        file,
-        t,
-        sentence,
-        read,
-        q,
-        from,
-        to,
-        made,
-        pending,
-        left,
-        r,
-        &mut out,
-    );
-    match s {
-        Stepped::Halts(_) => false,
-        Stepped::Long => false,
-        Stepped::Scanned(n) => {
-            trace[k] = r.0;
-            run_tree(
-                file,
-                t,
-                sentence,
-                list,
-                ends,
-                k + 1,
-                n,
-                q,
-                from + 1,
-                to,
-                made,
-                pending - 1,
-                names,
-                trace,
-            )
+    let t = compile(file);
+    let mut w = first_queue(start(file));
+    let mut names = [0u16; NUMBERS];
+    let mut at = first_standing(list.len());
+    while at.steps < list.len() {
+        let k = at.steps;
+        let from = at.from;
+        if at.to <= from {
+            return false;
         }
-        Stepped::Expanded(n, d) => {
-            trace[k] = r.0;
-            name_daughters(ends, i, wide(made), wide(d), names);
-            run_tree(
-                file,
-                t,
-                sentence,
-                list,
-                ends,
-                k + 1,
-                read,
-                &out,
-                0,
-                n,
-                made + d,
-                pending - 1 + d as usize,
-                names,
-                trace,
-            )
+        let i = front_node(&w, from, &names);
+        let r = list[i];
+        let s = step(file, &t, sentence, &mut w, at, RuleNumber(r));
+        match s {
+            Stepped::Halts(_) => return false,
+            Stepped::Long => return false,
+            Stepped::Leads(next) => {
+                trace[k] = r;
+                let d = daughters(&t, place_of(RuleNumber(r)));
+                name_daughters(ends, i, first_daughter(k), d, &mut names);
+                at = next;
+            }
         }
     }
+    sentence.len() <= at.read
 }

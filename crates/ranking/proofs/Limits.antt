@@ -21,10 +21,10 @@ use Rattle.ranking.specs.RanksAgree.{rankedOutcome}
 use Rattle.ranking.proofs.Steps.{KeepsLine, Agree, step-along, begin-line}
 use Rattle.ranking.proofs.Bounds.{rank-below, width-bound, ranks-sized, ranks-gapless}
 
-goes-one : {S : Type 0} {s s′ : S} → goes s ≡ goes s′ → s ≡ s′
+pub goes-one : {S : Type 0} {s s′ : S} → goes s ≡ goes s′ → s ≡ s′
 goes-one e = cc
 
-never-goes : {S X : Type 0} {n : ℕ} {s : S} → stops n ≡ goes s → X
+pub never-goes : {S X : Type 0} {n : ℕ} {s : S} → stops n ≡ goes s → X
 never-goes e = let z : _≡_ {A = ℕ} 0 1 = cc in absurd (omega arith)
 
 -- states that steps can reach

@@ -7,7 +7,6 @@ ghost use lib.ListN.{getD};
 ghost use Rattle.ranking.specs.Ranks.{above, shifted};
 ghost use Rattle.ranks.specs.Table.{marked};
 ghost use Rattle.ranks.specs.Prediction.{Prediction, Short, Behind, Apart, Sized, Flags, ranks, packed, unpacked, marks, remade};
-
 use model::Category;
 
 // 1 in the place of each part.

@@ -113,7 +113,14 @@ pub fn expand_wide(
 
 // A step by nonlexical rule r, which is of the category of the front of the queue from..to. The next queue is written from `to` on. The daughters have the
 // numbers `mark`, `mark` + 1 and `mark` + 2.
-pub fn expand(t: &[u64; TABLE], r: RuleNumber, mark: u64, w: &mut [u64; ROOM], from: usize, to: usize)
+pub fn expand(
+    t: &[u64; TABLE],
+    r: RuleNumber,
+    mark: u64,
+    w: &mut [u64; ROOM],
+    from: usize,
+    to: usize,
+)
     requires { ⌜ Expandable (now t) (r .0) mark (now w) from to ⌝ }
     ensures { λ s. ⌜ Expanded (now (t .entry)) (r .0) mark (now (w .entry)) (now (w .exit)) from to ⌝ }
 {

@@ -17,37 +17,38 @@ use Rattle.model.specs.Verdict.{refuseIf, verdict}
 use Rattle.model.specs.Grammar.{Grammar}
 use Rattle.model.specs.GrammarFile.{startOf, grammarRefusal, grammarOf}
 use Rattle.model.specs.Trace.{traceRefusal}
-use Rattle.model.specs.Rows.{Slot, RowState, RowOutcome, halts, moves, stepRow, beginRow, stepsRefusalRow}
 use Rattle.model.proofs.Tests.{none-some}
-use Rattle.model.proofs.FromFile.{start-in, categories-in, accepted-right}
-use Rattle.model.proofs.RowsNamed.{frontOwner}
-use Rattle.model.proofs.RowsBounds.{Reached, reached-begin}
-use Rattle.model.proofs.RowsAgree.{rows-agree}
-use Rattle.rows.specs.Row.{stateOf, FirstRow}
-use Rattle.recognizer.specs.Traces.{Runs, takenRow}
-
--- the first row is that of the beginning
-pub begins : (file sentence : List ℕ) {q : List ℕ} {c : ℕ} → c ≡ startOf file → FirstRow c q → stateOf q 0 1 1 1 sentence ≡ beginRow (grammarOf file) sentence
-begins file sentence start first =
-    ap (λ (row : List Slot). record { row = row; made = 1; pending = 1; words = sentence })
-    (first .row ∙ ap (λ (x : ℕ). record { owner = 0; category = x; component = 0 } ∷ []) start)
+use Rattle.model.proofs.FromFile.{start-in, categories-in}
+use Rattle.model.proofs.WellFormed.{accepted-well}
+use Rattle.ranking.specs.Recognizer.{Moved, stops, goes}
+use Rattle.ranking.specs.Ranks.{RankedState, stepRanked}
+use Rattle.ranking.specs.Numbered.{numberAt, plain, plainMoved, beginNumbered}
+use Rattle.ranking.proofs.RanksAgree.{ranks-agree}
+use Rattle.ranking.proofs.Numbered.{step-plain}
+use Rattle.ranks.specs.Held.{FirstQueue}
+use Rattle.ranks.specs.Table.{Compiled}
+use Rattle.steps.specs.declared.Standing.{Standing}
+use Rattle.steps.specs.Steps.{stateIn, begin}
+use Rattle.steps.proofs.Begin.{state-begin, ready-begin}
+use Rattle.recognizer.specs.Traces.{Runs, refusalNumbered, frontNumber, takenNumbered, RunSays, TraceSays}
+use Rattle.recognizer.proofs.Running.{refusalAfter}
 
 module _ (g : Grammar) (sentence : List ℕ) where
   -- every step of an accepted trace takes a prediction
-  pub taken-length : (k : ℕ) (s : RowState) (rs : List ℕ) → stepsRefusalRow g sentence k s rs ≡ none → length (takenRow g s rs) ≡ length rs
+  pub taken-length : (k : ℕ) (s : RankedState ℕ) (rs : List ℕ) → refusalNumbered g sentence k s rs ≡ none → length (takenNumbered g k s rs) ≡ length rs
   taken-length k s [] h = refl
-  taken-length k s (r ∷ rs) h = go (stepRow g s r) h (λ s′ e. taken-length (suc k) s′ rs e)
+  taken-length k s (r ∷ rs) h =
+      go (stepRanked (numberAt k) g s r) (ap (refusalAfter g sentence k rs) (step-plain g k s r) ∙ h) (λ s′ e. taken-length (suc k) s′ rs e)
     where
-      test : (b : Bool) (s′ : RowState) → _≡_ {A = Option Refusal} (if b then some (Refusal.Analysis 17 (suc k)) else stepsRefusalRow g sentence (suc k) s′ rs) none → stepsRefusalRow g sentence (suc k) s′ rs ≡ none
+      test : (b : Bool) (s′ : RankedState ℕ) → _≡_ {A = Option Refusal} (if b then some (Refusal.Analysis 17 (suc k)) else refusalNumbered g sentence (suc k) s′ rs) none → refusalNumbered g sentence (suc k) s′ rs ≡ none
       test true s′ e = none-some e
       test false s′ e = e
 
-      go : (o : RowOutcome)
-          → _≡_ {A = Option Refusal} (elim o [ halts n ↦ some (Refusal.Analysis n k) | moves s′ ↦ if ltb (length rs) (s′ .pending) then some (Refusal.Analysis 17 (suc k)) else stepsRefusalRow g sentence (suc k) s′ rs ]) none
-          → ((s′ : RowState) → stepsRefusalRow g sentence (suc k) s′ rs ≡ none → length (takenRow g s′ rs) ≡ length rs)
-          → _≡_ {A = ℕ} (length {A = ℕ} (elim o [ halts n ↦ [] | moves s′ ↦ frontOwner (s .row) ∷ takenRow g s′ rs ])) (suc (length rs))
-      go (halts n) e ih = none-some e
-      go (moves s′) e ih = ap suc (ih s′ (test (ltb (length rs) (s′ .pending)) s′ e))
+      go : (o : Moved (RankedState ℕ)) → refusalAfter g sentence k rs (plainMoved o) ≡ none
+          → ((s′ : RankedState ℕ) → refusalNumbered g sentence (suc k) s′ rs ≡ none → length (takenNumbered g (suc k) s′ rs) ≡ length rs)
+          → _≡_ {A = ℕ} (length {A = ℕ} (elim o [ stops n ↦ [] | goes s′ ↦ frontNumber (s .queue) ∷ takenNumbered g (suc k) s′ rs ])) (suc (length rs))
+      go (stops n) e ih = none-some e
+      go (goes s′) e ih = ap suc (ih s′ (test (ltb (length rs) (length (plain s′ .queue))) s′ e))
 
 stored-front : (l vs : List ℕ) (n : ℕ) → length vs ≡ n → n ≤ length l → take n (sets l 0 vs) ≡ vs
 stored-front l vs n e h = ap (take n) (sets-eq vs l 0 (omega arith)) ∙ take-at vs (drop (0 + length vs) l) n e
@@ -65,36 +66,39 @@ module _ (file sentence trace : List ℕ) (accepted : grammarRefusal file ≡ no
   pub trace-empty : length trace ≡ 0 → traceRefusal g sentence trace ≡ some (Refusal.Analysis 17 0)
   trace-empty h = rw (le-ltb 96 (length trace) (omega arith), eq-eqb (length trace) 0 h)
 
-  -- by rows
+  -- by ranks
   module _ (few : length trace ≤ 96) (some-steps : length trace ≡ 0 → ⊥) where
-    pub trace-by-rows : traceRefusal g sentence trace ≡ stepsRefusalRow g sentence 0 (beginRow g sentence) trace
-    trace-by-rows =
-        sym (rows-agree file accepted sentence .refusals trace)
-        ∙ ap₂ (λ (a b : Bool). refuseIf a (Refusal.Analysis 12 0) orElse refuseIf b (Refusal.Analysis 17 0) orElse stepsRefusalRow g sentence 0 (beginRow g sentence) trace)
+    pub trace-by-ranks : traceRefusal g sentence trace ≡ refusalNumbered g sentence 0 (beginNumbered g sentence) trace
+    trace-by-ranks =
+        sym (ranks-agree file accepted sentence .refusals trace)
+        ∙ ap₂ (λ (a b : Bool). refuseIf a (Refusal.Analysis 12 0) orElse refuseIf b (Refusal.Analysis 17 0) orElse refusalNumbered g sentence 0 (beginNumbered g sentence) trace)
         (le-ltb 96 (length trace) few) (ne-eqb (length trace) 0 some-steps)
 
-    -- from the first row
-    module _ {q : List ℕ} {c : ℕ} (start : c ≡ startOf file) (first : FirstRow c q) where
-      pub begin-runs : Runs g (stateOf q 0 1 1 1 sentence) 0 (length trace)
-      begin-runs =
-          record {
-            reached = subst (Reached g) (sym (begins file sentence start first)) (reached-begin g (accepted-right file accepted) sentence);
-            counted = omega arith;
-            short = omega arith;
-            few = few;
-          }
+    -- from the first queue
+    module _ {c : ℕ} {w : List ℕ} (start : c ≡ startOf file) (first : FirstQueue c w) {at : Standing} (standing : at ≡ begin (length trace)) where
+      first-of-grammar : FirstQueue (g .start) w
+      first-of-grammar = subst (λ (a : ℕ). FirstQueue a w) start first
 
-      begin-refusal : stepsRefusalRow g sentence 0 (stateOf q 0 1 1 1 sentence) trace ≡ traceRefusal g sentence trace
-      begin-refusal = ap (λ (s : RowState). stepsRefusalRow g sentence 0 s trace) (begins file sentence start first) ∙ sym trace-by-rows
+      -- the run of the trace begins there
+      pub begin-runs : (t : List ℕ) → Compiled (grammarOf file) t → Runs (grammarOf file) t sentence w at (length trace)
+      begin-runs t compiled =
+          subst (λ (x : Standing). Runs g t sentence w x (length trace)) (sym standing)
+          (record { ready = ready-begin g (accepted-well file accepted) w first-of-grammar t sentence (length trace) compiled (omega arith) few; whole = omega arith })
 
-      pub begin-verdict : (v : Verdict) → v ≡ verdict (stepsRefusalRow g sentence 0 (stateOf q 0 1 1 1 sentence) trace) (length trace) → v ≡ verdict (traceRefusal g sentence trace) (length trace)
-      begin-verdict v e = e ∙ ap (λ (o : Option Refusal). verdict o (length trace)) begin-refusal
+      -- with the first state
+      pub begin-state : stateIn (grammarOf file) sentence w at ≡ beginNumbered (grammarOf file) sentence
+      begin-state = ap (stateIn g sentence w) standing ∙ state-begin g (accepted-well file accepted) w first-of-grammar sentence (length trace)
 
-      pub begin-taken : (before last : List ℕ) → length before ≡ 96
-          → (stepsRefusalRow g sentence 0 (stateOf q 0 1 1 1 sentence) trace ≡ none → last ≡ sets before 0 (takenRow g (stateOf q 0 1 1 1 sentence) trace))
-          → traceRefusal g sentence trace ≡ none → take (length trace) last ≡ takenRow g (beginRow g sentence) trace
-      begin-taken before last l h a =
-          let s = stateOf q 0 1 1 1 sentence in
-          let e = begin-refusal ∙ a in
-          ap (take (length trace)) (h e) ∙ stored-front before (takenRow g s trace) (length trace) (taken-length g sentence 0 s trace e) (omega arith)
-          ∙ ap (λ (x : RowState). takenRow g x trace) (begins file sentence start first)
+      -- and what it says is so of the whole trace
+      pub begin-says : (before last : List ℕ) → length before ≡ 96 → (v : Verdict) → RunSays (grammarOf file) sentence trace (at .steps) (stateIn (grammarOf file) sentence w at) before last v → TraceSays (grammarOf file) sentence trace last v
+      begin-says before last l v says = from-begin (subst (λ (s : RankedState ℕ). RunSays g sentence trace 0 s before last v) begin-state (subst (λ (k : ℕ). RunSays g sentence trace k (stateIn g sentence w at) before last v) (ap (λ (x : Standing). x .steps) standing) says))
+        where
+          from-begin : RunSays g sentence trace 0 (beginNumbered g sentence) before last v → TraceSays g sentence trace last v
+          from-begin h =
+              record {
+                answer = h .answer ∙ ap (λ (o : Option Refusal). verdict o (length trace)) (sym trace-by-ranks);
+                taken = λ a.
+                    let e = sym trace-by-ranks ∙ a in
+                    let s = beginNumbered g sentence in
+                    ap (take (length trace)) (h .taken e) ∙ stored-front before (takenNumbered g 0 s trace) (length trace) (taken-length g sentence 0 s trace e) (omega arith);
+              }

@@ -1,6 +1,6 @@
 -- The run along a trace, step by step: what its verdict is, and which predictions it takes.
 -- Assumes nothing.
-use mathlib.Core.Path.{_≡_, sym, ap, ap₂, _∙_}
+use mathlib.Core.Path.{_≡_, refl, sym, ap, ap₂, _∙_}
 use mathlib.Core.Bool.{Bool}
 use mathlib.Core.Option.{Option, none, some}
 use mathlib.Core.List.{List, [], _∷_}
@@ -9,51 +9,114 @@ use native.Mathlib.Omega.{arith}
 use native.Mathlib.Numerals.{add-one}
 use borrow.Author.Tests.{lt-ltb, le-ltb}
 use lib.Dec.{ltb}
-use lib.ListN.{length, getD, drop, set, length-drop, drop-of-length-le}
+use lib.ListN.{length, getD, drop, set, length-drop, drop-of-length-le, length-map}
 use lib.Seq.{drop-cons, sets}
 use Rattle.model.specs.declared.Refusal.{Refusal}
 use Rattle.model.specs.declared.Verdict.{Verdict}
 use Rattle.model.specs.Base.{if_then_else_}
 use Rattle.model.specs.Verdict.{refuseIf, verdict}
 use Rattle.model.specs.Grammar.{Grammar}
-use Rattle.model.specs.Rows.{RowState, RowOutcome, halts, moves, stepRow, stepsRefusalRow}
-use Rattle.model.specs.WellFormed.{Right}
-use Rattle.model.proofs.RowsNamed.{frontOwner}
-use Rattle.model.proofs.RowsBounds.{reached-step, made-bound}
-use Rattle.recognizer.specs.Steps.{Stands, Goes}
-use Rattle.recognizer.specs.Traces.{Runs, takenRow}
+use Rattle.model.specs.Trace.{noNode}
+use Rattle.ranking.specs.Recognizer.{Moved, stops, goes, refusalFrom}
+use Rattle.ranking.specs.Ranks.{Ranked, RankedState, stepRanked, rankRecognizer}
+use Rattle.ranking.specs.Numbered.{numberAt, plain, plainMoved}
+use Rattle.ranking.proofs.Limits.{step-counts}
+use Rattle.ranking.proofs.Numbered.{step-plain}
+use Rattle.ranks.specs.Prediction.{unpacked}
+use Rattle.steps.specs.declared.Standing.{Standing}
+use Rattle.steps.specs.Steps.{stateIn, LeadsTo}
+use Rattle.steps.proofs.Front.{queue-front, queue-length}
+use Rattle.recognizer.specs.Traces.{Runs, refusalNumbered, frontNumber, takenNumbered}
 
-module _ (g : Grammar) (sentence trace : List ℕ) (k : ℕ) (S : RowState) where
+-- what a trace's refusal is after its first step, number k, where the steps `rest` follow
+abbrev pub refusalAfter : Grammar → List ℕ → ℕ → List ℕ → Moved (RankedState (Unit {0})) → Option Refusal
+refusalAfter g sentence k rest o =
+    elim o [
+      | stops n ↦ some (Refusal.Analysis n k)
+      | goes s ↦ if ltb (length rest) (length (s .queue)) then some (Refusal.Analysis 17 (suc k)) else refusalFrom (rankRecognizer noNode g) (length sentence) (suc k) s rest
+    ]
+
+-- a step from state S, and the steps after it
+module _ (g : Grammar) (sentence : List ℕ) (k : ℕ) (S : RankedState ℕ) (r : ℕ) (rest : List ℕ) where
+  by-step : (o : Moved (RankedState ℕ)) → stepRanked (numberAt k) g S r ≡ o → refusalNumbered g sentence k S (r ∷ rest) ≡ refusalAfter g sentence k rest (plainMoved o)
+  by-step o e = ap (refusalAfter g sentence k rest) (sym (step-plain g k S r) ∙ ap plainMoved e)
+
+  pub step-halted : (n : ℕ) → stepRanked (numberAt k) g S r ≡ stops n → refusalNumbered g sentence k S (r ∷ rest) ≡ some (Refusal.Analysis n k)
+  step-halted n e = by-step (stops n) e
+
+  module _ (s : RankedState ℕ) (leads : stepRanked (numberAt k) g S r ≡ goes s) where
+    as-many : length (plain s .queue) ≡ length (s .queue)
+    as-many = length-map (s .queue) (λ (p : Ranked ℕ). record { category = p .category; ranks = p .ranks; node = tt })
+
+    pub step-long : length rest < length (s .queue) → refusalNumbered g sentence k S (r ∷ rest) ≡ some (Refusal.Analysis 17 (suc k))
+    step-long h =
+        by-step (goes s) leads
+        ∙ ap (λ (b : Bool). if b then some (Refusal.Analysis 17 (suc k)) else refusalNumbered g sentence (suc k) s rest) (lt-ltb (length rest) (length (plain s .queue)) (omega (arith, as-many)))
+
+    pub step-short : length (s .queue) ≤ length rest → refusalNumbered g sentence k S (r ∷ rest) ≡ refusalNumbered g sentence (suc k) s rest
+    step-short h =
+        by-step (goes s) leads
+        ∙ ap (λ (b : Bool). if b then some (Refusal.Analysis 17 (suc k)) else refusalNumbered g sentence (suc k) s rest) (le-ltb (length rest) (length (plain s .queue)) (omega (arith, as-many)))
+
+-- the end: 18 where words are left
+module _ (g : Grammar) (sentence : List ℕ) (k : ℕ) (S : RankedState ℕ) (read : ℕ) (words : S .words ≡ drop read sentence) where
+  left-over : length (S .words) ≡ length sentence - read
+  left-over = ap length words ∙ length-drop read sentence
+
+  pub end-left : read < length sentence → refusalNumbered g sentence k S [] ≡ some (Refusal.Analysis 18 read)
+  end-left h =
+      let e : length sentence - length (S .words) ≡ read = omega (arith, left-over) in
+      ap₂ (λ (b : Bool) (p : ℕ). refuseIf b (Refusal.Analysis 18 p)) (lt-ltb 0 (length (S .words)) (omega (arith, left-over))) e
+
+  pub end-read : length sentence ≤ read → refusalNumbered g sentence k S [] ≡ none
+  end-read h = ap (λ (b : Bool). refuseIf b (Refusal.Analysis 18 (length sentence - length (S .words)))) (le-ltb 0 (length (S .words)) (omega (arith, left-over)))
+
+-- a step of a run of n steps leads on
+module _ {g : Grammar} {t sentence w : List ℕ} {at : Standing} (n : ℕ) (runs : Runs g t sentence w at n) (more : at .steps < n) (r : ℕ) {w′ : List ℕ} {next : Standing} (leads : LeadsTo g t sentence w w′ at r next) where
+  pub next-steps : next .steps ≡ at .steps + 1
+  next-steps = ap (λ (x : Standing). x .steps) (leads .place)
+
+  next-left : next .left + 1 ≡ at .left
+  next-left = let e = ap (λ (x : Standing). x .left) (leads .place) in omega (arith, runs .whole)
+
+  pub left-falls : next .left < at .left
+  left-falls = omega (arith, next-left)
+
+  pub next-short : length (stateIn g sentence w′ next .queue) < at .left
+  next-short = omega (arith, queue-length g w′ (next .from) (next .to) (leads .ready .held), leads .ready .fits, next-left)
+
+  pub runs-further : Runs g t sentence w′ next n
+  runs-further = record { ready = leads .ready; whole = omega (arith, next-steps, next-left, runs .whole) }
+
+-- a run that stands somewhere
+module _ {g : Grammar} {t sentence w : List ℕ} {at : Standing} (trace : List ℕ) (runs : Runs g t sentence w at (length trace)) where
+  abbrev k : ℕ
+  k = at .steps
+
+  abbrev S : RankedState ℕ
+  S = stateIn g sentence w at
+
   abbrev refusal : Option Refusal
-  refusal = stepsRefusalRow g sentence k S (drop k trace)
+  refusal = refusalNumbered g sentence (at .steps) (stateIn g sentence w at) (drop (at .steps) trace)
 
-  abbrev taken : List ℕ
-  taken = takenRow g S (drop k trace)
+  pub from-small : at .from < 6272
+  from-small = omega (arith, runs .ready .held .ordered, runs .ready .room, runs .ready .few)
 
-  -- the end: 18 where words are left
-  module _ (read : ℕ) (ended : length trace ≤ k) (words : S .words ≡ drop read sentence) where
+  module _ (ended : length trace ≤ at .steps) where
     no-steps : drop k trace ≡ []
     no-steps = drop-of-length-le trace {i = k} ended
 
-    left-over : length (S .words) ≡ length sentence - read
-    left-over = ap length words ∙ length-drop read sentence
+    pub words-left : at .read < length sentence → refusal ≡ some (Refusal.Analysis 18 (at .read))
+    words-left h = ap (refusalNumbered g sentence k S) no-steps ∙ end-left g sentence k S (at .read) refl h
 
-    pub words-left : read < length sentence → refusal ≡ some (Refusal.Analysis 18 read)
-    words-left h =
-        let e : length sentence - length (S .words) ≡ read = omega (arith, left-over) in
-        ap (stepsRefusalRow g sentence k S) no-steps
-        ∙ ap₂ (λ (b : Bool) (p : ℕ). refuseIf b (Refusal.Analysis 18 p)) (lt-ltb 0 (length (S .words)) (omega (arith, left-over))) e
+    pub all-read : length sentence ≤ at .read → refusal ≡ none
+    all-read h = ap (refusalNumbered g sentence k S) no-steps ∙ end-read g sentence k S (at .read) refl h
 
-    pub all-read : length sentence ≤ read → refusal ≡ none
-    all-read h =
-        ap (stepsRefusalRow g sentence k S) no-steps
-        ∙ ap (λ (b : Bool). refuseIf b (Refusal.Analysis 18 (length sentence - length (S .words)))) (le-ltb 0 (length (S .words)) (omega (arith, left-over)))
-
-    pub none-taken : taken ≡ []
-    none-taken = ap (takenRow g S) no-steps
+    pub none-taken : takenNumbered g (at .steps) (stateIn g sentence w at) (drop (at .steps) trace) ≡ []
+    none-taken = ap (takenNumbered g k S) no-steps
 
   -- one step further
-  module _ (more : k < length trace) where
+  module _ (more : at .steps < length trace) where
     abbrev r : ℕ
     r = getD trace k 0
 
@@ -63,57 +126,49 @@ module _ (g : Grammar) (sentence trace : List ℕ) (k : ℕ) (S : RowState) wher
     steps : drop k trace ≡ r ∷ rest
     steps = drop-cons trace k 0 more ∙ ap (λ (i : ℕ). r ∷ drop i trace) (sym (add-one k))
 
-    rest-length : length rest ≡ length trace - k - 1
-    rest-length = omega (arith, length-drop (k + 1) trace)
+    rest-length : length rest + 1 ≡ at .left
+    rest-length = omega (arith, length-drop (k + 1) trace, runs .whole)
 
-    abbrev after : RowOutcome → Option Refusal
-    after o = elim o [ halts n ↦ some (Refusal.Analysis n k) | moves s ↦ if ltb (length rest) (s .pending) then some (Refusal.Analysis 17 (suc k)) else stepsRefusalRow g sentence (suc k) s rest ]
+    pub halted : (n : ℕ) → stepRanked (numberAt k) g S r ≡ stops n → refusal ≡ some (Refusal.Analysis n k)
+    halted n e = ap (refusalNumbered g sentence k S) steps ∙ step-halted g sentence k S r rest n e
 
-    by-step : (o : RowOutcome) → stepRow g S r ≡ o → refusal ≡ after o
-    by-step o e = ap (stepsRefusalRow g sentence k S) steps ∙ ap after e
-
-    pub halted : (n : ℕ) → stepRow g S r ≡ halts n → refusal ≡ some (Refusal.Analysis n k)
-    halted n e = by-step (halts n) e
-
-    pub longer : (s : RowState) → stepRow g S r ≡ moves s → length trace - k - 1 < s .pending → refusal ≡ some (Refusal.Analysis 17 (k + 1))
+    pub longer : (s : RankedState ℕ) → stepRanked (numberAt k) g S r ≡ goes s → at .left ≤ length (s .queue) → refusal ≡ some (Refusal.Analysis 17 (k + 1))
     longer s e h =
-        by-step (moves s) e
-        ∙ ap (λ (b : Bool). if b then some (Refusal.Analysis 17 (suc k)) else stepsRefusalRow g sentence (suc k) s rest) (lt-ltb (length rest) (s .pending) (omega (arith, rest-length)))
+        ap (refusalNumbered g sentence k S) steps ∙ step-long g sentence k S r rest s e (omega (arith, rest-length))
         ∙ ap (λ (p : ℕ). some (Refusal.Analysis 17 p)) (sym (add-one k))
 
-    module _ (s : RowState) (from to : ℕ) (goes : Goes (stepRow g S r) s (length trace - k - 1) from to) where
-      further : refusal ≡ stepsRefusalRow g sentence (k + 1) s rest
+    module _ {w′ : List ℕ} {next : Standing} (leads : LeadsTo g t sentence w w′ at r next) where
+      abbrev s : RankedState ℕ
+      s = stateIn g sentence w′ next
+
+      steps-are : next .steps ≡ k + 1
+      steps-are = next-steps (length trace) runs more r leads
+
+      further : refusal ≡ refusalNumbered g sentence (next .steps) s (drop (next .steps) trace)
       further =
-          by-step (moves s) (goes .leads-to)
-          ∙ ap (λ (b : Bool). if b then some (Refusal.Analysis 17 (suc k)) else stepsRefusalRow g sentence (suc k) s rest) (le-ltb (length rest) (s .pending) (omega (arith, rest-length, goes .short)))
-          ∙ ap (λ (i : ℕ). stepsRefusalRow g sentence i s rest) (sym (add-one k))
+          ap (refusalNumbered g sentence k S) steps
+          ∙ step-short g sentence k S r rest s (leads .leads-to) (omega (arith, next-short (length trace) runs more r leads, rest-length))
+          ∙ ap₂ (λ (i j : ℕ). refusalNumbered g sentence i s (drop j trace)) (sym (steps-are ∙ add-one k)) (sym steps-are)
 
-      taken-first : taken ≡ frontOwner (S .row) ∷ takenRow g s rest
+      taken-first : takenNumbered g k S (drop k trace) ≡ frontNumber (S .queue) ∷ takenNumbered g (next .steps) s (drop (next .steps) trace)
       taken-first =
-          ap (takenRow g S) steps ∙ ap (λ (o : RowOutcome). elim o [ halts n ↦ [] | moves s′ ↦ frontOwner (S .row) ∷ takenRow g s′ rest ]) (goes .leads-to)
+          ap (takenNumbered g k S) steps
+          ∙ ap (λ (o : Moved (RankedState ℕ)). elim o [ stops n ↦ [] | goes s′ ↦ frontNumber (S .queue) ∷ takenNumbered g (suc k) s′ rest ]) (leads .leads-to)
+          ∙ ap₂ (λ (i j : ℕ). frontNumber (S .queue) ∷ takenNumbered g i s (drop j trace)) (sym (steps-are ∙ add-one k)) (sym steps-are)
 
-      pub verdict-further : (v : Verdict) → v ≡ verdict (stepsRefusalRow g sentence (k + 1) s rest) (length trace) → v ≡ verdict refusal (length trace)
+      pub verdict-further : (v : Verdict) → v ≡ verdict (refusalNumbered g sentence (next .steps) (stateIn g sentence w′ next) (drop (next .steps) trace)) (length trace) → v ≡ verdict refusal (length trace)
       verdict-further v e = e ∙ ap (λ (o : Option Refusal). verdict o (length trace)) (sym further)
 
-      pub taken-further : (before last : List ℕ) (x : ℕ) → x ≡ frontOwner (S .row)
-          → (stepsRefusalRow g sentence (k + 1) s rest ≡ none → last ≡ sets (set before k x) (k + 1) (takenRow g s rest)) → refusal ≡ none → last ≡ sets before k taken
+      front-is : frontNumber (S .queue) ≡ unpacked (getD w (at .from) 0) .number
+      front-is =
+          let held = runs .ready .held in
+          let c = step-counts (numberAt k) g (runs .ready .well) S s r (leads .leads-to) in
+          ap frontNumber (queue-front g w (at .from) (at .to) held (omega (arith, c .some-left, queue-length g w (at .from) (at .to) held)))
+
+      pub taken-further : (before last : List ℕ) (x : ℕ) → x ≡ unpacked (getD w (at .from) 0) .number
+          → (refusalNumbered g sentence (next .steps) (stateIn g sentence w′ next) (drop (next .steps) trace) ≡ none → last ≡ sets (set before (at .steps) x) (next .steps) (takenNumbered g (next .steps) (stateIn g sentence w′ next) (drop (next .steps) trace)))
+          → refusal ≡ none → last ≡ sets before (at .steps) (takenNumbered g (at .steps) (stateIn g sentence w at) (drop (at .steps) trace))
       taken-further before last x e h a =
-          h (sym further ∙ a) ∙ ap₂ (λ (i y : ℕ). sets (set before k y) i (takenRow g s rest)) (add-one k) e ∙ sym (ap (sets before k) taken-first)
-
-      pub runs-further : Right g → Runs g S k (length trace) → Runs g s (k + 1) (length trace)
-      runs-further right h =
-          record {
-            reached = reached-step g right S s r (h .reached) (goes .leads-to);
-            counted = let z = made-bound g S s r k (goes .leads-to) (h .counted) in omega arith;
-            short = omega (arith, goes .short);
-            few = h .few;
-          }
-
-    pub stands : Runs g S k (length trace) → Stands g S (length trace - k - 1)
-    stands h =
-        record {
-          reached = h .reached;
-          numbered = omega (arith, h .counted, h .short, h .few);
-          short = omega (arith, h .short);
-          few = omega (arith, h .few);
-        }
+          h (sym further ∙ a)
+          ∙ ap₂ (λ (i y : ℕ). sets (set before k y) i (takenNumbered g (next .steps) s (drop (next .steps) trace))) (steps-are ∙ add-one k) (e ∙ sym front-is)
+          ∙ sym (ap (sets before k) taken-first)

@@ -1,5 +1,4 @@
-// The top-down recognizer on a packed row, and the trace checker (document 01, "One step", "Trace and tree", refusals 12 to 18).
-pub mod step;
+// The trace checker (document 01, "Trace and tree", refusals 12 to 18).
 mod trace;
 
 pub use trace::check_trace;

@@ -219,9 +219,11 @@ module _ (g : Grammar) (t sentence w : List ℕ) (at : Standing) (ready : Ready 
         record {
           kept = refl;
           below = refl;
-          says = (record { queue = predictRanked (numberAt (at .steps)) g (front .rule) (x g t sentence w at ready r front) (R g t sentence w at ready r front); words = drop (at .read) sentence },
+          says = (
+            record { queue = predictRanked (numberAt (at .steps)) g (front .rule) (x g t sentence w at ready r front) (R g t sentence w at ready r front); words = drop (at .read) sentence },
             predicts g t sentence w at ready r front nonlexical,
-            omega (arith, next-length, front .predicted));
+            omega (arith, next-length, front .predicted),
+          );
         }
 
     pub mark-is : 4 * (at .steps + 1) ≡ madeAt (at .steps)

@@ -2,6 +2,7 @@
 ghost use mathlib.Core.Path.{_≡_};
 ghost use Prim.Native.Nat.{_*_, _<_};
 ghost use Rattle.model.specs.GrammarFile.{grammarOf};
+ghost use Rattle.ranking.specs.Numbered.{madeAt};
 ghost use Rattle.ranks.specs.Table.{daughtersIn};
 ghost use Rattle.steps.specs.Steps.{begin, Ready, Applies, Applied, StepSays, TakenBack, heardBy, readBy, Advances, aheadWith, behind};
 use grammar::rules;
@@ -18,6 +19,12 @@ use ranks::table::daughters;
 use ranks::table::place_of;
 use ranks::table::word;
 use sentences::fits;
+
+// A trace has at most so many steps, and a tree at most as many nodes (document 01, refusal 12).
+pub const MOST_STEPS: usize = 96;
+
+// Predictions have numbers below this: the root's is 0, and each of 96 steps gives numbers to its daughters.
+pub const NUMBERS: usize = 388;
 
 // Where the recognizer stands: its queue is the part from..to of a lent array, behind the queues of the steps before; so many words are read, so many steps
 // are made, and so many may still be made.
@@ -47,6 +54,14 @@ pub fn first_standing(n: usize) -> Standing
         steps: 0,
         left: n,
     }
+}
+
+// The number of the first daughter of step k; the others have the next numbers.
+pub fn first_daughter(k: usize) -> usize
+    requires { ⌜ k < 96 ⌝ }
+    ensures { λ n. ⌜ n ≡ madeAt k ⌝ }
+{
+    4 * (k + 1)
 }
 
 // How many words the step of rule r reads: of a lexical rule one, if its word is not the empty word.

@@ -1,5 +1,4 @@
 pub mod RoundTrips
-pub mod UnfoldStep
 pub mod UnfoldRun
 pub mod UnfoldTables
 pub mod UnfoldLoop

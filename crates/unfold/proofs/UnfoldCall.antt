@@ -13,11 +13,11 @@ use Rattle.model.specs.GrammarFile.{grammarRefusal, grammarOf}
 use Rattle.model.specs.Trace.{traceRefusal}
 use Rattle.model.specs.Tree.{Tree, preorder}
 use Rattle.model.specs.Conversions.{treeOf}
-use Rattle.model.specs.Rows.{beginRow}
 use Rattle.model.specs.Calls.{written}
 use Rattle.model.proofs.Demands.{trace-short}
 use Rattle.model.proofs.FromFile.{accepted-right}
-use Rattle.recognizer.specs.Traces.{takenRow}
+use Rattle.ranking.specs.Numbered.{beginNumbered}
+use Rattle.recognizer.specs.Traces.{takenNumbered}
 use Rattle.unfold.specs.Unfold.{daughterCount, Linked, Grows, Grown}
 use Rattle.unfold.proofs.UnfoldRun.{Unfolded, unfolded}
 use Rattle.unfold.proofs.UnfoldTables.{linked-front, grows-tree}
@@ -27,7 +27,7 @@ pub refused-kept : (o : Option Refusal) (list out : List ℕ) {x : Refusal} → 
 refused-kept o list out e = sym (ap (λ (p : Option Refusal). written p list out) e)
 
 -- an accepted trace, and the predictions that its steps take
-module _ (file sentence trace taken : List ℕ) (accepted : grammarRefusal file ≡ none) (passes : traceRefusal (grammarOf file) sentence trace ≡ none) (is : take (length trace) taken ≡ takenRow (grammarOf file) (beginRow (grammarOf file) sentence) trace) where
+module _ (file sentence trace taken : List ℕ) (accepted : grammarRefusal file ≡ none) (passes : traceRefusal (grammarOf file) sentence trace ≡ none) (is : take (length trace) taken ≡ takenNumbered (grammarOf file) 0 (beginNumbered (grammarOf file) sentence) trace) where
   abbrev g : Grammar
   g = grammarOf file
 
@@ -37,28 +37,28 @@ module _ (file sentence trace taken : List ℕ) (accepted : grammarRefusal file 
   tree-of-run : Unfolded file sentence trace accepted (take (length trace) taken)
   tree-of-run = subst (Unfolded file sentence trace accepted) (sym is) (unfolded file sentence trace accepted passes)
 
-  front-small : (k : ℕ) → k < length trace → getD (take (length trace) taken) k 0 < 96
+  front-small : (k : ℕ) → k < length trace → getD (take (length trace) taken) k 0 < 388
   front-small k h = omega (arith, tree-of-run .small k h, steps-few)
 
-  pub taken-small : (k : ℕ) → k < length trace → getD taken k 0 < 96
+  pub taken-small : (k : ℕ) → k < length trace → getD taken k 0 < 388
   taken-small k h = omega (arith, front-small k h, getD-take (length trace) taken k 0 h)
 
-  -- with the tables that the steps fill
-  module _ (steps first : List ℕ) (linked : Linked (daughterCount file) trace taken steps first (length trace)) where
-    stands : Grows (daughterCount file) trace steps first (tree-of-run .tree) 0
+  -- with the table that the steps fill
+  module _ (steps : List ℕ) (linked : Linked taken steps (length trace)) where
+    stands : Grows (daughterCount file) trace steps (tree-of-run .tree) 0
     stands =
         let u = tree-of-run in
-        grows-tree (daughterCount file) trace (take (length trace) taken) steps first (u .names) steps-few (u .unfolds) front-small
-        (linked-front (daughterCount file) trace taken steps first (length trace) linked) (u .tree) 0 (u .start) (u .begins)
+        grows-tree (daughterCount file) trace (take (length trace) taken) steps (u .names) steps-few (u .unfolds) front-small
+        (linked-front taken steps (length trace) linked) (u .tree) 0 (u .start) (u .begins)
 
     nodes-few : length (preorder (tree-of-run .tree)) ≤ 96
     nodes-few = omega (arith, tree-of-run .size, steps-few)
 
-    pub grown : Grown (daughterCount file) trace steps first
+    pub grown : Grown (daughterCount file) trace steps
     grown = record { tree = tree-of-run .tree; grows = stands; few = nodes-few }
 
     pub tree-written : (out last : List ℕ)
-        → ((tree : Tree) → Grows (daughterCount file) trace steps first tree 0 → length (preorder tree) ≤ 96 → last ≡ preorder tree ++ drop (length (preorder tree)) out)
+        → ((tree : Tree) → Grows (daughterCount file) trace steps tree 0 → length (preorder tree) ≤ 96 → last ≡ preorder tree ++ drop (length (preorder tree)) out)
         → last ≡ written (traceRefusal g sentence trace) (treeOf g sentence trace) out
     tree-written out last h =
         h (tree-of-run .tree) stands nodes-few

@@ -2,21 +2,19 @@
 -- Assumes nothing.
 use mathlib.Core.Path.{_≡_, refl, sym, ap, ap₂, subst, _∙_}
 use mathlib.Core.Option.{none, some}
-use mathlib.Core.List.{List, [], _∷_, List·Memᴰ·head}
-use Prim.Native.Nat.{ℕ, zero, suc, _+_, _<_, _≤_}
+use mathlib.Core.List.{List, [], _∷_, map, List·Memᴰ·head, head-eq-of-cons-eq}
+use Prim.Native.Nat.{ℕ, zero, suc, _+_, _<_}
 use native.Mathlib.Omega.{arith}
 use lib.Dec.{T}
 use lib.ListN.{length, getD}
 use Rattle.model.specs.Base.{numbersFrom}
 use Rattle.model.specs.Grammar.{Rule, Grammar, ruleAt}
 use Rattle.model.specs.GrammarFile.{grammarRefusal, grammarOf, recordOf}
-use Rattle.model.specs.Step.{Prediction, State, leads, begin}
+use Rattle.model.specs.Step.{State, leads, begin}
 use Rattle.model.specs.Trace.{traceRefusal}
 use Rattle.model.specs.Tree.{Tree, Forest, node, nil, cons, preorder, hasRoot, hasRoots}
 use Rattle.model.specs.Conversions.{childAt, subtree, Step, Traces, BelongsTo, treeOf}
-use Rattle.model.specs.Rows.{Slot, RowState, RowOutcome, halts, moves, stepRow, beginRow}
-use Rattle.model.specs.WellFormed.{Right}
-use Rattle.model.specs.RowsAgree.{number}
+use Rattle.model.specs.WellFormed.{Right, WellFormed}
 use Rattle.model.proofs.Tests.{and-r}
 use Rattle.model.proofs.Perm.{perm-sym}
 use Rattle.model.proofs.Apart.{Every, every-left, every-right, every-to, every-perm}
@@ -26,15 +24,20 @@ use Rattle.model.proofs.Analyses.{at-good, rooted-of}
 use Rattle.model.proofs.Addresses.{tree-of}
 use Rattle.model.proofs.Checker.{accepted-trace}
 use Rattle.model.proofs.Demands.{belongs}
-use Rattle.model.proofs.FromFile.{accepted-right, rule-is, record-tested}
+use Rattle.model.proofs.FromFile.{rule-is, record-tested}
+use Rattle.model.proofs.WellFormed.{accepted-well}
 use Rattle.model.proofs.RuleFromRecord.{daughters-length}
-use Rattle.model.proofs.RowsLine.{nodesOf}
-use Rattle.model.proofs.Rows.{AgreeRow, begin-agree}
-use Rattle.model.proofs.RowsNamed.{frontOwner, extended-old, extended-new, AgreeNamed, SameNamed, nextNames, step-named, begin-named, pending-is, FrontNamed, Fronts, front-named}
-use Rattle.recognizer.specs.Traces.{takenRow}
-use Rattle.model.proofs.Sums.{sum-first}
-use Rattle.unfold.specs.Unfold.{daughterCount, firstMade, Taken, treesFrom, Unfolds}
-use Rattle.unfold.proofs.UnfoldStep.{Onward, onward}
+use Rattle.ranking.specs.Recognizer.{Moved, stops, goes}
+use Rattle.ranking.specs.Ranks.{Ranked, RankedState, stepRanked}
+use Rattle.ranking.specs.RanksAgree.{ranked, rankedState, rankedOutcome}
+use Rattle.ranking.specs.Numbered.{madeAt, numberAt, namesAfter, beginNumbered}
+use Rattle.ranking.proofs.Steps.{KeepsLine, Agree, step-along}
+use Rattle.ranking.proofs.Marks.{remark, renamed, renamedMoved}
+use Rattle.ranking.proofs.RanksAgree.{begin-agree}
+use Rattle.ranking.proofs.Numbered.{Below, extended-old, extended-new, step-named, below-step}
+use Rattle.recognizer.specs.Traces.{frontNumber, takenNumbered}
+use Rattle.derivation.proofs.Queued.{numbersOf, Queued, step-queued}
+use Rattle.unfold.specs.Unfold.{daughterCount, Taken, treesFrom, Unfolds}
 
 taken-more : (x : ℕ) (l : List ℕ) (p : ℕ) → Taken l p → Taken (x ∷ l) p
 taken-more x l p h = (suc (h .0), omega (arith, h .1), h .2)
@@ -45,23 +48,23 @@ numbers-at P a (suc d) h zero l = let z : a + 0 ≡ a = omega arith in subst P (
 numbers-at P a (suc d) h (suc j) l = let z : suc a + j ≡ a + suc j = omega arith in subst P z (numbers-at P (suc a) d (h .1) j (omega arith))
 
 -- one step before others
-unfolds-cons : (count : ℕ → ℕ) (m r x : ℕ) (l rs : List ℕ) (names : ℕ → Tree) → Unfolds count (m + count r) l rs names
-    → names x ≡ node r (treesFrom names m (count r)) → ((j : ℕ) → j < count r → Taken l (m + j)) → Unfolds count m (x ∷ l) (r ∷ rs) names
-unfolds-cons count m r x l rs names u e h = record { sized = ap suc (u .sized); nodes = nodes; daughters = daughters }
+unfolds-cons : (count : ℕ → ℕ) (k r x : ℕ) (l rs : List ℕ) (names : ℕ → Tree) → Unfolds count (suc k) l rs names
+    → names x ≡ node r (treesFrom names (madeAt k) (count r)) → ((j : ℕ) → j < count r → Taken l (madeAt k + j)) → Unfolds count k (x ∷ l) (r ∷ rs) names
+unfolds-cons count k r x l rs names u e h = record { sized = ap suc (u .sized); nodes = nodes; daughters = daughters }
   where
-    here : m + 0 ≡ m
+    here : k + 0 ≡ k
     here = omega arith
 
-    there : (k : ℕ) → firstMade count (m + count r) rs k ≡ firstMade count m (r ∷ rs) (suc k)
-    there k = omega (arith, sum-first (λ i. count (getD (r ∷ rs) i 0)) k)
+    there : (i : ℕ) → suc k + i ≡ k + suc i
+    there i = omega arith
 
-    nodes : (k : ℕ) → k < suc (length rs) → names (getD (x ∷ l) k 0) ≡ node (getD (r ∷ rs) k 0) (treesFrom names (firstMade count m (r ∷ rs) k) (count (getD (r ∷ rs) k 0)))
-    nodes zero b = e ∙ ap (λ (i : ℕ). node r (treesFrom names i (count r))) (sym here)
-    nodes (suc k) b = u .nodes k (omega arith) ∙ ap (λ (i : ℕ). node (getD rs k 0) (treesFrom names i (count (getD rs k 0)))) (there k)
+    nodes : (i : ℕ) → i < suc (length rs) → names (getD (x ∷ l) i 0) ≡ node (getD (r ∷ rs) i 0) (treesFrom names (madeAt (k + i)) (count (getD (r ∷ rs) i 0)))
+    nodes zero b = e ∙ ap (λ (n : ℕ). node r (treesFrom names (madeAt n) (count r))) (sym here)
+    nodes (suc i) b = u .nodes i (omega arith) ∙ ap (λ (n : ℕ). node (getD rs i 0) (treesFrom names (madeAt n) (count (getD rs i 0)))) (there i)
 
-    daughters : (k j : ℕ) → k < suc (length rs) → j < count (getD (r ∷ rs) k 0) → Taken (x ∷ l) (firstMade count m (r ∷ rs) k + j)
-    daughters zero j b c = taken-more x l (m + 0 + j) (subst (λ (i : ℕ). Taken l (i + j)) (sym here) (h j c))
-    daughters (suc k) j b c = taken-more x l (firstMade count m (r ∷ rs) (suc k) + j) (subst (λ (i : ℕ). Taken l (i + j)) (there k) (u .daughters k j (omega arith) c))
+    daughters : (i j : ℕ) → i < suc (length rs) → j < count (getD (r ∷ rs) i 0) → Taken (x ∷ l) (madeAt (k + i) + j)
+    daughters zero j b c = taken-more x l (madeAt (k + 0) + j) (subst (λ (n : ℕ). Taken l (madeAt n + j)) (sym here) (h j c))
+    daughters (suc i) j b c = taken-more x l (madeAt (k + suc i) + j) (subst (λ (n : ℕ). Taken l (madeAt n + j)) (there i) (u .daughters i j (omega arith) c))
 
 -- trees that are named from number a on
 trees-from : (g : Grammar) (ts : Forest) (ds : List ℕ) (names : ℕ → Tree) (a : ℕ) → T (hasRoots g ts ds) → ((j : ℕ) → j < length ds → names (a + j) ≡ childAt ts j) → ts ≡ treesFrom names a (length ds)
@@ -73,116 +76,146 @@ trees-from g (cons t ts) (d ∷ ds) names a h e =
     ap₂ cons (sym (e 0 (omega arith)) ∙ ap names z)
     (trees-from g ts ds names (suc a) (and-r (hasRoot g t d) (hasRoots g ts ds) h) (λ j l. let y : suc a + j ≡ a + suc j = omega arith in ap names y ∙ e (suc j) (omega arith)))
 
-module _ (g : Grammar) (right : Right g) (count : ℕ → ℕ) (counts : (r : ℕ) (rule : Rule) → ruleAt g r ≡ some rule → count r ≡ length (rule .daughters)) where
-  -- from state t on the steps rs take the predictions l: names for all of them, which keep those that were given
-  pub record Named (t : RowState) (l rs : List ℕ) (names : ℕ → Tree) : Type 0 where
-    pub all : ℕ → Tree
-    pub old : (p : ℕ) → p < t .made → all p ≡ names p
-    pub unfolds : Unfolds count (t .made) l rs all
-    pub waiting : (n : State ℕ) → AgreeRow g n t → Every (Taken l) (nodesOf (n .queue))
-    pub enough : t .pending ≤ length rs
-    pub small : (k : ℕ) → k < length rs → getD l k 0 + t .pending < t .made + length rs
+module _ (g : Grammar) (well : WellFormed g) where
+  -- Step k from state t, whose numbers stand for the trees of state s: it takes a front, and leads to a state whose numbers stand for the trees of state s′.
+  record Known (k : ℕ) (names : ℕ → Tree) (t : RankedState ℕ) (root : Tree) (s′ : State Tree) (r : ℕ) : Type 0 where
+    front : Ranked ℕ
+    rest : List (Ranked ℕ)
+    queue-is : t .queue ≡ front ∷ rest
+    node-is : names (front .node) ≡ root
+    next : RankedState ℕ
+    leads-to : stepRanked (numberAt k) g t r ≡ goes next
+    agree : Agree g s′ (renamed (namesAfter subtree k names (front .node)) next)
 
-  -- no step more
-  none-left : (names : ℕ → Tree) (t : RowState) → t .pending ≡ 0 → Named t [] [] names
-  none-left names t e =
-      record {
-        all = names;
-        old = λ p h. refl;
-        unfolds = record { sized = refl; nodes = λ k h. let z : ⊥ = omega arith in absurd z; daughters = λ k j h. let z : ⊥ = omega arith in absurd z };
-        waiting = λ n a. none-waits (n .queue) (sym (a .kept .counted) ∙ e);
-        enough = omega arith;
-        small = λ k h. let z : ⊥ = omega arith in absurd z;
-      }
-    where
-      none-waits : (q : List (Prediction ℕ)) → length q ≡ 0 → Every (Taken []) (nodesOf q)
-      none-waits [] h = tt
-      none-waits (p ∷ q) h = let z : ⊥ = omega arith in absurd z
-
-  -- a step by rule r, which takes the front
-  module _ (names : ℕ → Tree) (s s′ : State Tree) (t t′ : RowState) (r : ℕ) (h : AgreeNamed g names s t) (good : Good g (s .queue)) (st : Step g s r s′) (e : stepRow g t r ≡ moves t′) where
-    abbrev x : ℕ
-    x = frontOwner (t .row)
-
-    o : Onward g right (h .numbered) t r t′
-    o = onward g right (h .numbered) t t′ r (h .agree) e
-
-    front-is : names x ≡ st .front .node
-    front-is =
-        let f : FrontNamed g names (st .front) (t .row) = subst (λ (q : List (Prediction Tree)). Fronts g names q (t .row)) (st .queue-is) (front-named g names s t h) in
-        ap (λ (row : List Slot). names (frontOwner row)) (f .is) ∙ f .node
-
-    top : Root g (st .front .node) (st .front .category)
-    top = root g (st .front .node) (st .front .category) (subst (Good g) (st .queue-is) good .fit (st .front) (List·Memᴰ·head refl) .rooted)
-
-    node-is : names x ≡ node r (top .trees)
-    node-is = front-is ∙ top .is-node ∙ ap (λ (k : ℕ). node k (top .trees)) (st .labelled)
-
-    daughters-are : count r ≡ length (top .rule .daughters)
-    daughters-are = counts r (top .rule) (ap (ruleAt g) (sym (st .labelled)) ∙ top .is-rule)
-
-    made-is : t′ .made ≡ t .made + count r
-    made-is = omega (arith, o .made, counts r (o .queued .rule) (o .queued .known))
-
-    pending-next : t′ .pending + 1 ≡ t .pending + count r
-    pending-next = omega (arith, o .pending, counts r (o .queued .rule) (o .queued .known))
-
-    -- what the front is named, by names that keep those after the step
-    named-front : (all : ℕ → Tree) → ((p : ℕ) → p < t′ .made → all p ≡ nextNames g subtree right names t p) → all x ≡ node r (treesFrom all (t .made) (count r))
-    named-front all old =
-        let new = subtree (names x) in
-        let child : (j : ℕ) → j < length (top .rule .daughters) → all (t .made + j) ≡ childAt (top .trees) j
-        = λ j l. old (t .made + j) (omega (arith, made-is, daughters-are)) ∙ extended-new (t .made) new names j ∙ ap (λ (y : Tree). subtree y j) node-is in
-        old x (omega (arith, made-is, o .below)) ∙ extended-old (t .made) new names x (o .below) ∙ node-is
-        ∙ ap (node r) (trees-from g (top .trees) (top .rule .daughters) all (t .made) (top .below) child)
-        ∙ ap (λ (d : ℕ). node r (treesFrom all (t .made) d)) (sym daughters-are)
-
-    -- the predictions that wait, where those of the next state are taken by l
-    waits : (l : List ℕ) → ((n : State ℕ) → AgreeRow g n t′ → Every (Taken l) (nodesOf (n .queue))) → (n : State ℕ) → AgreeRow g n t → Every (Taken (x ∷ l)) (nodesOf (n .queue))
-    waits l w n a =
-        let u = onward g right n t t′ r a e in
-        let q = u .queued in
-        let behind : Every (Taken l) (nodesOf (q .rest))
-        = every-right (Taken l) (numbersFrom (t .made) (length (q .rule .daughters))) (nodesOf (q .rest)) (every-perm (Taken l) (perm-sym (q .nodes)) (w (u .next) (u .agree))) in
-        subst (λ (y : List (Prediction ℕ)). Every (Taken (x ∷ l)) (nodesOf y)) (sym (q .queue-is))
-        ((0, omega arith, u .owner), every-to (Taken l) (Taken (x ∷ l)) (taken-more x l) (nodesOf (q .rest)) behind)
-
-    made-taken : (l : List ℕ) → ((n : State ℕ) → AgreeRow g n t′ → Every (Taken l) (nodesOf (n .queue))) → (j : ℕ) → j < count r → Taken l (t .made + j)
-    made-taken l w j b =
-        let q = o .queued in
-        let d = length (q .rule .daughters) in
-        numbers-at (Taken l) (t .made) d
-        (every-left (Taken l) (numbersFrom (t .made) d) (nodesOf (q .rest)) (every-perm (Taken l) (perm-sym (q .nodes)) (w (o .next) (o .agree)))) j
-        (omega (arith, counts r (q .rule) (q .known)))
-
-    stepped : (l rs : List ℕ) → Named t′ l rs (nextNames g subtree right names t) → Named t (x ∷ l) (r ∷ rs) names
-    stepped l rs ih =
-        record {
-          all = ih .all;
-          old = λ p b. ih .old p (omega (arith, made-is)) ∙ extended-old (t .made) (subtree (names x)) names p b;
-          unfolds = unfolds-cons count (t .made) r x l rs (ih .all) (subst (λ (m : ℕ). Unfolds count m l rs (ih .all)) made-is (ih .unfolds)) (named-front (ih .all) (ih .old)) (made-taken l (ih .waiting));
-          waiting = waits l (ih .waiting);
-          enough = omega (arith, ih .enough, pending-next);
-          small = small;
-        }
+  module _ (k : ℕ) (names : ℕ → Tree) (s s′ : State Tree) (r : ℕ) (st : Step g s r s′) where
+    known-by : (q : List (Ranked ℕ)) (ws : List ℕ) → Below (madeAt k) q → Agree g s (renamed names (record { queue = q; words = ws }))
+        → Known k names (record { queue = q; words = ws }) (st .front .node) s′ r
+    known-by [] ws b a =
+        let e : [] ≡ ranked (st .front ∷ st .rest) = ap (λ (x : RankedState Tree). x .queue) (a .is) ∙ ap ranked (st .queue-is) in
+        let z : _≡_ {A = ℕ} 0 1 = cc in absurd (omega arith)
+    known-by (p ∷ q) ws b a =
+        let along = step-along g subtree (well .right) s (a .line) r in
+        let e = step-named subtree g k names p q ws r b ∙ ap (λ (x : RankedState Tree). stepRanked subtree g x r) (a .is) ∙ along .is ∙ ap rankedOutcome (st .leads-to) in
+        on (stepRanked (numberAt k) g (record { queue = p ∷ q; words = ws }) r) refl e (subst (KeepsLine g) (st .leads-to) (along .keeps))
       where
-        small : (k : ℕ) → k < suc (length rs) → getD (x ∷ l) k 0 + t .pending < t .made + suc (length rs)
-        small zero b = omega (arith, ih .enough, pending-next, o .below)
-        small (suc k) b = omega (arith, ih .small k (omega arith), pending-next, made-is)
+        on : (u : Moved (RankedState ℕ)) → stepRanked (numberAt k) g (record { queue = p ∷ q; words = ws }) r ≡ u → renamedMoved (namesAfter subtree k names (p .node)) u ≡ goes (rankedState s′) → KeepsLine g (leads s′)
+            → Known k names (record { queue = p ∷ q; words = ws }) (st .front .node) s′ r
+        on (stops n) d f line = let z : _≡_ {A = ℕ} 0 1 = cc in absurd (omega arith)
+        on (goes t′) d f line =
+            record {
+              front = p;
+              rest = q;
+              queue-is = refl;
+              node-is = ap (λ (x : Ranked Tree). x .node) (head-eq-of-cons-eq (ap (λ (x : RankedState Tree). x .queue) (a .is) ∙ ap ranked (st .queue-is)));
+              next = t′;
+              leads-to = d;
+              agree = record { line = line; is = cc };
+            }
 
-  pub named : (rs : List ℕ) (names : ℕ → Tree) (s : State Tree) (t : RowState) → AgreeNamed g names s t → Good g (s .queue) → Traces g s rs → Named t (takenRow g t rs) rs names
-  named [] names s t h good tr = none-left names t (pending-is g names s t h ∙ ap length (tr .0))
-  named (r ∷ rs) names s t h good tr =
-      go (stepRow g t r) refl (subst (λ (y : _). SameNamed g (nextNames g subtree right names t) y (stepRow g t r)) (tr .1 .leads-to) (step-named g subtree right names s t h r))
-      (λ names′ t′ a. named rs names′ (tr .0) t′ a (advance g right s (tr .0) r good (tr .1) .good) (tr .2))
-    where
-      go : (u : RowOutcome) → stepRow g t r ≡ u → SameNamed g (nextNames g subtree right names t) (leads (tr .0)) u
-          → ((names′ : ℕ → Tree) (t′ : RowState) → AgreeNamed g names′ (tr .0) t′ → Named t′ (takenRow g t′ rs) rs names′) → Named t (takenRow g t (r ∷ rs)) (r ∷ rs) names
-      go (halts k) e a ih = absurd a
-      go (moves t′) e a ih =
-          let E : takenRow g t (r ∷ rs) ≡ frontOwner (t .row) ∷ takenRow g t′ rs
-          = ap (λ (u : RowOutcome). elim u [ halts n ↦ [] | moves v ↦ frontOwner (t .row) ∷ takenRow g v rs ]) e in
-          subst (λ (y : List ℕ). Named t y (r ∷ rs) names) (sym E) (stepped names s (tr .0) t t′ r h good (tr .1) e (takenRow g t′ rs) rs (ih (nextNames g subtree right names t) t′ a))
+  module _ (count : ℕ → ℕ) (counts : (r : ℕ) (rule : Rule) → ruleAt g r ≡ some rule → count r ≡ length (rule .daughters)) where
+    -- from state t on steps k and after, by the rules rs, take the predictions l: names for all of them, which keep those that were given
+    pub record Named (k : ℕ) (t : RankedState ℕ) (l rs : List ℕ) (names : ℕ → Tree) : Type 0 where
+      pub all : ℕ → Tree
+      pub old : (p : ℕ) → p < madeAt k → all p ≡ names p
+      pub unfolds : Unfolds count k l rs all
+      pub waiting : Every (Taken l) (numbersOf (t .queue))
+      pub small : (i : ℕ) → i < length rs → getD l i 0 < madeAt (k + i)
+
+    -- no step more
+    none-left : (k : ℕ) (names : ℕ → Tree) (t : RankedState ℕ) → t .queue ≡ [] → Named k t [] [] names
+    none-left k names t e =
+        record {
+          all = names;
+          old = λ p h. refl;
+          unfolds = record { sized = refl; nodes = λ i h. let z : ⊥ = omega arith in absurd z; daughters = λ i j h. let z : ⊥ = omega arith in absurd z };
+          waiting = subst (λ (q : List (Ranked ℕ)). Every (Taken []) (numbersOf q)) (sym e) tt;
+          small = λ i h. let z : ⊥ = omega arith in absurd z;
+        }
+
+    -- a step by rule r, which takes the front
+    module _ (k : ℕ) (names : ℕ → Tree) (s s′ : State Tree) (t : RankedState ℕ) (r : ℕ) (below : Below (madeAt k) (t .queue)) (good : Good g (s .queue)) (st : Step g s r s′) (kn : Known k names t (st .front .node) s′ r) where
+      abbrev x : ℕ
+      x = kn .front .node
+
+      o : Queued g k (t .queue) (ruleAt g r) (kn .next)
+      o = step-queued g k t (kn .next) r (kn .leads-to)
+
+      same-front : x ≡ o .front .node
+      same-front = ap (λ (p : Ranked ℕ). p .node) (head-eq-of-cons-eq (sym (kn .queue-is) ∙ o .queue-is))
+
+      x-below : x < madeAt k
+      x-below = subst (Below (madeAt k)) (kn .queue-is) below .0
+
+      top : Root g (st .front .node) (st .front .category)
+      top = root g (st .front .node) (st .front .category) (subst (Good g) (st .queue-is) good .fit (st .front) (List·Memᴰ·head refl) .rooted)
+
+      node-is : names x ≡ node r (top .trees)
+      node-is = kn .node-is ∙ top .is-node ∙ ap (λ (i : ℕ). node i (top .trees)) (st .labelled)
+
+      rule-is-known : ruleAt g r ≡ some (top .rule)
+      rule-is-known = ap (ruleAt g) (sym (st .labelled)) ∙ top .is-rule
+
+      daughters-are : count r ≡ length (top .rule .daughters)
+      daughters-are = counts r (top .rule) rule-is-known
+
+      -- what the front is named, by names that keep those after the step
+      named-front : (all : ℕ → Tree) → ((p : ℕ) → p < madeAt (suc k) → all p ≡ namesAfter subtree k names x p) → all x ≡ node r (treesFrom all (madeAt k) (count r))
+      named-front all old =
+          let new = subtree (names x) in
+          let child : (j : ℕ) → j < length (top .rule .daughters) → all (madeAt k + j) ≡ childAt (top .trees) j
+          = λ j l. old (madeAt k + j) (omega (arith, well .ranges r (top .rule) rule-is-known .daughters-few)) ∙ extended-new (madeAt k) new names j ∙ ap (λ (y : Tree). subtree y j) node-is in
+          old x (omega (arith, x-below)) ∙ extended-old (madeAt k) new names x x-below ∙ node-is
+          ∙ ap (node r) (trees-from g (top .trees) (top .rule .daughters) all (madeAt k) (top .below) child)
+          ∙ ap (λ (d : ℕ). node r (treesFrom all (madeAt k) d)) (sym daughters-are)
+
+      -- where those of the next state are taken by l: the predictions that wait, and those that the step makes
+      module _ (l : List ℕ) (w : Every (Taken l) (numbersOf (kn .next .queue))) where
+        waits : Every (Taken (x ∷ l)) (numbersOf (t .queue))
+        waits =
+            let behind : Every (Taken l) (numbersOf (o .rest))
+            = every-right (Taken l) (numbersFrom (madeAt k) (length (o .rule .daughters))) (numbersOf (o .rest)) (every-perm (Taken l) (perm-sym (o .numbers)) w) in
+            subst (λ (y : List (Ranked ℕ)). Every (Taken (x ∷ l)) (numbersOf y)) (sym (o .queue-is))
+            ((0, omega arith, same-front), every-to (Taken l) (Taken (x ∷ l)) (taken-more x l) (numbersOf (o .rest)) behind)
+
+        made-taken : (j : ℕ) → j < count r → Taken l (madeAt k + j)
+        made-taken j b =
+            let d = length (o .rule .daughters) in
+            numbers-at (Taken l) (madeAt k) d
+            (every-left (Taken l) (numbersFrom (madeAt k) d) (numbersOf (o .rest)) (every-perm (Taken l) (perm-sym (o .numbers)) w)) j
+            (omega (arith, counts r (o .rule) (o .known)))
+
+      stepped : (l rs : List ℕ) → Named (suc k) (kn .next) l rs (namesAfter subtree k names x) → Named k t (x ∷ l) (r ∷ rs) names
+      stepped l rs ih =
+          record {
+            all = ih .all;
+            old = λ p b. ih .old p (omega arith) ∙ extended-old (madeAt k) (subtree (names x)) names p b;
+            unfolds = unfolds-cons count k r x l rs (ih .all) (ih .unfolds) (named-front (ih .all) (ih .old)) (made-taken l (ih .waiting));
+            waiting = waits l (ih .waiting);
+            small = small;
+          }
+        where
+          small : (i : ℕ) → i < suc (length rs) → getD (x ∷ l) i 0 < madeAt (k + i)
+          small zero b = omega (arith, x-below)
+          small (suc i) b = omega (arith, ih .small i (omega arith))
+
+    none-waits : (names : ℕ → Tree) (s : State Tree) (t : RankedState ℕ) → Agree g s (renamed names t) → s .queue ≡ [] → t .queue ≡ []
+    none-waits names s t a e = go (t .queue) (ap (λ (x : RankedState Tree). x .queue) (a .is) ∙ ap ranked e)
+      where
+        go : (q : List (Ranked ℕ)) → map (remark names) q ≡ [] → q ≡ []
+        go [] f = refl
+        go (p ∷ q) f = let z : _≡_ {A = ℕ} 0 1 = cc in absurd (omega arith)
+
+    pub named : (rs : List ℕ) (k : ℕ) (names : ℕ → Tree) (s : State Tree) (t : RankedState ℕ) → Below (madeAt k) (t .queue) → Agree g s (renamed names t) → Good g (s .queue) → Traces g s rs
+        → Named k t (takenNumbered g k t rs) rs names
+    named [] k names s t b a good tr = none-left k names t (none-waits names s t a (tr .0))
+    named (r ∷ rs) k names s t b a good tr =
+        let kn = known-by k names s (tr .0) r (tr .1) (t .queue) (t .words) b a in
+        let x = kn .front .node in
+        let ih = named rs (suc k) (namesAfter subtree k names x) (tr .0) (kn .next) (below-step g k well t (kn .next) r b (kn .leads-to)) (kn .agree) (advance g (well .right) s (tr .0) r good (tr .1) .good) (tr .2) in
+        let e : takenNumbered g k t (r ∷ rs) ≡ x ∷ takenNumbered g (suc k) (kn .next) rs
+        = ap (λ (u : Moved (RankedState ℕ)). elim u [ stops n ↦ [] | goes v ↦ frontNumber (t .queue) ∷ takenNumbered g (suc k) v rs ]) (kn .leads-to)
+        ∙ ap (λ (q : List (Ranked ℕ)). frontNumber q ∷ takenNumbered g (suc k) (kn .next) rs) (kn .queue-is) in
+        subst (λ (y : List ℕ). Named k t y (r ∷ rs) names) (sym e) (stepped k names s (tr .0) t r b good (tr .1) kn (takenNumbered g (suc k) (kn .next) rs) rs ih)
 
 -- an accepted trace
 module _ (file sentence trace : List ℕ) (accepted : grammarRefusal file ≡ none) where
@@ -197,18 +230,21 @@ module _ (file sentence trace : List ℕ) (accepted : grammarRefusal file ≡ no
     pub names : ℕ → Tree
     pub start : names 0 ≡ tree
     pub begins : Taken taken 0
-    pub unfolds : Unfolds (daughterCount file) 1 taken trace names
-    pub small : (k : ℕ) → k < length trace → getD taken k 0 < length trace
+    pub unfolds : Unfolds (daughterCount file) 0 taken trace names
+    pub small : (k : ℕ) → k < length trace → getD taken k 0 < madeAt k
+
+  well : WellFormed g
+  well = accepted-well file accepted
 
   right : Right g
-  right = accepted-right file accepted
+  right = well .right
 
   pub count-is : (r : ℕ) (rule : Rule) → ruleAt g r ≡ some rule → daughterCount file r ≡ length (rule .daughters)
   count-is r rule e =
       let (here, same) = rule-is file r rule e in
       sym (daughters-length g (recordOf file r) (record-tested file accepted r here)) ∙ ap (λ (x : Rule). length (x .daughters)) same
 
-  pub unfolded : traceRefusal g sentence trace ≡ none → Unfolded (takenRow g (beginRow g sentence) trace)
+  pub unfolded : traceRefusal g sentence trace ≡ none → Unfolded (takenNumbered g 0 (beginNumbered g sentence) trace)
   unfolded e =
       let a = accepted-trace g right sentence trace e in
       let tree = a .tree in
@@ -216,14 +252,14 @@ module _ (file sentence trace : List ℕ) (accepted : grammarRefusal file ≡ no
       let b = belongs g right sentence tree (a .derived) in
       let traces : BelongsTo g sentence trace tree = subst (λ (x : List ℕ). BelongsTo g sentence x tree) (a .trace) (b .traces) in
       let good = at-good g right sentence tree rooted in
-      let n = named g right (daughterCount file) count-is trace (λ p. tree) (begin subtree g tree sentence) (beginRow g sentence) (begin-named g subtree right tree sentence) good traces in
+      let n = named g well (daughterCount file) count-is trace 0 (λ p. tree) (begin subtree g tree sentence) (beginNumbered g sentence) (omega arith, tt) (begin-agree subtree g right tree sentence) good traces in
       record {
         tree = tree;
         is = tree-of g right tree sentence trace good traces;
         size = sym (b .size) ∙ ap length (a .trace);
         names = n .all;
         start = n .old 0 (omega arith);
-        begins = n .waiting (begin (number 1) g 0 sentence) (begin-agree g right sentence) .0;
+        begins = n .waiting .0;
         unfolds = n .unfolds;
         small = λ k h. omega (arith, n .small k h);
       }

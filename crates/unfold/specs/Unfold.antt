@@ -1,21 +1,18 @@
--- The tree below the run of a trace: what the predictions that its steps take stand for (document 01, "Trace and tree"), and tables from which code
--- writes it.
+-- The tree below the run of a trace: what the predictions that its steps take stand for (document 01, "Trace and tree"), and the table from which
+-- code writes it.
 -- Assumes nothing.
 use mathlib.Core.Path.{_≡_}
 use mathlib.Core.List.{List, [], _∷_, _++_}
 use Prim.Native.Nat.{ℕ, zero, suc, _+_, _-_, _<_, _≤_}
 use lib.ListN.{length, getD, drop}
-use Rattle.model.specs.Base.{sumBelow, numbersFrom}
+use Rattle.model.specs.Base.{numbersFrom}
 use Rattle.model.specs.GrammarFile.{recordOf, field}
 use Rattle.model.specs.Tree.{Tree, Forest, node, nil, cons, preorder}
+use Rattle.ranking.specs.Numbered.{madeAt}
 
 -- how many daughters rule r of the file has
 abbrev pub daughterCount : List ℕ → ℕ → ℕ
 daughterCount file r = field (recordOf file r) 1
-
--- predictions are numbered in the order of their making: the first that step k makes, where m were made before step 0
-abbrev pub firstMade : (ℕ → ℕ) → ℕ → List ℕ → ℕ → ℕ
-firstMade count m trace k = m + sumBelow (λ i. count (getD trace i 0)) k
 
 -- some step takes prediction p
 abbrev pub Taken : List ℕ → ℕ → Type 0
@@ -27,26 +24,23 @@ treesFrom names p zero = nil
 treesFrom names p (suc d) = cons (names p) (treesFrom names (suc p) d)
 
 -- "Each step applies the rule of the node that the front prediction stands for, and the new predictions stand for that node's daughters, position by
--- position": `names` is the tree that each prediction stands for, and what a step makes another step takes
-pub record Unfolds (count : ℕ → ℕ) (m : ℕ) (taken trace : List ℕ) (names : ℕ → Tree) : Type 0 where
+-- position": `names` is the tree that each prediction stands for, and what a step makes another step takes. The first step of the trace is step k.
+pub record Unfolds (count : ℕ → ℕ) (k : ℕ) (taken trace : List ℕ) (names : ℕ → Tree) : Type 0 where
   pub sized : length taken ≡ length trace
-  pub nodes : (k : ℕ) → k < length trace → names (getD taken k 0) ≡ node (getD trace k 0) (treesFrom names (firstMade count m trace k) (count (getD trace k 0)))
-  pub daughters : (k j : ℕ) → k < length trace → j < count (getD trace k 0) → Taken taken (firstMade count m trace k + j)
+  pub nodes : (i : ℕ) → i < length trace → names (getD taken i 0) ≡ node (getD trace i 0) (treesFrom names (madeAt (k + i)) (count (getD trace i 0)))
+  pub daughters : (i j : ℕ) → i < length trace → j < count (getD trace i 0) → Taken taken (madeAt (k + i) + j)
 
--- Tables: `steps` has the step that takes each prediction, `first` the number of the first prediction that each step makes.
-
--- filled by the first n steps; for a prediction that more than one step took, any of these
-pub record Linked (count : ℕ → ℕ) (trace taken steps first : List ℕ) (n : ℕ) : Type 0 where
+-- The table `steps` has the step that takes each prediction, filled by the first n steps; for a prediction that more than one step took, any of these.
+pub record Linked (taken steps : List ℕ) (n : ℕ) : Type 0 where
   pub within : (k : ℕ) → k < n → getD steps (getD taken k 0) 0 < n
   pub takes : (k : ℕ) → k < n → getD taken (getD steps (getD taken k 0) 0) 0 ≡ getD taken k 0
-  pub makes : (k : ℕ) → k < n → getD first k 0 ≡ firstMade count 1 trace k
 
--- a tree stands where prediction p is, by the tables, and the trees of a forest where the predictions of a list are
-module _ (count : ℕ → ℕ) (trace steps first : List ℕ) where
+-- a tree stands where prediction p is, by the table, and the trees of a forest where the predictions of a list are
+module _ (count : ℕ → ℕ) (trace steps : List ℕ) where
   abbrev mutual
     pub Grows : Tree → ℕ → Type 0
     Grows (node r ts) p =
-        (p < 96) × (getD steps p 0 < 96) × (getD trace (getD steps p 0) 0 ≡ r) × GrowsAll ts (numbersFrom (getD first (getD steps p 0) 0) (count r))
+        (p < 388) × (getD steps p 0 < 96) × (getD trace (getD steps p 0) 0 ≡ r) × GrowsAll ts (numbersFrom (madeAt (getD steps p 0)) (count r))
 
     pub GrowsAll : Forest → List ℕ → Type 0
     GrowsAll nil [] = Unit {0}

@@ -1,5 +1,5 @@
-// Trace to tree. The run of the trace gives the prediction that each step takes. Predictions are numbered in the order of their making, so a step's
-// daughters have the next numbers; from the root's, number 0, the nodes are written parent before daughters.
+// Trace to tree. The run of the trace gives the prediction that each step takes. The daughters of step k have the numbers from 4 * (k + 1) on; from the
+// root's, number 0, the nodes are written parent before daughters.
 ghost use mathlib.Core.Option.{none};
 ghost use mathlib.Core.List.{_++_};
 ghost use mathlib.Core.Path.{_≡_};
@@ -13,26 +13,26 @@ ghost use Rattle.model.specs.Tree.{Tree, preorder};
 ghost use Rattle.model.specs.Verdict.{verdict};
 ghost use Rattle.unfold.specs.Unfold.{daughterCount, Linked, Grows, Grown, Pushed};
 use buffers::number_at;
+use buffers::wide;
 use derivation::conversion_tests;
 use grammar::daughter_count;
 use model::RuleNumber;
 use model::Tested;
 use model::Verdict;
 use recognizer::run_trace;
-use rows::rules::wide;
+use steps::MOST_STEPS;
+use steps::NUMBERS;
+use steps::first_daughter;
 
-// Stores, for the prediction that each step takes, the step, and for each step the number of the first prediction that it makes.
-fn link(file: &[u8], trace: &[u16], taken: &[u16; 96], steps: &mut [u16; 96], first: &mut [u16; 96])
-    requires { ⌜ (length (now trace) ≤ 96) × (length (now steps) ≡ 96) × (length (now first) ≡ 96) × ((k : ℕ) → k < length (now trace) → getD (now taken) k 0 < 96) ⌝ }
-    ensures { λ r. ⌜ Linked (daughterCount (now (file .entry))) (now (trace .entry)) (now (taken .entry)) (now (steps .exit)) (now (first .exit)) (length (now (trace .entry))) ⌝ }
+// Stores, for the prediction that each of n steps takes, the step.
+fn link(taken: &[u16; MOST_STEPS], n: usize, steps: &mut [u16; NUMBERS])
+    requires { ⌜ (n ≤ 96) × (length (now steps) ≡ 388) × ((k : ℕ) → k < n → getD (now taken) k 0 < 388) ⌝ }
+    ensures { λ r. ⌜ Linked (now (taken .entry)) (now (steps .exit)) n ⌝ }
 {
-    let mut made: u16 = 1;
     let mut k: usize = 0;
-    while k < trace.len() {
+    while k < n {
         let p = wide(taken[k]);
         steps[p] = k as u16;
-        first[k] = made;
-        made += daughter_count(file, RuleNumber(trace[k])) as u16;
         k += 1;
     }
 }
@@ -46,8 +46,8 @@ fn from_last(first: u16, d: u8, k: u8) -> u16
 }
 
 // Puts d predictions, from number `first` on, before those that wait from `top` on: the last of them first. Answers where they begin.
-fn push(st: &mut [u16; 96], top: usize, first: u16, d: u8) -> usize
-    requires { ⌜ (length (now st) ≡ 96) × (top ≤ 96) × (d ≤ top) × ((j : ℕ) → j < d → first + j < 96) ⌝ }
+fn push(st: &mut [u16; MOST_STEPS], top: usize, first: u16, d: u8) -> usize
+    requires { ⌜ (length (now st) ≡ 96) × (top ≤ 96) × (d ≤ top) × (first + d ≤ 65536) ⌝ }
     ensures { λ r. ⌜ Pushed (now (st .entry)) (now (st .exit)) top first d r ⌝ }
 {
     let mut k: u8 = 0;
@@ -58,15 +58,15 @@ fn push(st: &mut [u16; 96], top: usize, first: u16, d: u8) -> usize
     top - d as usize
 }
 
-// Writes the tree that stands in the tables where prediction 0 is at the front of the output, parent before daughters.
-fn write_tree(file: &[u8], trace: &[u16], steps: &[u16; 96], first: &[u16; 96], out: &mut [u16])
-    requires { ⌜ Grown (daughterCount (now file)) (now trace) (now steps) (now first) × (96 ≤ length (now out)) ⌝ }
-    ensures { λ r. ⌜ ((tree : Tree) → Grows (daughterCount (now (file .entry))) (now (trace .entry)) (now (steps .entry)) (now (first .entry)) tree 0 → length (preorder tree) ≤ 96 → now (out .exit) ≡ preorder tree ++ drop (length (preorder tree)) (now (out .entry))) ⌝ }
+// Writes the tree that stands in the table where prediction 0 is at the front of the output, parent before daughters.
+fn write_tree(file: &[u8], trace: &[u16], steps: &[u16; NUMBERS], out: &mut [u16])
+    requires { ⌜ Grown (daughterCount (now file)) (now trace) (now steps) × (96 ≤ length (now out)) ⌝ }
+    ensures { λ r. ⌜ ((tree : Tree) → Grows (daughterCount (now (file .entry))) (now (trace .entry)) (now (steps .entry)) tree 0 → length (preorder tree) ≤ 96 → now (out .exit) ≡ preorder tree ++ drop (length (preorder tree)) (now (out .entry))) ⌝ }
 {
-    let mut st = [0u16; 96];
-    let mut top: usize = 95;
+    let mut st = [0u16; MOST_STEPS];
+    let mut top: usize = MOST_STEPS - 1;
     let mut w: usize = 0;
-    while top < 96 {
+    while top < MOST_STEPS {
         let p = wide(st[top]);
         let k = wide(steps[p]);
         let r = number_at(trace, k);
@@ -75,7 +75,7 @@ fn write_tree(file: &[u8], trace: &[u16], steps: &[u16; 96], first: &[u16; 96], 
         top = push(
             &mut st,
             top + 1,
-            first[k],
+            first_daughter(k) as u16,
             daughter_count(file, RuleNumber(r)),
         );
     }
@@ -86,15 +86,14 @@ fn converted(file: &[u8], sentence: &[u32], trace: &[u16], out: &mut [u16]) -> V
     requires { ⌜ (grammarRefusal (now file) ≡ none) × (length (now sentence) ≤ 96) × (96 ≤ length (now out)) ⌝ }
     ensures { λ v. ⌜ (v ≡ verdict (traceRefusal (grammarOf (now (file .entry))) (now (sentence .entry)) (now (trace .entry))) (length (now (trace .entry)))) × (now (out .exit) ≡ written (traceRefusal (grammarOf (now (file .entry))) (now (sentence .entry)) (now (trace .entry))) (treeOf (grammarOf (now (file .entry))) (now (sentence .entry)) (now (trace .entry))) (now (out .entry))) ⌝ }
 {
-    let mut taken = [0u16; 96];
+    let mut taken = [0u16; MOST_STEPS];
     let v = run_trace(file, sentence, trace, &mut taken);
     let Verdict::Accepted(_) = v else {
         return v;
     };
-    let mut steps = [0u16; 96];
-    let mut first = [0u16; 96];
-    link(file, trace, &taken, &mut steps, &mut first);
-    write_tree(file, trace, &steps, &first, out);
+    let mut steps = [0u16; NUMBERS];
+    link(&taken, trace.len(), &mut steps);
+    write_tree(file, trace, &steps, out);
     v
 }
 

@@ -25,7 +25,6 @@ wide-as t mark w from to {j = j} {n = n} p q h = subst (λ (x : ℕ). WideStep t
 place-of-requires : tie.Need-place-of-requires
 place-of-requires c κs = search needs
 
-
 daughters-requires : tie.Need-daughters-requires
 daughters-requires c κs =
     let s = c .before in

@@ -30,34 +30,34 @@ returns c =
 
 link-requires : tie.Need-link-requires
 link-requires c κs =
-    let s = c .before .before .before .before .before .before .before .before .before .before .before in
+    let s = c .before .before .before .before .before .before .before .before .before .before in
     let a = s .args in
-    let k = c .before .before .before .before .before .run-trace in
+    let k = c .before .before .before .before .run-trace in
     let R = traceRefusal (grammarOf (a .file .now)) (a .sentence .now) (a .trace .now) in
-    let e = passed R (length (a .trace .now)) (k .result) (k .ensures .answer) (c .before .before .before .enum-told .given .1) in
-    (steps-few (a .file .now) (a .sentence .now) (a .trace .now) _ (s .pre .0) e (k .ensures .taken e), refl {a = 96}, refl {a = 96}, taken-small (a .file .now) (a .sentence .now) (a .trace .now) _ (s .pre .0) e (k .ensures .taken e))
+    let e = passed R (length (a .trace .now)) (k .result) (k .ensures .answer) (c .before .before .enum-told .given .1) in
+    (steps-few (a .file .now) (a .sentence .now) (a .trace .now) _ (s .pre .0) e (k .ensures .taken e), refl {a = 388}, taken-small (a .file .now) (a .sentence .now) (a .trace .now) _ (s .pre .0) e (k .ensures .taken e))
 
 write-tree-requires : tie.Need-write-tree-requires
 write-tree-requires c κs =
-    let s = c .before .before .before .before .before .before .before .before .before .before .before .before .before .before .before in
+    let s = c .before .before .before .before .before .before .before .before .before .before .before .before .before in
     let a = s .args in
-    let k = c .before .before .before .before .before .before .before .before .before .run-trace in
+    let k = c .before .before .before .before .before .before .before .run-trace in
     let R = traceRefusal (grammarOf (a .file .now)) (a .sentence .now) (a .trace .now) in
-    let e = passed R (length (a .trace .now)) (k .result) (k .ensures .answer) (c .before .before .before .before .before .before .before .enum-told .given .1) in
-    (grown (a .file .now) (a .sentence .now) (a .trace .now) _ (s .pre .0) e (k .ensures .taken e) _ _ (c .before .before .before .link .ensures), search needs)
+    let e = passed R (length (a .trace .now)) (k .result) (k .ensures .answer) (c .before .before .before .before .before .enum-told .given .1) in
+    (grown (a .file .now) (a .sentence .now) (a .trace .now) _ (s .pre .0) e (k .ensures .taken e) _ (c .before .before .link .ensures), search needs)
 
 same-length : tie.Need-same-length
 same-length c = search needs
 
 returns-2 : tie.Need-returns-2
 returns-2 c =
-    let s = c .before .before .before .before .before .before .before .before .before .before .before .before .before .before .before .before .before .before in
+    let s = c .before .before .before .before .before .before .before .before .before .before .before .before .before .before .before .before in
     let a = s .args in
-    let k = c .before .before .before .before .before .before .before .before .before .before .before .before .run-trace in
+    let k = c .before .before .before .before .before .before .before .before .before .before .run-trace in
     let R = traceRefusal (grammarOf (a .file .now)) (a .sentence .now) (a .trace .now) in
-    let e = passed R (length (a .trace .now)) (k .result) (k .ensures .answer) (c .before .before .before .before .before .before .before .before .before .before .enum-told .given .1) in
-    let l = c .before .before .before .before .before .before .link in
-    (k .ensures .answer, tree-written (a .file .now) (a .sentence .now) (a .trace .now) _ (s .pre .0) e (k .ensures .taken e) (l .last .1 .1 .1 .0) (l .last .1 .1 .1 .1 .0) (l .ensures) (a .out .now) _ (c .before .before .write-tree .ensures))
+    let e = passed R (length (a .trace .now)) (k .result) (k .ensures .answer) (c .before .before .before .before .before .before .before .before .enum-told .given .1) in
+    let l = c .before .before .before .before .before .link in
+    (k .ensures .answer, tree-written (a .file .now) (a .sentence .now) (a .trace .now) _ (s .pre .0) e (k .ensures .taken e) (l .last .1 .1 .0) (l .ensures) (a .out .now) _ (c .before .before .write-tree .ensures))
 
 pub converted-spec : {M : Type 1} → statement M
 converted-spec =

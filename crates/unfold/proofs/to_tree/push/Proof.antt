@@ -23,9 +23,7 @@ loop-holds c =
     (omega arith, refl, ap (λ (n : ℕ). drop n (c .args .st .now)) z)
 
 from-last-requires : tie.Need-from-last-requires Inv-loop μ-loop
-from-last-requires c κs =
-    let a = c .before .before .args in
-    (omega arith, omega (arith, c .before .before .pre .3 (a .d - 1) (omega arith)))
+from-last-requires c κs = search needs
 
 sub-st : tie.Need-sub-st Inv-loop μ-loop
 sub-st c = search needs
