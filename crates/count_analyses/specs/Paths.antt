@@ -1,19 +1,26 @@
--- What the program's functions say of the listing's path.
+-- What the program's functions say of the walk over the listing.
 -- Assumes nothing.
 use mathlib.Core.Path.{_≡_}
 use mathlib.Core.List.{List}
-use Prim.Native.Nat.{ℕ, _<_, _≤_}
+use Prim.Native.Nat.{ℕ, _<_}
 use lib.ListN.{length, take}
 use Rattle.model.specs.Grammar.{Grammar}
+use Rattle.steps.specs.declared.Standing.{Standing}
+use Rattle.walk.specs.Walking.{Walking, stepsOf}
+use Rattle.report.specs.declared.page.Pen.{Pen}
 use Rattle.report.specs.declared.page.Page.{Page}
 use Rattle.report.specs.Page.{linesAfter, PageSays}
 use Rattle.count_analyses.specs.declared.Next.{Next}
 use Rattle.count_analyses.specs.declared.Next.the-variants.{After, Ended, Broken}
 
--- Where the listing goes on after an entry of k steps, which is at the front of the path, less of its text is left than after the list before. It ends with
--- the page that has, from place `at` to a place p of the buffer, all of the text that was left.
-abbrev pub NextSays : Grammar → List ℕ → ℕ → List ℕ → List ℕ → List ℕ → ℕ → List ℕ → Next → Type 0
-NextSays g sentence n list path before at after (After k) =
-    (k ≤ 96) × (length path ≡ 96) × (length (linesAfter g sentence n (take k path)) < length (linesAfter g sentence n list))
-NextSays g sentence n list path before at after Ended = (p : ℕ) × PageSays g sentence n list path before at after (Page.Last p)
-NextSays g sentence n list path before at after Broken = Unit {0}
+-- The walk stands at an entry, which is on the path, under the same node limit: less of the listing's text is left after it than after the list before.
+pub record GoesOn (g : Grammar) (t chain sentence list : List ℕ) (pen : Pen) (w path : List ℕ) (next : Standing) : Type 0 where
+  pub walking : Walking g t chain sentence w path next
+  pub same-steps : stepsOf next ≡ stepsOf (pen .at)
+  pub less : length (linesAfter g sentence (stepsOf (pen .at)) (take (next .steps) path)) < length (linesAfter g sentence (stepsOf (pen .at)) list)
+
+-- The listing goes on after an entry. Or it ends with the page that has, from the pen's place to a place p of the buffer, all of the text that was left.
+abbrev pub NextSays : Grammar → List ℕ → List ℕ → List ℕ → List ℕ → List ℕ → Pen → List ℕ → List ℕ → List ℕ → Next → Type 0
+NextSays g t chain sentence list before pen w path after (After next) = GoesOn g t chain sentence list pen w path next
+NextSays g t chain sentence list before pen w path after Ended = (p : ℕ) × PageSays g t chain sentence list before pen w path after (Page.Last p)
+NextSays g t chain sentence list before pen w path after Broken = Unit {0}

@@ -4,20 +4,25 @@ ghost use mathlib.Core.Option.{none};
 ghost use mathlib.Core.Path.{_≡_};
 ghost use Prim.Native.Nat.{_+_, _<_, _≤_, min};
 ghost use lib.ListN.{length, take};
-ghost use Rattle.model.specs.Counting.{effort as effortOf};
 ghost use Rattle.model.specs.GrammarFile.{grammarRefusal, grammarOf};
-ghost use Rattle.model.specs.Program.{programLimit};
-ghost use Rattle.report.specs.Page.{Lists};
+ghost use Rattle.walk.specs.Walking.{Walking};
 ghost use Rattle.io.specs.Counts.{Counts};
 ghost use Rattle.count_analyses.specs.Paths.{NextSays};
 ghost use Rattle.count_analyses.specs.Pieces.{PieceSays, Appended, TurnSays, WrittenSays};
+use grammar::start;
 use libc::STDOUT_FILENO;
 use model::CountVerdict;
 use model::Refusal;
+use ranks::queue::ROOM;
+use ranks::queue::first_queue;
+use ranks::table::TABLE;
 use report::Page;
+use report::Pen;
 use report::fill;
-use rows::rules::compile;
-use search::chain_rules;
+use rule_table::table::compile;
+use steps::Standing;
+use steps::first_standing;
+use walk::chain_rules;
 
 // What is read of the files: of a grammar one byte more than an accepted one can have, of a sentence N and one word more than an accepted one can have.
 const GRAMMAR_BYTES: usize = 7169;
@@ -255,29 +260,28 @@ fn print_refusal(r: Refusal) {
     write_text(&out[0..n]);
 }
 
-// The listing goes on after an entry of so many steps; or all of it is written; or a page cannot be written.
+// The listing goes on after the entry where the walk stands; or all of it is written; or a page cannot be written.
 enum Next {
-    After(usize),
+    After(Standing),
     Ended,
     Broken,
 }
 
-// Writes one page of the listing, after what stands before place `at` of the buffer.
+// Writes one page of the listing, after what stands before the pen's place in the buffer.
 fn print_page(
     file: &[u8],
-    t: &[u16; 8192],
+    t: &[u64; TABLE],
     chain: &[u16; 320],
     sentence: &[u32],
-    n: usize,
+    w: &mut [u64; ROOM],
     path: &mut [u16; 96],
-    len: usize,
     out: &mut [u8],
-    at: usize,
+    pen: Pen,
 ) -> Next
-    requires { ⌜ Lists (now file) (now t) (now chain) (now sentence) n (now path) len × (at + 576 < length (now out)) ⌝ }
-    ensures { λ r. ⌜ NextSays (grammarOf (now (file .entry))) (now (sentence .entry)) n (take len (now (path .entry))) (now (path .exit)) (now (out .entry)) at (now (out .exit)) r ⌝ }
+    requires { ⌜ Walking (grammarOf (now file)) (now t) (now chain) (now sentence) (now w) (now path) (pen .at) × (pen .place + 576 < length (now out)) ⌝ }
+    ensures { λ r. ⌜ NextSays (grammarOf (now (file .entry))) (now (t .entry)) (now (chain .entry)) (now (sentence .entry)) (take (pen .at .steps) (now (path .entry))) (now (out .entry)) pen (now (w .exit)) (now (path .exit)) (now (out .exit)) r ⌝ }
 {
-    let page = fill(file, t, chain, sentence, n, path, len, out, at);
+    let page = fill(file, t, chain, sentence, w, path, out, pen);
     match page {
         Page::Last(end) => {
             if write_text(&out[0..end]) {
@@ -286,9 +290,11 @@ fn print_page(
                 Next::Broken
             }
         }
-        Page::More(end, k) => {
+        Page::More(next) => {
+            let end = next.place;
+            let at = next.at;
             if write_text(&out[0..end]) {
-                Next::After(k)
+                Next::After(at)
             } else {
                 Next::Broken
             }
@@ -296,24 +302,30 @@ fn print_page(
     }
 }
 
-// Prints count and effort, and then the listing, page by page: with each page, less of its text is left.
+// Prints count and effort, and then the listing, page by page: with each page, less of its text is left. The walk over the listing begins at the empty list,
+// and goes on from page to page.
 fn print_listing(file: &[u8], sentence: &[u32], n: usize, count: u64, effort: u64)
-    requires { ⌜ (grammarRefusal (now file) ≡ none) × (1 ≤ n) × (n ≤ 96) × (effortOf (grammarOf (now file)) (now sentence) n ≤ programLimit) ⌝ }
+    requires { ⌜ (grammarRefusal (now file) ≡ none) × (1 ≤ n) × (n ≤ 96) ⌝ }
 {
     let t = compile(file);
     let chain = chain_rules(file);
+    let mut w = first_queue(start(file));
     let mut path = [0u16; 96];
     let mut space = io::large_buffer();
     let out: &mut [u8] = &mut space;
-    let mut at = report::put_count(count, effort, out, 0);
-    let mut len: usize = 0;
+    let mut place = report::put_count(count, effort, out, 0);
+    let mut at = first_standing(n);
     loop {
-        let next = print_page(file, &t, &chain, sentence, n, &mut path, len, out, at);
-        let Next::After(k) = next else {
+        let pen = Pen {
+            at: at,
+            place: place,
+        };
+        let next = print_page(file, &t, &chain, sentence, &mut w, &mut path, out, pen);
+        let Next::After(s) = next else {
             return;
         };
-        len = k;
-        at = 0;
+        at = s;
+        place = 0;
     }
 }
 

@@ -1,44 +1,43 @@
--- The listing as a stream: the first entry after a given list, so that a reader of the whole listing comes from each entry to the next (document 01,
--- "Counting and listing"). The limit is on the live prefixes that the search looks at: those after the given list, up to the entry or to the last.
+-- The listing as a stream: the first entry after a live prefix, so that a reader of the whole listing comes from each entry to the next (document 01,
+-- "Counting and listing").
 -- Assumes nothing.
 use mathlib.Core.Path.{_≡_}
-use mathlib.Core.Bool.{Bool}
 use mathlib.Core.List.{List, [], _∷_}
-use Prim.Native.Nat.{ℕ, _≤_, _<_}
+use Prim.Native.Nat.{ℕ}
 use lib.ListN.{length, take}
-use Rattle.model.specs.Base.{if_then_else_, keep}
+use Rattle.model.specs.Base.{keep}
 use Rattle.model.specs.Grammar.{Grammar}
 use Rattle.model.specs.Step.{before}
-use Rattle.model.specs.Counting.{live, complete, listing}
-use Rattle.listing.specs.declared.stream.Followed.{Followed}
-use Rattle.listing.specs.declared.stream.Followed.the-variants.{Next, Last, Over}
+use Rattle.model.specs.Counting.{listing}
+use Rattle.steps.specs.declared.Standing.{Standing}
+use Rattle.walk.specs.declared.prefixes.Walked.{Walked}
+use Rattle.walk.specs.declared.prefixes.Walked.the-variants.{Came, Ended}
+use Rattle.walk.specs.Walking.{Walking, stepsOf}
 
--- the first of a list that passes the test, and those before it
-abbrev pub upToFirst : (List ℕ → Bool) → List (List ℕ) → List (List ℕ)
-upToFirst test [] = []
-upToFirst test (p ∷ ps) = if test p then p ∷ [] else p ∷ upToFirst test ps
+-- the entries of the listing that come after a list
+abbrev pub entriesAfter : Grammar → List ℕ → ℕ → List ℕ → List (List ℕ)
+entriesAfter g sentence n list = keep (before list) (listing g sentence n)
 
-module _ (g : Grammar) (sentence : List ℕ) (n : ℕ) (list : List ℕ) where
-  -- the live prefixes that come after a list in dictionary order, and those of them that the call looks at
-  abbrev pub liveAfter : List (List ℕ)
-  liveAfter = keep (before list) (live g sentence n)
+-- the next entry after a list, under the same node limit, is on the path, and the walk stands there
+pub record NextEntry (g : Grammar) (t chain sentence w′ path′ list : List ℕ) (at next : Standing) : Type 0 where
+  pub walking : Walking g t chain sentence w′ path′ next
+  pub same-steps : stepsOf next ≡ stepsOf at
+  pub comes : entriesAfter g sentence (stepsOf at) list ≡ take (next .steps) path′ ∷ entriesAfter g sentence (stepsOf at) (take (next .steps) path′)
 
-  abbrev pub lookedAt : List (List ℕ)
-  lookedAt = upToFirst (complete g sentence) liveAfter
+-- what an answer says of the entries after a list: the first of them, or that there is none
+abbrev pub EntrySays : Grammar → List ℕ → List ℕ → List ℕ → List ℕ → List ℕ → List ℕ → Standing → Walked → Type 0
+EntrySays g t chain sentence w′ path′ list at (Came next) = NextEntry g t chain sentence w′ path′ list at next
+EntrySays g t chain sentence w′ path′ list at Ended = entriesAfter g sentence (stepsOf at) list ≡ []
 
-  -- the entries of the listing that come after a list
-  abbrev pub entriesAfter : List (List ℕ)
-  entriesAfter = keep (before list) (listing g sentence n)
+-- the list is the one on the path where the walk stood, and the arrays are as long as they were
+pub record EntryFor (g : Grammar) (t chain sentence w path w′ path′ : List ℕ) (at : Standing) (answer : Walked) : Type 0 where
+  pub kept : length w′ ≡ length w
+  pub path-kept : length path′ ≡ length path
+  pub says : EntrySays g t chain sentence w′ path′ (take (at .steps) path) at answer
 
--- what code says of the search: the first entry after the list is at the front of the path; or there is none; or the limit does not suffice
-abbrev pub Follows : Grammar → List ℕ → ℕ → ℕ → List ℕ → List ℕ → Followed → Type 0
-Follows g sentence n limit list path (Next k) =
-    (length (lookedAt g sentence n list) ≤ limit) × (k ≤ 96) × (length path ≡ 96) × (rest : List (List ℕ)) × (entriesAfter g sentence n list ≡ take k path ∷ rest)
-Follows g sentence n limit list path Last = (length (lookedAt g sentence n list) ≤ limit) × (entriesAfter g sentence n list ≡ [])
-Follows g sentence n limit list path Over = limit < length (lookedAt g sentence n list)
-
--- the entries one after the other from a list on, to the last: each is the first after the one before
-abbrev pub Streams : Grammar → List ℕ → ℕ → ℕ → List ℕ → List (List ℕ) → Type 0
-Streams g sentence n limit list [] = (path : List ℕ) × Follows g sentence n limit list path Last
-Streams g sentence n limit list (p ∷ entries) =
-    (path : List ℕ) × (k : ℕ) × Follows g sentence n limit list path (Next k) × (take k path ≡ p) × Streams g sentence n limit p entries
+-- the entries one after the other from a standing on, to the last: each is the next entry after the one before
+abbrev pub Streams : Grammar → List ℕ → List ℕ → List ℕ → List ℕ → List ℕ → Standing → List (List ℕ) → Type 0
+Streams g t chain sentence w path at [] = (w′ : List ℕ) × (path′ : List ℕ) × EntryFor g t chain sentence w path w′ path′ at Ended
+Streams g t chain sentence w path at (p ∷ entries) =
+    (w′ : List ℕ) × (path′ : List ℕ) × (next : Standing) × EntryFor g t chain sentence w path w′ path′ at (Came next) × (take (next .steps) path′ ≡ p)
+    × Streams g t chain sentence w′ path′ next entries

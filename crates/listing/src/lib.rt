@@ -1,6 +1,4 @@
-// The listing as a stream: the entry after a given one (document 01, "Counting and listing").
-mod look;
+// The listing as a stream: from each entry to the next (document 01, "Counting and listing").
 mod stream;
 
-pub use stream::Followed;
-pub use stream::follow;
+pub use stream::next_entry;

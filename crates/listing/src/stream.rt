@@ -1,60 +1,41 @@
-// The listing as a stream: the first entry after a given list.
-ghost use mathlib.Core.Option.{none};
-ghost use mathlib.Core.Path.{_≡_};
-ghost use Prim.Native.Nat.{_≤_};
-ghost use lib.ListN.{length, take};
-ghost use Rattle.model.specs.GrammarFile.{grammarRefusal, grammarOf};
-ghost use Rattle.rows.specs.Table.{Compiled};
-ghost use Rattle.search.specs.Chain.{Chained};
-ghost use Rattle.listing.specs.Stream.{Follows};
-use crate::look::look;
-use grammar::start;
-use rows::row::first_row;
+// The listing as a stream: the next entry, by the walk over the live prefixes.
+ghost use Rattle.model.specs.GrammarFile.{grammarOf};
+ghost use Rattle.walk.specs.Walking.{Walking};
+ghost use Rattle.listing.specs.Stream.{EntryFor};
+use ranks::queue::ROOM;
+use ranks::table::TABLE;
+use steps::Standing;
+use walk::Walked;
+use walk::at_end;
+use walk::next;
 
-// The entry after a list is the first so many numbers of the path; or there is none; or the limit does not suffice.
-pub enum Followed {
-    Next(usize),
-    Last,
-    Over,
-}
-
-// The first entry after the first `len` numbers of the path, which it takes the place of. The tables t and chain are those of the file. Looks at no more
-// than `limit` live prefixes, beside at most n steps along the list.
-pub fn follow(
+// The next entry of the listing, in dictionary order, after the live prefix that path[0..at.steps] holds: of the live prefixes after it, the first that is
+// complete. The tables are those of the file's grammar.
+pub fn next_entry(
     file: &[u8],
-    t: &[u16; 8192],
+    t: &[u64; TABLE],
     chain: &[u16; 320],
     sentence: &[u32],
-    n: usize,
-    limit: u64,
-    len: usize,
+    w: &mut [u64; ROOM],
     path: &mut [u16; 96],
-) -> Followed
-    requires { ⌜ (grammarRefusal (now file) ≡ none) × Compiled (grammarOf (now file)) (now t) × Chained (grammarOf (now file)) (now chain) × (1 ≤ n) × (n ≤ 96) × (len ≤ 96) × (length (now path) ≡ 96) ⌝ }
-    ensures { λ a. ⌜ Follows (grammarOf (now (file .entry))) (now (sentence .entry)) n limit (take len (now (path .entry))) (now (path .exit)) a ⌝ }
+    at: Standing,
+) -> Walked
+    requires { ⌜ Walking (grammarOf (now file)) (now t) (now chain) (now sentence) (now w) (now path) at ⌝ }
+    ensures { λ s. ⌜ EntryFor (grammarOf (now (file .entry))) (now (t .entry)) (now (chain .entry)) (now (sentence .entry)) (now (w .entry)) (now (path .entry)) (now (w .exit)) (now (path .exit)) at s ⌝ }
 {
-    let mut desk = [limit, len as u64, 1];
-    let q = first_row(start(file));
-    if look(
-        file,
-        t,
-        chain,
-        sentence,
-        0,
-        &q,
-        0,
-        1,
-        1,
-        1,
-        n,
-        0,
-        &mut desk,
-        path,
-    ) {
-        return Followed::Last;
+    let mut here = at;
+    loop {
+        let s = next(t, chain, sentence, w, path, here);
+        match s {
+            Walked::Came(n) => {
+                if at_end(sentence, n) {
+                    return Walked::Came(n);
+                }
+                here = n;
+            }
+            Walked::Ended => {
+                return Walked::Ended;
+            }
+        }
     }
-    if desk[2] == 2 {
-        return Followed::Next(desk[1] as usize);
-    }
-    Followed::Over
 }

@@ -32,13 +32,6 @@ pub mod Demands
 pub mod Apart
 pub mod Front
 pub mod Search
-pub mod RowsLine
-pub mod Rows
-pub mod RowsNamed
-pub mod RowsCalls
-pub mod RowsBounds
-pub mod RowsCode
-pub mod RowsAgree
 pub mod WellFormed
 pub mod SurveyVisits
 pub mod SurveyRounds

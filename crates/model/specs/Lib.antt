@@ -15,7 +15,5 @@ pub mod Calls
 pub mod Refusals
 pub mod Program
 pub mod Demands
-pub mod Rows
-pub mod RowsAgree
 pub mod ExampleFiles
 pub mod Examples

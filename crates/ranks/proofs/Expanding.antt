@@ -7,7 +7,7 @@ use mathlib.Core.List.{List, [], _∷_, _++_, map}
 use Prim.Native.Nat.{ℕ, zero, suc, _+_, _-_, _*_, _/_, _%_, _<_, _≤_}
 use native.Mathlib.Omega.{arith}
 use native.Mathlib.Decide.{ℕ-discrete}
-use borrow.Author.Tests.{eq-eqb, eqb-true, eqb-false, lt-ltb}
+use borrow.Author.Tests.{eq-eqb, lt-ltb}
 use lib.Dec.{eqb}
 use lib.ListN.{length, getD, take, length-map}
 use lib.Seq.{slice}
@@ -15,26 +15,30 @@ use Rattle.model.specs.Base.{if_then_else_, numbersFrom}
 use Rattle.model.specs.Grammar.{Rule, Grammar, ruleAt, isLexical, dimension}
 use Rattle.model.specs.WellFormed.{RightRule}
 use Rattle.model.proofs.Perm.{perm-sym, perm-length}
-use Rattle.model.proofs.Apart.{Every, every-to, every-append, every-perm}
+use Rattle.model.proofs.Apart.{Every, every-mem, mem-every, every-append, every-perm}
 use Rattle.ranking.specs.Recognizer.{Moved, stops, goes}
-use Rattle.ranking.specs.Ranks.{Ranked, RankedState, shifted, lengths, leastRank, rerank, putIn, expandRanked, predictRanked, scanRanked, withoutFront, applyRanked, stepRanked}
+use Rattle.ranking.specs.Ranks.{Ranked, RankedState, passed, added, shifted, lengths, leastRank, rerank, putIn, expandRanked, predictRanked, scanRanked, withoutFront, applyRanked, stepRanked}
 use Rattle.ranking.proofs.Bounds.{Rising, ranks-rising}
 use Rattle.ranking.proofs.Limits.{Reached, reached-step, predict-length}
-use Rattle.ranks.specs.Prediction.{Prediction, Short, Behind, Apart, Sized, lanes, packed, unpacked, remade}
+use Rattle.ranks.specs.Prediction.{Prediction, Short, Behind, Apart, Sized, ranks, lanes, packed, unpacked, remade}
 use Rattle.ranks.specs.Queue.{Steps, insert, insertIf, insertAll}
 use Rattle.ranks.specs.Queue as places
 use Rattle.ranks.specs.Daughters.{daughter}
-use Rattle.ranks.specs.Moves.{movesRanks, movesLengths}
+use Rattle.ranks.specs.declared.moves.Moves.{Moves}
+use Rattle.ranks.specs.Moves.{movesRanks, movesLengths, lengthsOf, Bounded, Begins}
 use Rattle.ranks.specs.Held.{inLanes, numberOf, predictionOf, queueIn, Fits}
 use Rattle.ranks.specs.Table.{ones, daughtersIn, dimensionIn, marked, readyMade, daughterOf, daughtersOf, RuleLengths, RuleCells, WideCells, NarrowCells}
-use Rattle.ranks.specs.Step.{frontMoves, frontBegins, daughterAt, expanded, WideStep, Expands, expandedQueue}
+use Rattle.ranks.specs.Step.{frontMoves, frontBegins, daughterAt, Makes, twoMoves, twoBegins, TwoRanks, expanded, WideStep, Expands, expandedQueue}
 use Rattle.ranks.proofs.Fitting.{all-fit}
 use Rattle.ranks.proofs.Numbers.{sized, unpacked-number, put-perm}
 use Rattle.ranks.proofs.Moved.{above-zero}
 use Rattle.ranks.proofs.Sorting.{insert-after}
+use Rattle.ranks.proofs.Pairs.{Pairwise, Unequal}
+use Rattle.ranks.proofs.Fronts.{front-least, front-takes, front-unequal}
+use Rattle.ranks.proofs.Two.{two-four, other-some, two-goes, two-begins, two-apart, two-bounded}
 use Rattle.ranks.proofs.Scanning as alone
 use Rattle.ranks.proofs.Holding.{queue-length, queue-first, front-number, others-numbers, each-held}
-use Rattle.ranks.proofs.Predicting.{goesTo, daughters-are, others-short, others-behind, gathered-goes, gathered-fits, others-apart, begun-ranks, begun-components, front-begins, daughters-fit, predicted-numbers}
+use Rattle.ranks.proofs.Predicting.{each-lane, goesTo, daughters-are, others-short, others-behind, gathered-goes, gathered-fits, others-apart, begun-ranks, begun-components, front-begins, daughters-fit, predicted-numbers}
 use Rattle.ranks.proofs.Stepping.{take-same}
 
 -- a nonlexical rule of the front's category leads on
@@ -164,12 +168,12 @@ module _ (g : Grammar) (t w : List ℕ) (r mark from to : ℕ) (h : Expands g t 
   pub wide-cells : (dimensionIn t (8 * r) ≡ 1 → ⊥) → WideCells g rule t (8 * r)
   wide-cells f = cells .wide (h .nonlexical) (λ e. f (cells .dimension-is ∙ e))
 
-  -- what the test of the dimension tells
-  pub narrow-at : (at : ℕ) → at ≡ 8 * r → (b : Bool) → b ≡ eqb (dimensionIn t at) 1 → b ≡ true → dimensionIn t (8 * r) ≡ 1
-  narrow-at at e b d z = eqb-true (dimensionIn t (8 * r)) 1 (ap (λ (i : ℕ). eqb (dimensionIn t i) 1) (sym e) ∙ sym d ∙ z)
+  -- what the dimension in the table tells
+  pub dimension-at : (at d k : ℕ) → at ≡ 8 * r → d ≡ dimensionIn t at → d ≡ k → dimensionIn t (8 * r) ≡ k
+  dimension-at at d k e f z = ap (dimensionIn t) (sym e) ∙ sym f ∙ z
 
-  pub wide-at : (at : ℕ) → at ≡ 8 * r → (b : Bool) → b ≡ eqb (dimensionIn t at) 1 → b ≡ false → dimensionIn t (8 * r) ≡ 1 → ⊥
-  wide-at at e b d z = eqb-false (dimensionIn t (8 * r)) 1 (ap (λ (i : ℕ). eqb (dimensionIn t i) 1) (sym e) ∙ sym d ∙ z)
+  pub other-at : (at d k : ℕ) → at ≡ 8 * r → d ≡ dimensionIn t at → (d ≡ k → ⊥) → dimensionIn t (8 * r) ≡ k → ⊥
+  other-at at d k e f n z = n (f ∙ ap (dimensionIn t) e ∙ z)
 
   -- the cells of the rule, from where they begin
   pub cells-at : (at : ℕ) → at ≡ 8 * r → at + 8 ≤ 2048
@@ -211,56 +215,140 @@ module _ (g : Grammar) (t w : List ℕ) (r mark from to : ℕ) (h : Expands g t 
     wide : WideCells g rule t (8 * r)
     wide = wide-cells more
 
-    abbrev bs : List ℕ
-    bs = frontBegins t (8 * r) (getD w from 0)
+    -- ranks bs at which the front's components begin, and moves m that take every rank where it goes
+    module _ (bs : List ℕ) (m : Moves) (four : length bs ≡ 4) (begin : take (length (rule .components)) bs ≡ map (goesTo rule x) (x .ranks))
+        (goes-there : (n : ℕ) → shifted (movesRanks m) (movesLengths m) n ≡ goesTo rule x n) (bounded : Bounded m) (apart : Every (λ p. Apart (movesRanks m) (movesLengths m) (inLanes p)) R) where
+      -- daughter j from its cells is the daughter
+      made : (j : ℕ) → j < length (rule .daughters)
+          → daughter bs (getD t (8 * r + 2 + 2 * j) 0) (getD t (8 * r + 3 + 2 * j) 0) mark ≡ inLanes (daughterOf g rule (map (goesTo rule x) (x .ranks)) mark j)
+      made j l = wide .makes j l bs four mark ∙ ap (λ (b : List ℕ). inLanes (daughterOf g rule b mark j)) begin
 
-    -- daughter j from its cells is the daughter
-    made : (j : ℕ) → j < length (rule .daughters)
-        → daughter bs (getD t (8 * r + 2 + 2 * j) 0) (getD t (8 * r + 3 + 2 * j) 0) mark ≡ inLanes (daughterOf g rule (map (goesTo rule x) (x .ranks)) mark j)
-    made j l =
-        wide .makes j l bs refl mark
-        ∙ ap (λ (b : List ℕ). inLanes (daughterOf g rule b mark j)) (begun-components g rule right (h .nonlexical) x R (h .words) reached fit (h .of-front) (getD w from 0) (getD t (8 * r + 1) 0) front-is lens)
+      makes : (j : ℕ) → j < length (rule .daughters) → Makes t (8 * r) j bs mark
+      makes j l =
+          record {
+            sized = subst⁻¹ Sized (made j l)
+                (sized g (daughterOf g rule (map (goesTo rule x) (x .ranks)) mark j)
+                (numbered-fit g (daughterOf g rule (map (goesTo rule x) (x .ranks)) mark) (length (rule .daughters)) 0
+                (daughters-fit g rule right (h .nonlexical) x R (h .words) reached fit (h .of-front) (getD w from 0) (getD t (8 * r + 1) 0) front-is lens mark next-fits next-rising) j (omega arith) (omega arith)));
+            alone = wide .alone j l;
+          }
 
-    made-sized : (j i k : ℕ) → j < length (rule .daughters) → 8 * r + 2 + 2 * j ≡ i → 8 * r + 3 + 2 * j ≡ k → Sized (daughter bs (getD t i 0) (getD t k 0) mark)
-    made-sized j i k l p q =
-        subst Sized (λ o. daughter bs (getD t (p o) 0) (getD t (q o) 0) mark)
-        (subst⁻¹ Sized (made j l)
-        (sized g (daughterOf g rule (map (goesTo rule x) (x .ranks)) mark j)
-        (numbered-fit g (daughterOf g rule (map (goesTo rule x) (x .ranks)) mark) (length (rule .daughters)) 0
-        (daughters-fit g rule right (h .nonlexical) x R (h .words) reached fit (h .of-front) (getD w from 0) (getD t (8 * r + 1) 0) front-is lens mark next-fits next-rising) j (omega arith) (omega arith))))
+      pub step-of : WideStep t (8 * r) (length (rule .daughters)) mark bs m w from to
+      step-of =
+          record {
+            table = cells .long;
+            rule = cells .room;
+            steps = step-fits;
+            some = some-daughters;
+            short = short;
+            behind = behind;
+            apart = others (Apart (movesRanks m) (movesLengths m)) apart;
+            bounded = bounded;
+            makes = makes;
+          }
 
-    made-number : (j i k : ℕ) → j < length (rule .daughters) → 8 * r + 2 + 2 * j ≡ i → 8 * r + 3 + 2 * j ≡ k → daughterAt t i k bs mark ≡ numberOf (daughterOf g rule (map (goesTo rule x) (x .ranks)) mark j)
-    made-number j i k l p q = sym (λ o. packed (daughter bs (getD t (p o) 0) (getD t (q o) 0) mark)) ∙ ap packed (made j l)
+      pub next-is : expanded t (8 * r) (length (rule .daughters)) mark bs m w from to ≡ map numberOf next
+      next-is =
+          ap₂ insertAll
+          (take-numbers (daughterOf g rule (map (goesTo rule x) (x .ranks)) mark) (length (rule .daughters)) (daughterAt t (8 * r) 0 bs mark) (daughterAt t (8 * r) 1 bs mark) (daughterAt t (8 * r) 2 bs mark) few-daughters
+          (λ l. ap packed (made 0 l)) (λ l. ap packed (made 1 l)) (λ l. ap packed (made 2 l)))
+          (ap (λ (f : ℕ → ℕ). map (remade f) (slice (from + 1) to w)) (λ i n. goes-there n i) ∙ ap (map (remade (goesTo rule x))) others-are)
+          ∙ sym (predicted-numbers g rule right (h .nonlexical) x R (h .words) reached fit (h .of-front) (getD w from 0) (getD t (8 * r + 1) 0) front-is lens mark next-fits next-rising)
 
-    pub wide-step : WideStep t (8 * r) (length (rule .daughters)) mark w from to
-    wide-step =
-        record {
-          table = cells .long;
-          rule = cells .room;
-          steps = step-fits;
-          some = some-daughters;
-          short = short;
-          behind = behind;
-          apart = others (Apart (movesRanks (frontMoves t (8 * r) (getD w from 0))) (movesLengths (frontMoves t (8 * r) (getD w from 0)))) (others-apart g rule right (h .nonlexical) x R (h .words) reached fit (h .of-front) (getD w from 0) (getD t (8 * r + 1) 0) front-is lens);
-          bounded = gathered-fits g rule right (h .nonlexical) x R (h .words) reached fit (h .of-front) (getD w from 0) (getD t (8 * r + 1) 0) front-is lens;
-          begins = front-begins g rule right (h .nonlexical) x R (h .words) reached fit (h .of-front) (getD w from 0) (getD t (8 * r + 1) 0) front-is lens;
-          first = λ l. made-sized 0 (8 * r + 2) (8 * r + 3) l (omega arith) (omega arith);
-          second = λ l. made-sized 1 (8 * r + 4) (8 * r + 5) l (omega arith) (omega arith);
-          third = λ l. made-sized 2 (8 * r + 6) (8 * r + 7) l (omega arith) (omega arith);
-        }
+    abbrev front : ℕ
+    front = getD w from 0
 
-    pub wide-is : expanded t (8 * r) (length (rule .daughters)) mark w from to ≡ map numberOf next
-    wide-is =
-        ap₂ insertAll
-        (take-numbers (daughterOf g rule (map (goesTo rule x) (x .ranks)) mark) (length (rule .daughters))
-        (daughterAt t (8 * r + 2) (8 * r + 3) bs mark) (daughterAt t (8 * r + 4) (8 * r + 5) bs mark) (daughterAt t (8 * r + 6) (8 * r + 7) bs mark) few-daughters
-        (λ l. made-number 0 (8 * r + 2) (8 * r + 3) l (omega arith) (omega arith))
-        (λ l. made-number 1 (8 * r + 4) (8 * r + 5) l (omega arith) (omega arith))
-        (λ l. made-number 2 (8 * r + 6) (8 * r + 7) l (omega arith) (omega arith)))
-        (ap (λ (f : ℕ → ℕ). map (remade f) (slice (from + 1) to w))
-        (λ i n. gathered-goes g rule right (h .nonlexical) x R (h .words) reached fit (h .of-front) (getD w from 0) (getD t (8 * r + 1) 0) front-is lens n i)
-        ∙ ap (map (remade (goesTo rule x))) others-are)
-        ∙ sym (predicted-numbers g rule right (h .nonlexical) x R (h .words) reached fit (h .of-front) (getD w from 0) (getD t (8 * r + 1) 0) front-is lens mark next-fits next-rising)
+    -- by comparing, for any rule
+    pub wide-step : WideStep t (8 * r) (length (rule .daughters)) mark (frontBegins t (8 * r) (getD w from 0)) (frontMoves t (8 * r) (getD w from 0)) w from to
+    wide-step = step-of (frontBegins t (8 * r) front) (frontMoves t (8 * r) front) refl (begun-components g rule right (h .nonlexical) x R (h .words) reached fit (h .of-front) front (getD t (8 * r + 1) 0) front-is lens)
+        (gathered-goes g rule right (h .nonlexical) x R (h .words) reached fit (h .of-front) front (getD t (8 * r + 1) 0) front-is lens)
+        (gathered-fits g rule right (h .nonlexical) x R (h .words) reached fit (h .of-front) front (getD t (8 * r + 1) 0) front-is lens)
+        (others-apart g rule right (h .nonlexical) x R (h .words) reached fit (h .of-front) front (getD t (8 * r + 1) 0) front-is lens)
+
+    pub wide-begins : Begins (getD w from 0) (getD t (8 * r + 1) 0)
+    wide-begins = front-begins g rule right (h .nonlexical) x R (h .words) reached fit (h .of-front) front (getD t (8 * r + 1) 0) front-is lens
+
+    pub wide-is : expanded t (8 * r) (length (rule .daughters)) mark (frontBegins t (8 * r) (getD w from 0)) (frontMoves t (8 * r) (getD w from 0)) w from to ≡ map numberOf next
+    wide-is = next-is (frontBegins t (8 * r) front) (frontMoves t (8 * r) front) refl (begun-components g rule right (h .nonlexical) x R (h .words) reached fit (h .of-front) front (getD t (8 * r + 1) 0) front-is lens)
+        (gathered-goes g rule right (h .nonlexical) x R (h .words) reached fit (h .of-front) front (getD t (8 * r + 1) 0) front-is lens)
+        (gathered-fits g rule right (h .nonlexical) x R (h .words) reached fit (h .of-front) front (getD t (8 * r + 1) 0) front-is lens)
+        (others-apart g rule right (h .nonlexical) x R (h .words) reached fit (h .of-front) front (getD t (8 * r + 1) 0) front-is lens)
+
+    -- without comparing, for a rule of dimension 2
+    module _ (is-two : dimensionIn t (8 * r) ≡ 2) where
+      abbrev len0 : ℕ
+      len0 = getD t (8 * r + 1) 0 % 65536
+
+      abbrev len1 : ℕ
+      len1 = getD t (8 * r + 1) 0 / 65536 % 65536
+
+      two-components : dimension g (rule .category) ≡ 2
+      two-components = sym (cells .dimension-is) ∙ is-two
+
+      ranks-two : x .ranks ≡ unpacked front .rank0 ∷ unpacked front .rank1 ∷ []
+      ranks-two = ap (λ (d : ℕ). take d (ranks (unpacked front))) (ap (dimension g) (sym (h .of-front)) ∙ two-components)
+
+      lengths-two : lengths rule ≡ len0 ∷ len1 ∷ []
+      lengths-two = go (lengths rule) (length-map (rule .components) length ∙ right .components (h .nonlexical) ∙ two-components) (lens .lengths-are)
+        where
+          go : (ns : List ℕ) → length ns ≡ 2 → lengthsOf (getD t (8 * r + 1) 0) ≡ ns ++ ones (4 - length (rule .components)) → ns ≡ len0 ∷ len1 ∷ []
+          go [] k f = absurd (omega arith)
+          go (n ∷ []) k f = absurd (omega arith)
+          go (n ∷ m ∷ []) k f =
+              let a : n ≡ len0 = sym (ap (λ (l : List ℕ). getD l 0 0) f) in
+              let b : m ≡ len1 = sym (ap (λ (l : List ℕ). getD l 1 0) f) in
+              λ i. a i ∷ b i ∷ []
+          go (n ∷ m ∷ l ∷ ns) k f = absurd (omega arith)
+
+      goes-two : (n : ℕ) → goesTo rule x n ≡ shifted (unpacked front .rank0 ∷ unpacked front .rank1 ∷ []) (len0 ∷ len1 ∷ []) n
+      goes-two n = λ i. shifted (ranks-two i) (lengths-two i) n
+
+      zero-two : leastRank (unpacked front .rank0 ∷ unpacked front .rank1 ∷ []) ≡ 0
+      zero-two = sym (ap leastRank ranks-two) ∙ front-least g x R (h .words) reached
+
+      unequal-two : unpacked front .rank0 ≡ unpacked front .rank1 → ⊥
+      unequal-two = subst (Pairwise Unequal) ranks-two (front-unequal g x R (h .words) reached) .0 .0
+
+      short-two : Short (unpacked front)
+      short-two =
+          subst⁻¹ Short (ap unpacked front-is ∙ unpacked-number g x (fit .0))
+          (record { least = fit .0 .least-small; rank3 = fit .0 .small 3; rank2 = fit .0 .small 2; rank1 = fit .0 .small 1; rank0 = fit .0 .small 0 })
+
+      lengths-small : (len0 < 256) × (len1 < 256)
+      lengths-small =
+          let a = lens .few 0 in
+          let b = lens .few 1 in
+          (omega (arith, a, ap (λ (l : List ℕ). getD l 0 0) lengths-two), omega (arith, b, ap (λ (l : List ℕ). getD l 1 0) lengths-two))
+
+      pub two-ranks : TwoRanks (getD w from 0) (getD t (8 * r + 1) 0)
+      two-ranks = record { short = short-two; other = other-some (unpacked front .rank0) (unpacked front .rank1) len0 len1 zero-two unequal-two; len0 = lengths-small .0; len1 = lengths-small .1 }
+
+      begin-two : take (length (rule .components)) (twoBegins front (getD t (8 * r + 1) 0)) ≡ map (goesTo rule x) (x .ranks)
+      begin-two =
+          ap (λ (n : ℕ). take n (twoBegins front (getD t (8 * r + 1) 0))) (right .components (h .nonlexical) ∙ two-components)
+          ∙ two-begins (unpacked front .rank0) (unpacked front .rank1) len0 len1 zero-two unequal-two
+          ∙ ap₂ (λ (f : ℕ → ℕ) (l : List ℕ). map f l) (λ i n. sym (goes-two n) i) (sym ranks-two)
+
+      goes-by-two : (n : ℕ) → shifted (movesRanks (twoMoves front (getD t (8 * r + 1) 0))) (movesLengths (twoMoves front (getD t (8 * r + 1) 0))) n ≡ goesTo rule x n
+      goes-by-two n = two-goes (unpacked front .rank0) (unpacked front .rank1) len0 len1 zero-two unequal-two n ∙ sym (goes-two n)
+
+      apart-two : Every (λ p. Apart (movesRanks (twoMoves front (getD t (8 * r + 1) 0))) (movesLengths (twoMoves front (getD t (8 * r + 1) 0))) (inLanes p)) R
+      apart-two =
+          every-mem (λ p. Apart (movesRanks (twoMoves front (getD t (8 * r + 1) 0))) (movesLengths (twoMoves front (getD t (8 * r + 1) 0))) (inLanes p)) R
+          (λ p i.
+          each-lane g (λ n. passed n (movesRanks (twoMoves front (getD t (8 * r + 1) 0))) ≤ n + added n (movesRanks (twoMoves front (getD t (8 * r + 1) 0))) (movesLengths (twoMoves front (getD t (8 * r + 1) 0)))) p (mem-every (Fits g) R (fit .1) p i)
+          (λ n k. two-apart (unpacked front .rank0) (unpacked front .rank1) len0 len1 zero-two unequal-two n
+          (subst (λ (l : List ℕ). passed n l ≤ n) ranks-two
+          (mem-every (λ n. passed n (x .ranks) ≤ n) (p .ranks) (mem-every (λ (y : Ranked ℕ). Every (λ n. passed n (x .ranks) ≤ n) (y .ranks)) R (front-takes g x R (h .words) reached .1) p i) n k))))
+
+      bounded-two : Bounded (twoMoves front (getD t (8 * r + 1) 0))
+      bounded-two = two-bounded (unpacked front .rank0) (unpacked front .rank1) len0 len1 (short-two .rank0) (short-two .rank1) (lengths-small .0) (lengths-small .1)
+
+      pub two-step : WideStep t (8 * r) (length (rule .daughters)) mark (twoBegins (getD w from 0) (getD t (8 * r + 1) 0)) (twoMoves (getD w from 0) (getD t (8 * r + 1) 0)) w from to
+      two-step = step-of (twoBegins front (getD t (8 * r + 1) 0)) (twoMoves front (getD t (8 * r + 1) 0)) (two-four front (getD t (8 * r + 1) 0)) begin-two goes-by-two bounded-two apart-two
+
+      pub two-is : expanded t (8 * r) (length (rule .daughters)) mark (twoBegins (getD w from 0) (getD t (8 * r + 1) 0)) (twoMoves (getD w from 0) (getD t (8 * r + 1) 0)) w from to ≡ map numberOf next
+      two-is = next-is (twoBegins front (getD t (8 * r + 1) 0)) (twoMoves front (getD t (8 * r + 1) 0)) (two-four front (getD t (8 * r + 1) 0)) begin-two goes-by-two bounded-two apart-two
 
   -- a rule of dimension 1: its front has rank 0 alone, and every other rank moves by the same
   module _ (is-one : dimensionIn t (8 * r) ≡ 1) where

@@ -16,4 +16,5 @@ pub mod Fronts
 pub mod Holding
 pub mod Predicting
 pub mod Scanning
+pub mod Two
 pub mod Expanding

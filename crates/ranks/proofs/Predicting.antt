@@ -52,7 +52,7 @@ moved-numbers g f [] h k = refl
 moved-numbers g f (p ∷ q) h k = ap₂ (λ (x : ℕ) (l : List ℕ). x ∷ l) (moved-number g f p (h .0) (k .0)) (moved-numbers g f q (h .1) (k .1))
 
 -- what holds of each rank holds of each lane
-each-lane : (g : Grammar) (P : ℕ → Type 0) (p : Ranked ℕ) → Fits g p → ((r : ℕ) → List·Memᴰ r (p .ranks) → P r) → Each P (inLanes p)
+pub each-lane : (g : Grammar) (P : ℕ → Type 0) (p : Ranked ℕ) → Fits g p → ((r : ℕ) → List·Memᴰ r (p .ranks) → P r) → Each P (inLanes p)
 each-lane g P p h k =
     record {
       least = k (leastRank (p .ranks)) (least-mem (p .ranks) (h .some-ranks));

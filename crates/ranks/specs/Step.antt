@@ -4,10 +4,12 @@ use mathlib.Core.Path.{_≡_}
 use mathlib.Core.Bool.{false}
 use mathlib.Core.Option.{some}
 use mathlib.Core.List.{List, [], _∷_, map}
-use Prim.Native.Nat.{ℕ, _+_, _-_, _<_, _≤_}
+use Prim.Native.Nat.{ℕ, _+_, _-_, _*_, _/_, _%_, _<_, _≤_}
+use lib.Dec.{eqb}
 use lib.ListN.{length, getD, take}
 use lib.Seq.{slice}
 use Rattle.ranks.specs.declared.moves.Moves.{Moves}
+use Rattle.model.specs.Base.{if_then_else_}
 use Rattle.model.specs.Grammar.{Rule, Grammar, ruleAt, isLexical}
 use Rattle.model.specs.WellFormed.{WellFormed}
 use Rattle.ranking.specs.Ranks.{Ranked, shifted, predictRanked}
@@ -15,7 +17,7 @@ use Rattle.ranking.proofs.Limits.{Reached}
 use Rattle.ranking.proofs.Numbered.{Below}
 use Rattle.ranks.specs.Prediction.{Short, Behind, Apart, Sized, ranks, packed, unpacked, remade}
 use Rattle.ranks.specs.Queue.{room, Every, Steps, Next, insertAll}
-use Rattle.ranks.specs.Daughters.{daughter}
+use Rattle.ranks.specs.Daughters.{daughter, Alone}
 use Rattle.ranks.specs.Moves.{movesRanks, movesLengths, gathered, lengthsOf, Bounded, begun, Begins}
 use Rattle.ranks.specs.Held.{numberOf, predictionOf, queueIn, Held}
 use Rattle.ranks.specs.Table.{cells, Compiled}
@@ -27,29 +29,52 @@ frontMoves t at front = gathered (ranks (unpacked front)) (lengthsOf (getD t (at
 abbrev pub frontBegins : List ℕ → ℕ → ℕ → List ℕ
 frontBegins t at front = ranks (begun front (getD t (at + 1) 0))
 
-abbrev pub daughterAt : List ℕ → ℕ → ℕ → List ℕ → ℕ → ℕ
-daughterAt t i j bs mark = packed (daughter bs (getD t i 0) (getD t j 0) mark)
+-- of a rule of dimension 2, without comparing: one of the front's two components has rank 0, and the other begins behind what takes its place
+abbrev pub twoMoves : ℕ → ℕ → Moves
+twoMoves front lens =
+    if eqb (unpacked front .rank0) 0
+    then record { len0 = lens % 65536; f1 = unpacked front .rank1; len1 = lens / 65536 % 65536; f2 = 255; len2 = 1; f3 = 255; len3 = 1 }
+    else record { len0 = lens / 65536 % 65536; f1 = unpacked front .rank0; len1 = lens % 65536; f2 = 255; len2 = 1; f3 = 255; len3 = 1 }
 
--- the queue after a step on the queue from..to
-abbrev pub expanded : List ℕ → ℕ → ℕ → ℕ → List ℕ → ℕ → ℕ → List ℕ
-expanded t at n mark w from to =
-    insertAll (take n (daughterAt t (at + 2) (at + 3) (frontBegins t at (getD w from 0)) mark ∷ (daughterAt t (at + 4) (at + 5) (frontBegins t at (getD w from 0)) mark ∷ (daughterAt t (at + 6) (at + 7) (frontBegins t at (getD w from 0)) mark ∷ []))))
-    (map (remade (shifted (movesRanks (frontMoves t at (getD w from 0))) (movesLengths (frontMoves t at (getD w from 0))))) (slice (from + 1) to w))
+abbrev pub twoBegins : ℕ → ℕ → List ℕ
+twoBegins front lens =
+    if eqb (unpacked front .rank0) 0
+    then 0 ∷ ((unpacked front .rank1 + lens % 65536 - 1) ∷ (0 ∷ (0 ∷ [])))
+    else (unpacked front .rank0 + lens / 65536 % 65536 - 1) ∷ (0 ∷ (0 ∷ (0 ∷ [])))
+
+-- daughter j of the rule whose cells begin at `at`, where the front's components begin at the ranks bs
+abbrev pub daughterAt : List ℕ → ℕ → ℕ → List ℕ → ℕ → ℕ
+daughterAt t at j bs mark = packed (daughter bs (getD t (at + 2 + 2 * j) 0) (getD t (at + 3 + 2 * j) 0) mark)
+
+-- its cells can make it
+pub record Makes (t : List ℕ) (at j : ℕ) (bs : List ℕ) (mark : ℕ) : Type 0 where
+  pub sized : Sized (daughter bs (getD t (at + 2 + 2 * j) 0) (getD t (at + 3 + 2 * j) 0) mark)
+  pub alone : getD t (at + 3 + 2 * j) 0 % 8 ≡ 1 → Alone (getD t (at + 2 + 2 * j) 0) (getD t (at + 3 + 2 * j) 0)
+
+-- the queue after a step on the queue from..to, where others move by m
+abbrev pub expanded : List ℕ → ℕ → ℕ → ℕ → List ℕ → Moves → List ℕ → ℕ → ℕ → List ℕ
+expanded t at n mark bs m w from to =
+    insertAll (take n (daughterAt t at 0 bs mark ∷ (daughterAt t at 1 bs mark ∷ (daughterAt t at 2 bs mark ∷ []))))
+    (map (remade (shifted (movesRanks m) (movesLengths m))) (slice (from + 1) to w))
 
 -- what the code of a wide step needs of the numbers
-pub record WideStep (t : List ℕ) (at n mark : ℕ) (w : List ℕ) (from to : ℕ) : Type 0 where
+pub record WideStep (t : List ℕ) (at n mark : ℕ) (bs : List ℕ) (m : Moves) (w : List ℕ) (from to : ℕ) : Type 0 where
   pub table : length t ≡ cells
   pub rule : at + 8 ≤ cells
   pub steps : Steps w from to n
   pub some : 0 < n
   pub short : Every Short w (from + 1) to
   pub behind : Every Behind w (from + 1) to
-  pub apart : Every (Apart (movesRanks (frontMoves t at (getD w from 0))) (movesLengths (frontMoves t at (getD w from 0)))) w (from + 1) to
-  pub bounded : Bounded (frontMoves t at (getD w from 0))
-  pub begins : Begins (getD w from 0) (getD t (at + 1) 0)
-  pub first : 0 < n → Sized (daughter (frontBegins t at (getD w from 0)) (getD t (at + 2) 0) (getD t (at + 3) 0) mark)
-  pub second : 1 < n → Sized (daughter (frontBegins t at (getD w from 0)) (getD t (at + 4) 0) (getD t (at + 5) 0) mark)
-  pub third : 2 < n → Sized (daughter (frontBegins t at (getD w from 0)) (getD t (at + 6) 0) (getD t (at + 7) 0) mark)
+  pub apart : Every (Apart (movesRanks m) (movesLengths m)) w (from + 1) to
+  pub bounded : Bounded m
+  pub makes : (j : ℕ) → j < n → Makes t at j bs mark
+
+-- of a rule of dimension 2: the front's two components have other ranks, and lengths are few
+pub record TwoRanks (front lens : ℕ) : Type 0 where
+  pub short : Short (unpacked front)
+  pub other : unpacked front .rank0 ≡ 0 → 0 < unpacked front .rank1
+  pub len0 : lens % 65536 < 256
+  pub len1 : lens / 65536 % 65536 < 256
 
 -- A nonlexical step by rule r can be made on the queue from..to: the table is the grammar's, the rule is one of the front's category, steps reach the queue, the
 -- next one has at most 64 predictions, and there is room for it behind. `mark` is the number of the first daughter, and others have numbers below it.

@@ -1,14 +1,17 @@
 // The daughters of a nonlexical step, as predictions of the next queue.
 ghost use mathlib.Core.Path.{_≡_};
 ghost use mathlib.Core.List.{[], _∷_};
-ghost use Prim.Native.Nat.{_+_, _<_, _≤_, min, max};
+ghost use Prim.Native.Nat.{_+_, _%_, _<_, _≤_, min, max};
 ghost use lib.ListN.{length};
 ghost use Rattle.ranks.specs.Prediction.{Sized, packed};
-ghost use Rattle.ranks.specs.Daughters.{daughter, Rising};
+ghost use Rattle.ranks.specs.Daughters.{daughter, Alone, Rising};
+ghost use Rattle.ranks.specs.Step.{daughterAt, Makes};
+use crate::prediction::alone;
 use crate::prediction::category;
 use crate::prediction::number;
 use crate::prediction::pack;
 use crate::prediction::rank;
+use crate::table::TABLE;
 
 pub struct Three {
     pub low: u64,
@@ -45,7 +48,7 @@ pub fn rising(x: u64, y: u64, z: u64) -> Three
 }
 
 // The daughter of these two cells, where the front's components begin at the ranks b. `mark` is added to its number.
-pub fn made(cell: u64, places: u64, b: &[u64; 4], mark: u64) -> u64
+pub fn made_wide(cell: u64, places: u64, b: &[u64; 4], mark: u64) -> u64
     requires { ⌜ (length (now b) ≡ 4) × Sized (daughter (now b) cell places mark) ⌝ }
     ensures { λ r. ⌜ r ≡ packed (daughter (now (b .entry)) cell places mark) ⌝ }
 {
@@ -65,13 +68,24 @@ pub fn made(cell: u64, places: u64, b: &[u64; 4], mark: u64) -> u64
     )
 }
 
-// Daughter j of n, or 0 where there are not so many.
-pub fn made_if(j: usize, n: usize, cell: u64, places: u64, b: &[u64; 4], mark: u64) -> u64
-    requires { ⌜ (length (now b) ≡ 4) × (j < n → Sized (daughter (now b) cell places mark)) ⌝ }
-    ensures { λ r. ⌜ (j < n → r ≡ packed (daughter (now (b .entry)) cell places mark)) ⌝ }
+// The same; a daughter with a single component has one rank in every place.
+pub fn made(cell: u64, places: u64, b: &[u64; 4], mark: u64) -> u64
+    requires { ⌜ (length (now b) ≡ 4) × Sized (daughter (now b) cell places mark) × (places % 8 ≡ 1 → Alone cell places) ⌝ }
+    ensures { λ r. ⌜ r ≡ packed (daughter (now (b .entry)) cell places mark) ⌝ }
+{
+    if places % 8 == 1 {
+        return alone(cell, b[(places / 8 % 4) as usize], mark);
+    }
+    made_wide(cell, places, b, mark)
+}
+
+// Daughter j of n from the cells of the rule that begin at `at`, or 0 where there are not so many.
+pub fn made_at(t: &[u64; TABLE], at: usize, j: usize, n: usize, b: &[u64; 4], mark: u64) -> u64
+    requires { ⌜ (at + 8 ≤ 2048) × (j < 3) × (length (now b) ≡ 4) × (j < n → Makes (now t) at j (now b) mark) ⌝ }
+    ensures { λ r. ⌜ (j < n → r ≡ daughterAt (now (t .entry)) at j (now (b .entry)) mark) ⌝ }
 {
     if j < n {
-        made(cell, places, b, mark)
+        made(t[at + 2 + 2 * j], t[at + 3 + 2 * j], b, mark)
     } else {
         0
     }

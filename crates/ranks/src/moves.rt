@@ -5,6 +5,7 @@ ghost use Prim.Native.Nat.{_+_, _<_, _≤_};
 ghost use Rattle.ranking.specs.Ranks.{shifted};
 ghost use Rattle.ranks.specs.Prediction.{ranks, unpacked, Short, Behind, Apart, remade};
 ghost use Rattle.ranks.specs.Queue.{Roomy, Every, Mapped};
+ghost use Rattle.ranks.specs.Step.{twoMoves, twoBegins, TwoRanks};
 ghost use Rattle.ranks.specs.Moves.{movesRanks, movesLengths, withOne, gathered, lengthsOf, Bounded, begun, Begins};
 use crate::prediction::moved4;
 use crate::prediction::rank;
@@ -128,4 +129,45 @@ pub fn bases(x: u64, lens: u64) -> [u64; 4]
         lens / LENGTH / LENGTH / LENGTH,
     );
     [rank(y, 0), rank(y, 1), rank(y, 2), rank(y, 3)]
+}
+
+// The same for a rule of dimension 2, without comparing: one of the front's two components has rank 0.
+pub fn moves_of_two(front: u64, lens: u64) -> Moves
+    ensures { λ m. ⌜ m ≡ twoMoves front lens ⌝ }
+{
+    let f0 = rank(front, 0);
+    let f1 = rank(front, 1);
+    if f0 == 0 {
+        return Moves {
+            len0: lens % LENGTH,
+            f1,
+            len1: lens / LENGTH % LENGTH,
+            f2: HIGHEST,
+            len2: 1,
+            f3: HIGHEST,
+            len3: 1,
+        };
+    }
+    Moves {
+        len0: lens / LENGTH % LENGTH,
+        f1: f0,
+        len1: lens % LENGTH,
+        f2: HIGHEST,
+        len2: 1,
+        f3: HIGHEST,
+        len3: 1,
+    }
+}
+
+// And where its components begin after the step.
+pub fn bases_of_two(front: u64, lens: u64) -> [u64; 4]
+    requires { ⌜ TwoRanks front lens ⌝ }
+    ensures { λ b. ⌜ b ≡ twoBegins front lens ⌝ }
+{
+    let f0 = rank(front, 0);
+    let f1 = rank(front, 1);
+    if f0 == 0 {
+        return [0, f1 + lens % LENGTH - 1, 0, 0];
+    }
+    [f0 + lens / LENGTH % LENGTH - 1, 0, 0, 0]
 }

@@ -2,7 +2,7 @@
 // where there is no component. How it is packed is known in this file alone. A rank is below 256: one bit of its 9 is free.
 ghost use mathlib.Core.Path.{_≡_};
 ghost use mathlib.Core.List.{[], _∷_};
-ghost use Prim.Native.Nat.{_+_, _<_, _≤_};
+ghost use Prim.Native.Nat.{_+_, _*_, _<_, _≤_};
 ghost use lib.ListN.{getD};
 ghost use Rattle.ranking.specs.Ranks.{above, shifted};
 ghost use Rattle.ranks.specs.Table.{marked};
@@ -52,6 +52,14 @@ pub fn marked(x: u64, mark: u64) -> u64
     ensures { λ y. ⌜ y ≡ marked mark x ⌝ }
 {
     x + mark * NUMBER
+}
+
+// The prediction x, whose only component has its position for a rank, with that component b further on and `mark` added to its number.
+pub fn alone(x: u64, b: u64, mark: u64) -> u64
+    requires { ⌜ (unpacked x .least ≡ 0) × (b + unpacked x .rank0 < 512) × (mark < 512) ⌝ }
+    ensures { λ y. ⌜ y ≡ x + b * 2251799948165633 + unpacked x .rank0 * 2251799813685248 + mark * 4398046511104 ⌝ }
+{
+    x + b * ONES + x % LANE * LEAST + mark * NUMBER
 }
 
 // Its least rank.

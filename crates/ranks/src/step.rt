@@ -2,21 +2,23 @@
 ghost use mathlib.Core.Path.{_≡_};
 ghost use mathlib.Core.List.{[], _∷_, _++_, map};
 ghost use Prim.Native.Nat.{_+_, _-_, _<_, _≤_};
-ghost use lib.ListN.{take};
+ghost use lib.ListN.{getD, take};
 ghost use lib.Seq.{slice};
 ghost use Rattle.ranking.specs.Ranks.{shifted};
 ghost use Rattle.ranks.specs.Prediction.{Short, Behind, Apart, remade};
-ghost use Rattle.ranks.specs.Moves.{movesRanks, movesLengths, Bounded};
-ghost use Rattle.ranks.specs.Step.{expanded, WideStep, Expandable, Expanded};
+ghost use Rattle.ranks.specs.Moves.{movesRanks, movesLengths, Bounded, Begins};
+ghost use Rattle.ranks.specs.Step.{frontMoves, frontBegins, twoMoves, twoBegins, TwoRanks, expanded, WideStep, Expandable, Expanded};
 ghost use Rattle.ranks.specs.Queue.{Every, Gap, Placed, Steps, Next, insertAll};
 use crate::daughters::larger;
-use crate::daughters::made_if;
+use crate::daughters::made_at;
 use crate::daughters::rising;
 use crate::daughters::smaller;
 use crate::moves::Moves;
 use crate::moves::advance;
 use crate::moves::bases;
+use crate::moves::bases_of_two;
 use crate::moves::moves_of;
+use crate::moves::moves_of_two;
 use crate::queue::ROOM;
 use crate::queue::settle1;
 use crate::queue::settle2;
@@ -24,8 +26,8 @@ use crate::queue::settle3;
 use crate::queue::shift;
 use crate::table::TABLE;
 use crate::table::daughters;
+use crate::table::dimension;
 use crate::table::first_length;
-use crate::table::narrow;
 use crate::table::place_of;
 use crate::table::ready_made;
 use model::RuleNumber;
@@ -89,7 +91,7 @@ fn replace(
 
 // A step by the rule whose cells begin at `at`, which has n daughters: the queue from..to to the one that begins at `to`. `mark` is added to the daughters'
 // numbers.
-pub fn expand_wide(
+fn expand_wide(
     t: &[u64; TABLE],
     at: usize,
     n: usize,
@@ -98,17 +100,38 @@ pub fn expand_wide(
     from: usize,
     to: usize,
 )
-    requires { ⌜ WideStep (now t) at n mark (now w) from to ⌝ }
-    ensures { λ r. ⌜ Next (expanded (now (t .entry)) at n mark (now (w .entry)) from to) (now (w .entry)) (now (w .exit)) to (to + n + (to - (from + 1))) ⌝ }
+    requires { ⌜ WideStep (now t) at n mark (frontBegins (now t) at (getD (now w) from 0)) (frontMoves (now t) at (getD (now w) from 0)) (now w) from to × Begins (getD (now w) from 0) (getD (now t) (at + 1) 0) ⌝ }
+    ensures { λ r. ⌜ Next (expanded (now (t .entry)) at n mark (frontBegins (now (t .entry)) at (getD (now (w .entry)) from 0)) (frontMoves (now (t .entry)) at (getD (now (w .entry)) from 0)) (now (w .entry)) from to) (now (w .entry)) (now (w .exit)) to (to + n + (to - (from + 1))) ⌝ }
 {
     let front = w[from];
     let lens = t[at + 1];
     let b = bases(front, lens);
-    let e0 = made_if(0, n, t[at + 2], t[at + 3], &b, mark);
-    let e1 = made_if(1, n, t[at + 4], t[at + 5], &b, mark);
-    let e2 = made_if(2, n, t[at + 6], t[at + 7], &b, mark);
-    let m = moves_of(front, lens);
-    replace(w, from, to, n, m, e0, e1, e2);
+    let e0 = made_at(t, at, 0, n, &b, mark);
+    let e1 = made_at(t, at, 1, n, &b, mark);
+    let e2 = made_at(t, at, 2, n, &b, mark);
+    replace(w, from, to, n, moves_of(front, lens), e0, e1, e2);
+}
+
+// The same for a rule of dimension 2.
+fn expand_two(
+    t: &[u64; TABLE],
+    at: usize,
+    n: usize,
+    mark: u64,
+    w: &mut [u64; ROOM],
+    from: usize,
+    to: usize,
+)
+    requires { ⌜ WideStep (now t) at n mark (twoBegins (getD (now w) from 0) (getD (now t) (at + 1) 0)) (twoMoves (getD (now w) from 0) (getD (now t) (at + 1) 0)) (now w) from to × TwoRanks (getD (now w) from 0) (getD (now t) (at + 1) 0) ⌝ }
+    ensures { λ r. ⌜ Next (expanded (now (t .entry)) at n mark (twoBegins (getD (now (w .entry)) from 0) (getD (now (t .entry)) (at + 1) 0)) (twoMoves (getD (now (w .entry)) from 0) (getD (now (t .entry)) (at + 1) 0)) (now (w .entry)) from to) (now (w .entry)) (now (w .exit)) to (to + n + (to - (from + 1))) ⌝ }
+{
+    let front = w[from];
+    let lens = t[at + 1];
+    let b = bases_of_two(front, lens);
+    let e0 = made_at(t, at, 0, n, &b, mark);
+    let e1 = made_at(t, at, 1, n, &b, mark);
+    let e2 = made_at(t, at, 2, n, &b, mark);
+    replace(w, from, to, n, moves_of_two(front, lens), e0, e1, e2);
 }
 
 // A step by nonlexical rule r, which is of the category of the front of the queue from..to. The next queue is written from `to` on. The daughters have the
@@ -126,12 +149,17 @@ pub fn expand(
 {
     let at = place_of(r);
     let n = daughters(t, at);
-    if narrow(t, at) {
+    let d = dimension(t, at);
+    if d == 1 {
         let len = first_length(t, at);
         let d0 = ready_made(t, at, 0, mark);
         let d1 = ready_made(t, at, 1, mark);
         let d2 = ready_made(t, at, 2, mark);
         expand_narrow(w, from, to, n, len, d0, d1, d2);
+        return;
+    }
+    if d == 2 {
+        expand_two(t, at, n, mark, w, from, to);
         return;
     }
     expand_wide(t, at, n, mark, w, from, to);

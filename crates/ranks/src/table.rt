@@ -1,7 +1,6 @@
 // The rules of a grammar as a table, made once for a call: 8 cells a rule. How a cell is packed is known in this file alone.
 ghost use mathlib.Core.Path.{_≡_};
 ghost use Prim.Native.Nat.{_+_, _*_, _%_, _<_, _≤_};
-ghost use lib.Dec.{eqb};
 ghost use lib.ListN.{getD};
 ghost use Rattle.ranks.specs.Table.{daughtersIn, dimensionIn, categoryIn, wordIn, marked};
 use crate::prediction::marked;
@@ -34,12 +33,12 @@ pub fn daughters(t: &[u64; TABLE], at: usize) -> usize
     (t[at] % DIMENSION) as usize
 }
 
-// Whether its category has dimension 1.
-pub fn narrow(t: &[u64; TABLE], at: usize) -> bool
+// The dimension of its category.
+pub fn dimension(t: &[u64; TABLE], at: usize) -> u64
     requires { ⌜ at + 8 ≤ 2048 ⌝ }
-    ensures { λ b. ⌜ b ≡ eqb (dimensionIn (now (t .entry)) at) 1 ⌝ }
+    ensures { λ d. ⌜ d ≡ dimensionIn (now (t .entry)) at ⌝ }
 {
-    t[at] / DIMENSION % 8 == 1
+    t[at] / DIMENSION % 8
 }
 
 // Its category.

@@ -6,8 +6,8 @@ use mathlib.Core.List.{List, [], _∷_, _++_, append-nil}
 use mathlib.Core.Option.{Option, none, some}
 use Prim.Native.Nat.{ℕ, zero, suc, _+_, _*_, _%_, _<_, _≤_}
 use native.Mathlib.Omega.{arith}
-use borrow.Author.Tests.{lt-ltb, ltb-false, leb-true, leb-false}
-use lib.Dec.{T, eqb, ltb, leb, eqb→eq}
+use borrow.Author.Tests.{lt-ltb, leb-true, leb-false}
+use lib.Dec.{T, eqb, leb, eqb→eq}
 use lib.ListN.{length, take}
 use lib.Seq.{take-all, take-nil, length-take-le}
 use Rattle.model.specs.declared.Refusal.{Refusal}
@@ -21,7 +21,7 @@ use Rattle.model.specs.Counting.{count, effort, listing, limitsRefusal, effortR
 use Rattle.model.specs.Calls.{countRefusal, countCall}
 use Rattle.model.specs.Step.{single}
 use Rattle.model.specs.Program.{line, pairs, sentenceIn, limitIn, programLimit, programRefusal, printed, program}
-use Rattle.model.proofs.Tests.{first-of, rest-of, no-refusal, stop, and-l, and-r, within-low}
+use Rattle.model.proofs.Tests.{first-of, rest-of, stop, and-l, and-r, within-low}
 use Rattle.model.proofs.Verdicts.{sentence-short}
 use Rattle.analyses.proofs.Limits.{ranges}
 use Rattle.listing.specs.Stream.{entriesAfter}
@@ -60,7 +60,6 @@ pub record Affords (file sentence : List ℕ) (n a b : ℕ) : Type 0 where
   pub some-nodes : 1 ≤ n
   pub few-nodes : n ≤ 96
   pub few-words : length sentence ≤ 96
-  pub affordable : effort (grammarOf file) sentence n ≤ programLimit
   pub count-is : count (grammarOf file) sentence n ≡ a
   pub effort-is : effort (grammarOf file) sentence n ≡ b
 
@@ -81,7 +80,6 @@ affords file sentence n even a b h =
       some-nodes = r .nodes-some;
       few-nodes = r .nodes-few;
       few-words = sentence-short g sentence (first-of words cost w);
-      affordable = ltb-false programLimit (effort g sentence n) (no-refusal (ltb programLimit (effort g sentence n)) (Refusal.Desk 25 0) (rest-of words cost w));
       count-is = c .1;
       effort-is = c .2;
     }

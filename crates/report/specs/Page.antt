@@ -1,59 +1,51 @@
 -- The listing as lines, a page at a time.
 -- Assumes nothing.
 use mathlib.Core.Path.{_≡_}
-use mathlib.Core.Option.{none}
 use mathlib.Core.List.{List, [], _∷_, _++_}
 use Prim.Native.Nat.{ℕ, _+_, _≤_}
 use lib.ListN.{length, take}
 use Rattle.model.specs.Base.{each}
 use Rattle.model.specs.Grammar.{Grammar}
-use Rattle.model.specs.GrammarFile.{grammarRefusal, grammarOf}
-use Rattle.model.specs.Counting.{effort}
-use Rattle.model.specs.Program.{line, programLimit}
-use Rattle.rows.specs.Table.{Compiled}
-use Rattle.search.specs.Chain.{Chained}
+use Rattle.model.specs.Program.{line}
+use Rattle.walk.specs.Walking.{Walking, stepsOf}
 use Rattle.listing.specs.Stream.{entriesAfter}
 use Rattle.report.specs.Text.{Put}
+use Rattle.report.specs.declared.page.Pen.{Pen}
 use Rattle.report.specs.declared.page.Line.{Line}
 use Rattle.report.specs.declared.page.Line.the-variants.{Put as LinePut, Last as LineLast}
 use Rattle.report.specs.declared.page.Page.{Page}
 use Rattle.report.specs.declared.page.Page.the-variants.{More, Last}
 
--- the file is accepted and the tables are its own; N is in range, and the effort within the program's limit; the path holds a list of `len` numbers
-pub record Lists (file table chain sentence : List ℕ) (n : ℕ) (path : List ℕ) (len : ℕ) : Type 0 where
-  pub accepted : grammarRefusal file ≡ none
-  pub compiled : Compiled (grammarOf file) table
-  pub chained : Chained (grammarOf file) chain
-  pub some-nodes : 1 ≤ n
-  pub few-nodes : n ≤ 96
-  pub affordable : effort (grammarOf file) sentence n ≤ programLimit
-  pub listed : len ≤ 96
-  pub path-long : length path ≡ 96
-
 -- the lines of the entries after a list
 abbrev pub linesAfter : Grammar → List ℕ → ℕ → List ℕ → List ℕ
 linesAfter g sentence n list = each line (entriesAfter g sentence n list)
 
--- one line is written and the path begins with its entry, so that the lines after the list are that line and those after that entry; or none is
-abbrev pub LineSays : Grammar → List ℕ → ℕ → List ℕ → List ℕ → List ℕ → ℕ → List ℕ → Line → Type 0
-LineSays g sentence n list path before at after (LinePut p k) =
-    Put before after at (line (take k path)) p × (k ≤ 96) × (length path ≡ 96)
-    × (linesAfter g sentence n list ≡ line (take k path) ++ linesAfter g sentence n (take k path))
-LineSays g sentence n list path before at after LineLast = (after ≡ before) × (linesAfter g sentence n list ≡ [])
+-- the entry on the path is written as a line, and the walk stands there, under the same node limit: the lines after the list are that line and those after
+-- that entry
+pub record LinePutTo (g : Grammar) (t chain sentence list before : List ℕ) (pen : Pen) (w path after : List ℕ) (next : Pen) : Type 0 where
+  pub walking : Walking g t chain sentence w path (next .at)
+  pub same-steps : stepsOf (next .at) ≡ stepsOf (pen .at)
+  pub put : Put before after (pen .place) (line (take (next .at .steps) path)) (next .place)
+  pub lines : linesAfter g sentence (stepsOf (pen .at)) list ≡ line (take (next .at .steps) path) ++ linesAfter g sentence (stepsOf (pen .at)) (take (next .at .steps) path)
 
--- lines are written from place `at` to place p, and the last entry written, of k steps, is at the front of the path: the lines after the list are those
--- written and those after that entry
-pub record FilledTo (g : Grammar) (sentence : List ℕ) (n : ℕ) (list before : List ℕ) (at : ℕ) (path after : List ℕ) (p k : ℕ) : Type 0 where
+-- one line is written, or there is none
+abbrev pub LineSays : Grammar → List ℕ → List ℕ → List ℕ → List ℕ → List ℕ → Pen → List ℕ → List ℕ → List ℕ → Line → Type 0
+LineSays g t chain sentence list before pen w path after (LinePut next) = LinePutTo g t chain sentence list before pen w path after next
+LineSays g t chain sentence list before pen w path after LineLast = (after ≡ before) × (linesAfter g sentence (stepsOf (pen .at)) list ≡ [])
+
+-- lines are written from the pen's place on to that of `next`, and the last entry written is on the path, where the walk stands: the lines after the list are
+-- those written and those after that entry
+pub record FilledTo (g : Grammar) (t chain sentence list before : List ℕ) (pen : Pen) (w path after : List ℕ) (next : Pen) : Type 0 where
+  pub walking : Walking g t chain sentence w path (next .at)
+  pub same-steps : stepsOf (next .at) ≡ stepsOf (pen .at)
   pub text : List ℕ
-  pub put : Put before after at text p
-  pub listed : k ≤ 96
-  pub path-long : length path ≡ 96
-  pub lines : linesAfter g sentence n list ≡ text ++ linesAfter g sentence n (take k path)
+  pub put : Put before after (pen .place) text (next .place)
+  pub lines : linesAfter g sentence (stepsOf (pen .at)) list ≡ text ++ linesAfter g sentence (stepsOf (pen .at)) (take (next .at .steps) path)
 
 -- a page that is not the last goes on for as long as there is room for a line of 96 numbers, of at most 576 bytes; the last has all lines that are left
-abbrev pub PageSays : Grammar → List ℕ → ℕ → List ℕ → List ℕ → List ℕ → ℕ → List ℕ → Page → Type 0
-PageSays g sentence n list path before at after (More p k) = FilledTo g sentence n list before at path after p k × (length after ≤ p + 576)
-PageSays g sentence n list path before at after (Last p) = (l : List ℕ) × Put before after at l p × (linesAfter g sentence n list ≡ l)
+abbrev pub PageSays : Grammar → List ℕ → List ℕ → List ℕ → List ℕ → List ℕ → Pen → List ℕ → List ℕ → List ℕ → Page → Type 0
+PageSays g t chain sentence list before pen w path after (More next) = FilledTo g t chain sentence list before pen w path after next × (length after ≤ next .place + 576)
+PageSays g t chain sentence list before pen w path after (Last p) = (l : List ℕ) × Put before after (pen .place) l p × (linesAfter g sentence (stepsOf (pen .at)) list ≡ l)
 
 -- the texts of the pages that follow each other from the entries after a list on
 module _ (g : Grammar) (sentence : List ℕ) (n : ℕ) where

@@ -5,6 +5,7 @@ mod text;
 mod verdict;
 
 pub use page::Page;
+pub use page::Pen;
 pub use page::fill;
 pub use sentence::read_limit;
 pub use sentence::read_words;

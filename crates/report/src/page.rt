@@ -2,79 +2,87 @@
 ghost use Prim.Native.Nat.{_+_, _<_, _≤_};
 ghost use lib.ListN.{length, take};
 ghost use Rattle.model.specs.GrammarFile.{grammarOf};
-ghost use Rattle.report.specs.Page.{Lists, LineSays, PageSays};
+ghost use Rattle.walk.specs.Walking.{Walking};
+ghost use Rattle.report.specs.Page.{LineSays, PageSays};
 use crate::text::put_line;
-use crate::verdict::EFFORT_LIMIT;
-use listing::Followed;
-use listing::follow;
+use listing::next_entry;
+use ranks::queue::ROOM;
+use ranks::table::TABLE;
+use steps::Standing;
+use walk::Walked;
 
 // A line of 96 numbers has at most so many bytes: of each number five digits, and the blank or the newline after it.
 const LINE_BYTES: usize = 576;
 
-// A line is written: the place after it, and how many steps its entry has. Or there is no entry left.
+// Where the walk over the listing stands, and the place in the text where the writing goes on.
+pub struct Pen {
+    pub at: Standing,
+    pub place: usize,
+}
+
+// A line is written, and the pen is after it. Or there is no entry left.
 pub enum Line {
-    Put(usize, usize),
+    Put(Pen),
     Last,
 }
 
-// A page ends before a place. There may be entries after it, of which the last written one has so many steps; or it ends the listing.
+// A page ends where the pen is, and there may be entries after it; or it ends the listing, before a place.
 pub enum Page {
-    More(usize, usize),
+    More(Pen),
     Last(usize),
 }
 
-// Writes the entry after the first `len` numbers of the path as a line. The path then begins with that entry.
+// Writes the next entry after the live prefix where the walk stands as a line. The path then begins with that entry.
 fn put_next(
     file: &[u8],
-    t: &[u16; 8192],
+    t: &[u64; TABLE],
     chain: &[u16; 320],
     sentence: &[u32],
-    n: usize,
+    w: &mut [u64; ROOM],
     path: &mut [u16; 96],
-    len: usize,
     out: &mut [u8],
-    at: usize,
+    pen: Pen,
 ) -> Line
-    requires { ⌜ Lists (now file) (now t) (now chain) (now sentence) n (now path) len × (at + 576 < length (now out)) ⌝ }
-    ensures { λ l. ⌜ LineSays (grammarOf (now (file .entry))) (now (sentence .entry)) n (take len (now (path .entry))) (now (path .exit)) (now (out .entry)) at (now (out .exit)) l ⌝ }
+    requires { ⌜ Walking (grammarOf (now file)) (now t) (now chain) (now sentence) (now w) (now path) (pen .at) × (pen .place + 576 < length (now out)) ⌝ }
+    ensures { λ l. ⌜ LineSays (grammarOf (now (file .entry))) (now (t .entry)) (now (chain .entry)) (now (sentence .entry)) (take (pen .at .steps) (now (path .entry))) (now (out .entry)) pen (now (w .exit)) (now (path .exit)) (now (out .exit)) l ⌝ }
 {
-    let f = follow(file, t, chain, sentence, n, EFFORT_LIMIT, len, path);
-    match f {
-        Followed::Next(k) => Line::Put(put_line(path, k, out, at), k),
-        Followed::Last => Line::Last,
-        Followed::Over => Line::Last,
+    let s = next_entry(file, t, chain, sentence, w, path, pen.at);
+    match s {
+        Walked::Came(n) => {
+            let k = n.steps;
+            let p = put_line(path, k, out, pen.place);
+            Line::Put(Pen { at: n, place: p })
+        }
+        Walked::Ended => Line::Last,
     }
 }
 
-// Writes the entries after the first `len` numbers of the path as lines, from a place on, as long as there is room for a line of 96 numbers. The path then
+// Writes the entries after the live prefix where the walk stands as lines, from a place on, as long as there is room for a line of 96 numbers. The path then
 // begins with the last entry written. The tables t and chain are those of the file.
 pub fn fill(
     file: &[u8],
-    t: &[u16; 8192],
+    t: &[u64; TABLE],
     chain: &[u16; 320],
     sentence: &[u32],
-    n: usize,
+    w: &mut [u64; ROOM],
     path: &mut [u16; 96],
-    len: usize,
     out: &mut [u8],
-    at: usize,
+    pen: Pen,
 ) -> Page
-    requires { ⌜ Lists (now file) (now t) (now chain) (now sentence) n (now path) len × (at ≤ length (now out)) ⌝ }
-    ensures { λ p. ⌜ PageSays (grammarOf (now (file .entry))) (now (sentence .entry)) n (take len (now (path .entry))) (now (path .exit)) (now (out .entry)) at (now (out .exit)) p ⌝ }
+    requires { ⌜ Walking (grammarOf (now file)) (now t) (now chain) (now sentence) (now w) (now path) (pen .at) × (pen .place ≤ length (now out)) ⌝ }
+    ensures { λ p. ⌜ PageSays (grammarOf (now (file .entry))) (now (t .entry)) (now (chain .entry)) (now (sentence .entry)) (take (pen .at .steps) (now (path .entry))) (now (out .entry)) pen (now (w .exit)) (now (path .exit)) (now (out .exit)) p ⌝ }
 {
-    let mut p = at;
-    let mut k = len;
-    while LINE_BYTES < out.len() - p {
-        let l = put_next(file, t, chain, sentence, n, path, k, out, p);
+    let mut here = pen;
+    while LINE_BYTES < out.len() - here.place {
+        let l = put_next(file, t, chain, sentence, w, path, out, here);
         match l {
-            Line::Put(q, m) => {
-                p = q;
-                k = m;
+            Line::Put(n) => {
+                here = n;
             }
             Line::Last => {
-                return Page::Last(p);
+                return Page::Last(here.place);
             }
         }
     }
-    Page::More(p, k)
+    Page::More(here)
 }

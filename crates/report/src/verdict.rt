@@ -8,7 +8,7 @@ use model::Tested;
 use reader::grammar_refusal;
 
 // "effort limit 1,000,000"
-pub const EFFORT_LIMIT: u64 = 1000000;
+const EFFORT_LIMIT: u64 = 1000000;
 
 // The refusal of the grammar, of a sentence file of even length, or of the count with the program's effort limit; else count and effort.
 pub fn program_verdict(file: &[u8], sentence: &[u32], n: u64, even: bool) -> CountVerdict

@@ -26,7 +26,7 @@ use grammar::rules;
 use model::RuleNumber;
 use ranks::daughters::Three;
 use ranks::daughters::larger;
-use ranks::daughters::made;
+use ranks::daughters::made_wide;
 use ranks::daughters::rising;
 use ranks::daughters::smaller;
 use ranks::prediction::pack;
@@ -140,7 +140,7 @@ fn ready(p: Pair) -> u64
     ensures { λ x. ⌜ x ≡ packed (daughter zeros (p .cell) (p .places) 0) ⌝ }
 {
     let b = [0u64; 4];
-    made(p.cell, p.places, &b, 0)
+    made_wide(p.cell, p.places, &b, 0)
 }
 
 // The first n of three numbers in rising order.

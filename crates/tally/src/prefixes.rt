@@ -3,13 +3,13 @@ ghost use mathlib.Core.List.{_++_};
 ghost use mathlib.Core.Path.{_≡_};
 ghost use Prim.Native.Nat.{_≤_};
 ghost use lib.ListN.{length, take, drop};
-ghost use Rattle.walk.specs.Walking.{atEnd};
 ghost use Rattle.tally.specs.Tallies.{MayNote, Noted, MayTally, TalliedAll};
 use ranks::queue::ROOM;
 use ranks::table::TABLE;
 use steps::Standing;
 use steps::first_standing;
 use walk::Walked;
+use walk::at_end;
 use walk::next;
 
 // How many complete prefixes there are so far, how many live prefixes, and how many steps the complete one has that is held.
@@ -23,16 +23,6 @@ pub struct Tally {
 pub enum Tallied {
     Over,
     All(Tally),
-}
-
-// Whether the prefix is complete: nothing is predicted, and every word is read.
-fn at_end(sentence: &[u32], at: Standing) -> bool
-    ensures { λ b. ⌜ b ≡ atEnd (now (sentence .entry)) at ⌝ }
-{
-    if at.from == at.to {
-        return at.read == sentence.len();
-    }
-    false
 }
 
 // Copies the first `steps` numbers of the path to the front of the output.

@@ -67,3 +67,11 @@ module _ (g : Grammar) (t chain sentence w path : List ℕ) (at : Standing) (wal
           = sym (length-map (s .queue) (rankedAmong (indicesOf (s .queue)))) ∙ ap (λ (x : RankedState (Unit {0})). length (x .queue)) d ∙ pending-is g t sentence w at (walking .ready) in
           let ws : length (s .words) ≡ length sentence - at .read = ap (λ (x : RankedState (Unit {0})). length (x .words)) d ∙ length-drop (at .read) sentence in
           finished-at sentence at (walking .ready .held .ordered) (walking .ready .known) (s .queue) (s .words) q ws
+
+-- by the two tests of the code
+module _ (sentence : List ℕ) (at : Standing) where
+  pub end-read : at .from ≡ at .to → eqb (at .read) (length sentence) ≡ atEnd sentence at
+  end-read e = sym (ap (λ (b : Bool). if b then eqb (at .read) (length sentence) else false) (eq-eqb (at .from) (at .to) e))
+
+  pub end-not : (at .from ≡ at .to → ⊥) → false ≡ atEnd sentence at
+  end-not e = sym (ap (λ (b : Bool). if b then eqb (at .read) (length sentence) else false) (ne-eqb (at .from) (at .to) e))

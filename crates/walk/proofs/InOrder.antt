@@ -28,7 +28,7 @@ before-asym (x ∷ p) (y ∷ q) t u =
     go (inr v) (inl w) ih = omega (arith, eqb→eq x y (and-l (eqb x y) (before p q) v), ltb→lt y x w)
     go (inr v) (inr w) ih = ih (and-r (eqb x y) (before p q) v) (and-r (eqb y x) (before q p) w)
 
-keep-whole : (f : List ℕ → Bool) (l : List (List ℕ)) → ((p : List ℕ) → List·Memᴰ p l → T (f p)) → keep f l ≡ l
+pub keep-whole : (f : List ℕ → Bool) (l : List (List ℕ)) → ((p : List ℕ) → List·Memᴰ p l → T (f p)) → keep f l ≡ l
 keep-whole f [] h = refl
 keep-whole f (x ∷ l) h =
     ap₂ (λ (b : Bool) (m : List (List ℕ)). if b then x ∷ m else m) (passes (f x) (h x (List·Memᴰ·head refl))) (keep-whole f l (λ p m. h p (List·Memᴰ·tail m)))

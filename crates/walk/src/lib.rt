@@ -7,4 +7,5 @@ pub use chain::chain_rules;
 pub use chain::first_rule;
 pub use chain::next_rule;
 pub use prefixes::Walked;
+pub use prefixes::at_end;
 pub use prefixes::next;

@@ -1,4 +1,6 @@
 // The walk over the live prefixes in dictionary order: from each to the next (document 01, "Counting and listing").
+ghost use mathlib.Core.Path.{_≡_};
+ghost use Rattle.walk.specs.Walking.{atEnd};
 ghost use Rattle.walk.specs.Turns.{MayTry, MayTurn, MayGoBack, Turned, TurnedBack, WentOnward, Walks, WalkedOn};
 use crate::chain::NO_RULE;
 use crate::chain::first_rule;
@@ -126,4 +128,14 @@ pub fn next(
     }
     let r = first_rule(chain, category(w[from]));
     onward(t, chain, sentence, w, path, at, r)
+}
+
+// Whether the prefix is complete: nothing is predicted, and every word is read.
+pub fn at_end(sentence: &[u32], at: Standing) -> bool
+    ensures { λ b. ⌜ b ≡ atEnd (now (sentence .entry)) at ⌝ }
+{
+    if at.from == at.to {
+        return at.read == sentence.len();
+    }
+    false
 }

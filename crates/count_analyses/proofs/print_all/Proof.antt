@@ -22,7 +22,7 @@ print-listing-requires c κs =
     let a = c .before .before .before .before .before .before .args in
     let v = c .before .before .before .program-verdict in
     let w = affords (a .file .now) (a .sentence .now) (a .n) (a .even) _ _ (sym (v .ensures) ∙ c .before .v .given .1) in
-    (w .accepted, w .some-nodes, w .few-nodes, w .affordable)
+    (w .accepted, w .some-nodes, w .few-nodes)
 
 enum-known-v-2 : tie.Need-enum-known-v-2
 enum-known-v-2 c = search needs

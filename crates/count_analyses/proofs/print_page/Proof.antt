@@ -3,20 +3,24 @@
 use mathlib.Core.List.{List}
 use Prim.Native.Nat.{ℕ, _+_, _<_}
 use lib.ListN.{length}
-use borrow.Author.Needs.{needs}
 use Rattle.model.specs.Grammar.{Grammar}
+use Rattle.report.specs.declared.page.Pen.{Pen}
 use Rattle.report.specs.declared.page.Page.{Page}
 use Rattle.report.specs.Page.{PageSays}
 use Rattle.report.proofs.Pages.{page-lists}
-use Rattle.count_analyses.specs.declared.Next.{Next}
-use Rattle.count_analyses.specs.Paths.{NextSays}
+use Rattle.count_analyses.specs.Paths.{GoesOn}
+use borrow.Author.Needs.{needs}
 use Rattle.count_analyses.proofs.print_page.Statement.{statement}
 use Rattle.count_analyses.proofs.print_page.Tie as tie
+use Rattle.count_analyses.proofs.print_page.Reads as reads
+use Rattle.count_analyses.proofs.print_page.Lts as lts
+use Rattle.count_analyses.proofs.write_text.Reads as write-text-reads
+use Rattle.report.proofs.fill.Reads as fill-reads
 
 -- after a page that is not the last, the listing goes on
-goes-on : {g : Grammar} {sentence : List ℕ} {n : ℕ} {list path before : List ℕ} {at : ℕ} {after : List ℕ} {p k : ℕ}
-    → PageSays g sentence n list path before at after (Page.More p k) → at + 576 < length before → NextSays g sentence n list path before at after (Next.After k)
-goes-on w room = (w .0 .listed, w .0 .path-long, page-lists w room)
+goes-on : {g : Grammar} {t chain sentence list before : List ℕ} {pen : Pen} {w path after : List ℕ} {next : Pen}
+    → PageSays g t chain sentence list before pen w path after (Page.More next) → pen .place + 576 < length before → GoesOn g t chain sentence list pen w path (next .at)
+goes-on v room = record { walking = v .0 .walking; same-steps = v .0 .same-steps; less = page-lists v room }
 
 fill-requires : tie.Need-fill-requires
 fill-requires c κs = search needs
@@ -46,7 +50,7 @@ part-write-text-start-2 : tie.Need-part-write-text-start-2
 part-write-text-start-2 c = search needs
 
 part-write-text-end-2 : tie.Need-part-write-text-end-2
-part-write-text-end-2 c = (rw (c .before .before .page2 .given .1) at (c .before .before .before .before .before .before .fill .ensures)) .0 .put .within
+part-write-text-end-2 c = (rw (c .before .before .before .page2 .given .1) at (c .before .before .before .before .before .before .before .fill .ensures)) .0 .put .within
 
 write-text-requires-2 : tie.Need-write-text-requires-2
 write-text-requires-2 c κs = search needs
@@ -68,9 +72,9 @@ same-length-3 c = search needs
 
 returns-3 : tie.Need-returns-3
 returns-3 c =
-    let w = rw (c .before .before .before .before .before .page2 .given .1) at (c .before .before .before .before .before .before .before .before .before .fill .ensures) in
-    let s = c .before .before .before .before .before .before .before .before .before .before .before .before .before .before .before in
-    goes-on w (s .pre .1)
+    let v = rw (c .before .before .before .before .before .before .page2 .given .1) at (c .before .before .before .before .before .before .before .before .before .before .fill .ensures) in
+    let s = c .before .before .before .before .before .before .before .before .before .before .before .before .before .before .before .before .before in
+    goes-on v (s .pre .1)
 
 same-length-4 : tie.Need-same-length-4
 same-length-4 c = search needs

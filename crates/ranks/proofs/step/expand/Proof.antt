@@ -5,22 +5,36 @@ use mathlib.Core.List.{List, [], _∷_, _++_, map}
 use Prim.Native.Nat.{ℕ, _+_, _-_}
 use native.Mathlib.Omega.{arith}
 use borrow.Author.Needs.{needs}
-use lib.ListN.{length, take}
+use lib.ListN.{length, getD, take}
 use lib.Seq.{slice}
 use Rattle.ranking.specs.Ranks.{shifted}
+use Rattle.ranks.specs.declared.moves.Moves.{Moves}
 use Rattle.ranks.specs.Prediction.{remade}
 use Rattle.ranks.specs.Queue.{Steps, Next}
-use Rattle.ranks.specs.Step.{expanded, WideStep}
-use Rattle.ranks.proofs.Expanding.{narrow-at, wide-at, cells-at, daughters-at, step-fits, short, behind, end-is, wide-step, wide-is, ready-small, length-at, narrow-written}
+use Rattle.ranks.specs.Moves.{Begins}
+use Rattle.ranks.specs.Step.{frontMoves, frontBegins, twoMoves, twoBegins, TwoRanks, expanded, WideStep}
+use Rattle.ranks.proofs.Expanding.{dimension-at, other-at, cells-at, daughters-at, step-fits, short, behind, end-is, wide-step, wide-begins, wide-is, two-step, two-ranks, two-is, ready-small, length-at, narrow-written}
 use Rattle.ranks.proofs.step.expand.Statement.{statement}
 use Rattle.ranks.proofs.step.expand.Tie as tie
 
--- what is written, and needed, under other names
-next-as : (w w′ : List ℕ) (to : ℕ) {l m : List ℕ} {e f : ℕ} → l ≡ m → e ≡ f → Next l w w′ to e → Next m w w′ to f
-next-as w w′ to {m = m} {e = e} p q h = subst (λ (x : ℕ). Next m w w′ to x) q (subst (λ (x : List ℕ). Next x w w′ to e) p h)
+-- what is written under other names
+written-as : (w w′ : List ℕ) (to : ℕ) {l m : List ℕ} {e f : ℕ} → l ≡ m → e ≡ f → Next l w w′ to e → Next m w w′ to f
+written-as w w′ to {m = m} {e = e} p q h = subst (λ (x : ℕ). Next m w w′ to x) q (subst (λ (x : List ℕ). Next x w w′ to e) p h)
 
-wide-as : (t : List ℕ) (mark : ℕ) (w : List ℕ) (from to : ℕ) {i j n m : ℕ} → i ≡ j → n ≡ m → WideStep t i n mark w from to → WideStep t j m mark w from to
-wide-as t mark w from to {j = j} {n = n} p q h = subst (λ (x : ℕ). WideStep t j x mark w from to) q (subst (λ (x : ℕ). WideStep t x n mark w from to) p h)
+-- and needed, where the cells begin at i, and there are n daughters
+wide-as : (t : List ℕ) (mark : ℕ) (w : List ℕ) (from to : ℕ) {i j n m : ℕ} → i ≡ j → n ≡ m
+    → WideStep t i n mark (frontBegins t i (getD w from 0)) (frontMoves t i (getD w from 0)) w from to × Begins (getD w from 0) (getD t (i + 1) 0)
+    → WideStep t j m mark (frontBegins t j (getD w from 0)) (frontMoves t j (getD w from 0)) w from to × Begins (getD w from 0) (getD t (j + 1) 0)
+wide-as t mark w from to {j = j} {n = n} p q h =
+    subst (λ (x : ℕ). WideStep t j x mark (frontBegins t j (getD w from 0)) (frontMoves t j (getD w from 0)) w from to × Begins (getD w from 0) (getD t (j + 1) 0)) q
+    (subst (λ (x : ℕ). WideStep t x n mark (frontBegins t x (getD w from 0)) (frontMoves t x (getD w from 0)) w from to × Begins (getD w from 0) (getD t (x + 1) 0)) p h)
+
+two-as : (t : List ℕ) (mark : ℕ) (w : List ℕ) (from to : ℕ) {i j n m : ℕ} → i ≡ j → n ≡ m
+    → WideStep t i n mark (twoBegins (getD w from 0) (getD t (i + 1) 0)) (twoMoves (getD w from 0) (getD t (i + 1) 0)) w from to × TwoRanks (getD w from 0) (getD t (i + 1) 0)
+    → WideStep t j m mark (twoBegins (getD w from 0) (getD t (j + 1) 0)) (twoMoves (getD w from 0) (getD t (j + 1) 0)) w from to × TwoRanks (getD w from 0) (getD t (j + 1) 0)
+two-as t mark w from to {j = j} {n = n} p q h =
+    subst (λ (x : ℕ). WideStep t j x mark (twoBegins (getD w from 0) (getD t (j + 1) 0)) (twoMoves (getD w from 0) (getD t (j + 1) 0)) w from to × TwoRanks (getD w from 0) (getD t (j + 1) 0)) q
+    (subst (λ (x : ℕ). WideStep t x n mark (twoBegins (getD w from 0) (getD t (x + 1) 0)) (twoMoves (getD w from 0) (getD t (x + 1) 0)) w from to × TwoRanks (getD w from 0) (getD t (x + 1) 0)) p h)
 
 place-of-requires : tie.Need-place-of-requires
 place-of-requires c κs = search needs
@@ -32,8 +46,8 @@ daughters-requires c κs =
     let p = s .pre in
     cells-at (p .grammar) (a .t .now) (a .w .now) (a .r .0) (a .mark) (a .from) (a .to) (p .expands) (c .place-of .result) (c .place-of .ensures)
 
-narrow-requires : tie.Need-narrow-requires
-narrow-requires c κs =
+dimension-requires : tie.Need-dimension-requires
+dimension-requires c κs =
     let s = c .before .before in
     let a = s .args in
     let p = s .pre in
@@ -52,7 +66,8 @@ ready-made-requires c κs =
     let a = s .args in
     let p = s .pre in
     let at = c .before .before .before .before .place-of in
-    let is-one = narrow-at (p .grammar) (a .t .now) (a .w .now) (a .r .0) (a .mark) (a .from) (a .to) (p .expands) (at .result) (at .ensures) (c .before .before .narrow .result) (c .before .before .narrow .ensures) (c .before .if1 .taken) in
+    let d = c .before .before .dimension in
+    let is-one = dimension-at (p .grammar) (a .t .now) (a .w .now) (a .r .0) (a .mark) (a .from) (a .to) (p .expands) (at .result) (d .result) 1 (at .ensures) (d .ensures) (c .before .if1 .taken) in
     (cells-at (p .grammar) (a .t .now) (a .w .now) (a .r .0) (a .mark) (a .from) (a .to) (p .expands) (at .result) (at .ensures), omega arith, ready-small (p .grammar) (a .t .now) (a .w .now) (a .r .0) (a .mark) (a .from) (a .to) (p .expands) is-one (at .result) 0 (at .result + 2 + 0) (at .ensures) (omega arith) (omega arith), omega (arith, p .expands .small))
 
 ready-made-requires-2 : tie.Need-ready-made-requires-2
@@ -61,7 +76,8 @@ ready-made-requires-2 c κs =
     let a = s .args in
     let p = s .pre in
     let at = c .before .before .before .before .before .place-of in
-    let is-one = narrow-at (p .grammar) (a .t .now) (a .w .now) (a .r .0) (a .mark) (a .from) (a .to) (p .expands) (at .result) (at .ensures) (c .before .before .before .narrow .result) (c .before .before .before .narrow .ensures) (c .before .before .if1 .taken) in
+    let d = c .before .before .before .dimension in
+    let is-one = dimension-at (p .grammar) (a .t .now) (a .w .now) (a .r .0) (a .mark) (a .from) (a .to) (p .expands) (at .result) (d .result) 1 (at .ensures) (d .ensures) (c .before .before .if1 .taken) in
     (cells-at (p .grammar) (a .t .now) (a .w .now) (a .r .0) (a .mark) (a .from) (a .to) (p .expands) (at .result) (at .ensures), omega arith, ready-small (p .grammar) (a .t .now) (a .w .now) (a .r .0) (a .mark) (a .from) (a .to) (p .expands) is-one (at .result) 1 (at .result + 2 + 2) (at .ensures) (omega arith) (omega arith), omega (arith, p .expands .small))
 
 ready-made-requires-3 : tie.Need-ready-made-requires-3
@@ -70,7 +86,8 @@ ready-made-requires-3 c κs =
     let a = s .args in
     let p = s .pre in
     let at = c .before .before .before .before .before .before .place-of in
-    let is-one = narrow-at (p .grammar) (a .t .now) (a .w .now) (a .r .0) (a .mark) (a .from) (a .to) (p .expands) (at .result) (at .ensures) (c .before .before .before .before .narrow .result) (c .before .before .before .before .narrow .ensures) (c .before .before .before .if1 .taken) in
+    let d = c .before .before .before .before .dimension in
+    let is-one = dimension-at (p .grammar) (a .t .now) (a .w .now) (a .r .0) (a .mark) (a .from) (a .to) (p .expands) (at .result) (d .result) 1 (at .ensures) (d .ensures) (c .before .before .before .if1 .taken) in
     (cells-at (p .grammar) (a .t .now) (a .w .now) (a .r .0) (a .mark) (a .from) (a .to) (p .expands) (at .result) (at .ensures), omega arith, ready-small (p .grammar) (a .t .now) (a .w .now) (a .r .0) (a .mark) (a .from) (a .to) (p .expands) is-one (at .result) 2 (at .result + 2 + 4) (at .ensures) (omega arith) (omega arith), omega (arith, p .expands .small))
 
 expand-narrow-requires : tie.Need-expand-narrow-requires
@@ -79,10 +96,11 @@ expand-narrow-requires c κs =
     let a = s .args in
     let p = s .pre in
     let at = c .before .before .before .before .before .before .before .before .place-of in
-    let d = c .before .before .before .before .before .before .before .daughters in
+    let n = c .before .before .before .before .before .before .before .daughters in
+    let d = c .before .before .before .before .before .before .dimension in
     let f = c .before .before .before .before .first-length in
-    let is-one = narrow-at (p .grammar) (a .t .now) (a .w .now) (a .r .0) (a .mark) (a .from) (a .to) (p .expands) (at .result) (at .ensures) (c .before .before .before .before .before .before .narrow .result) (c .before .before .before .before .before .before .narrow .ensures) (c .before .before .before .before .before .if1 .taken) in (
-      subst⁻¹ (λ (n : ℕ). Steps (a .w .now) (a .from) (a .to) n) (daughters-at (p .grammar) (a .t .now) (a .w .now) (a .r .0) (a .mark) (a .from) (a .to) (p .expands) (at .result) (d .result) (at .ensures) (d .ensures .0)) (step-fits (p .grammar) (a .t .now) (a .w .now) (a .r .0) (a .mark) (a .from) (a .to) (p .expands)),
+    let is-one = dimension-at (p .grammar) (a .t .now) (a .w .now) (a .r .0) (a .mark) (a .from) (a .to) (p .expands) (at .result) (d .result) 1 (at .ensures) (d .ensures) (c .before .before .before .before .before .if1 .taken) in (
+      subst⁻¹ (λ (n : ℕ). Steps (a .w .now) (a .from) (a .to) n) (daughters-at (p .grammar) (a .t .now) (a .w .now) (a .r .0) (a .mark) (a .from) (a .to) (p .expands) (at .result) (n .result) (at .ensures) (n .ensures .0)) (step-fits (p .grammar) (a .t .now) (a .w .now) (a .r .0) (a .mark) (a .from) (a .to) (p .expands)),
       short (p .grammar) (a .t .now) (a .w .now) (a .r .0) (a .mark) (a .from) (a .to) (p .expands),
       behind (p .grammar) (a .t .now) (a .w .now) (a .r .0) (a .mark) (a .from) (a .to) (p .expands),
       length-at (p .grammar) (a .t .now) (a .w .now) (a .r .0) (a .mark) (a .from) (a .to) (p .expands) is-one (at .result) (f .result) (at .ensures) (f .ensures),
@@ -92,43 +110,73 @@ returns : tie.Need-returns
 returns c =
     let a = c .before .before .before .before .before .before .before .before .before .before .args in
     let at = c .before .before .before .before .before .before .before .before .before .place-of in
-    let d = c .before .before .before .before .before .before .before .before .daughters in
+    let n = c .before .before .before .before .before .before .before .before .daughters in
+    let d = c .before .before .before .before .before .before .before .dimension in
     let f = c .before .before .before .before .before .first-length in
     let d0 = c .before .before .before .before .ready-made in
     let d1 = c .before .before .before .ready-made2 in
     let d2 = c .before .before .ready-made3 in
     record {
       of-grammar = λ g h.
-          let n : d .result ≡ length (h .rule .daughters) = daughters-at g (a .t .now) (a .w .now) (a .r .0) (a .mark) (a .from) (a .to) h (at .result) (d .result) (at .ensures) (d .ensures .0) in
-          let is-one = narrow-at g (a .t .now) (a .w .now) (a .r .0) (a .mark) (a .from) (a .to) h (at .result) (at .ensures) (c .before .before .before .before .before .before .before .narrow .result) (c .before .before .before .before .before .before .before .narrow .ensures) (c .before .before .before .before .before .before .if1 .taken) in
-          next-as (a .w .now) (c .expand-narrow .last .0) (a .to)
-          (ap (λ (m : ℕ). take m (d0 .result ∷ (d1 .result ∷ (d2 .result ∷ []))) ++ map (remade (shifted (0 ∷ []) (f .result ∷ []))) (slice (a .from + 1) (a .to) (a .w .now))) n
+          let k : n .result ≡ length (h .rule .daughters) = daughters-at g (a .t .now) (a .w .now) (a .r .0) (a .mark) (a .from) (a .to) h (at .result) (n .result) (at .ensures) (n .ensures .0) in
+          let is-one = dimension-at g (a .t .now) (a .w .now) (a .r .0) (a .mark) (a .from) (a .to) h (at .result) (d .result) 1 (at .ensures) (d .ensures) (c .before .before .before .before .before .before .if1 .taken) in
+          written-as (a .w .now) (c .expand-narrow .last .0) (a .to)
+          (ap (λ (m : ℕ). take m (d0 .result ∷ (d1 .result ∷ (d2 .result ∷ []))) ++ map (remade (shifted (0 ∷ []) (f .result ∷ []))) (slice (a .from + 1) (a .to) (a .w .now))) k
           ∙ narrow-written g (a .t .now) (a .w .now) (a .r .0) (a .mark) (a .from) (a .to) h is-one (at .result) (f .result) (d0 .result) (d1 .result) (d2 .result) (at .ensures) (f .ensures) (d0 .ensures) (d1 .ensures) (d2 .ensures))
-          (ap (λ (m : ℕ). a .to + m + (a .to - (a .from + 1))) n ∙ end-is g (a .t .now) (a .w .now) (a .r .0) (a .mark) (a .from) (a .to) h) (c .expand-narrow .ensures);
+          (ap (λ (m : ℕ). a .to + m + (a .to - (a .from + 1))) k ∙ end-is g (a .t .now) (a .w .now) (a .r .0) (a .mark) (a .from) (a .to) h) (c .expand-narrow .ensures);
+    }
+
+expand-two-requires : tie.Need-expand-two-requires
+expand-two-requires c κs =
+    let s = c .before .before .before .before .before .before in
+    let a = s .args in
+    let p = s .pre in
+    let at = c .before .before .before .before .before .place-of in
+    let n = c .before .before .before .before .daughters in
+    let d = c .before .before .before .dimension in
+    two-as (a .t .now) (a .mark) (a .w .now) (a .from) (a .to) (sym (at .ensures)) (sym (daughters-at (p .grammar) (a .t .now) (a .w .now) (a .r .0) (a .mark) (a .from) (a .to) (p .expands) (at .result) (n .result) (at .ensures) (n .ensures .0)))
+    (two-step (p .grammar) (a .t .now) (a .w .now) (a .r .0) (a .mark) (a .from) (a .to) (p .expands) (other-at (p .grammar) (a .t .now) (a .w .now) (a .r .0) (a .mark) (a .from) (a .to) (p .expands) (at .result) (d .result) 1 (at .ensures) (d .ensures) (c .before .before .if1 .left)) (dimension-at (p .grammar) (a .t .now) (a .w .now) (a .r .0) (a .mark) (a .from) (a .to) (p .expands) (at .result) (d .result) 2 (at .ensures) (d .ensures) (c .before .if2 .taken)), two-ranks (p .grammar) (a .t .now) (a .w .now) (a .r .0) (a .mark) (a .from) (a .to) (p .expands) (other-at (p .grammar) (a .t .now) (a .w .now) (a .r .0) (a .mark) (a .from) (a .to) (p .expands) (at .result) (d .result) 1 (at .ensures) (d .ensures) (c .before .before .if1 .left)) (dimension-at (p .grammar) (a .t .now) (a .w .now) (a .r .0) (a .mark) (a .from) (a .to) (p .expands) (at .result) (d .result) 2 (at .ensures) (d .ensures) (c .before .if2 .taken)))
+
+returns-2 : tie.Need-returns-2
+returns-2 c =
+    let a = c .before .before .before .before .before .before .before .args in
+    let at = c .before .before .before .before .before .before .place-of in
+    let n = c .before .before .before .before .before .daughters in
+    let d = c .before .before .before .before .dimension in
+    record {
+      of-grammar = λ g h.
+          let k : n .result ≡ length (h .rule .daughters) = daughters-at g (a .t .now) (a .w .now) (a .r .0) (a .mark) (a .from) (a .to) h (at .result) (n .result) (at .ensures) (n .ensures .0) in
+          written-as (a .w .now) (c .expand-two .last .1 .1 .1 .1 .0) (a .to)
+          (ap₂ (λ (i m : ℕ). expanded (a .t .now) i m (a .mark) (twoBegins (getD (a .w .now) (a .from) 0) (getD (a .t .now) (i + 1) 0)) (twoMoves (getD (a .w .now) (a .from) 0) (getD (a .t .now) (i + 1) 0)) (a .w .now) (a .from) (a .to)) (at .ensures) k
+          ∙ two-is g (a .t .now) (a .w .now) (a .r .0) (a .mark) (a .from) (a .to) h (other-at g (a .t .now) (a .w .now) (a .r .0) (a .mark) (a .from) (a .to) h (at .result) (d .result) 1 (at .ensures) (d .ensures) (c .before .before .before .if1 .left)) (dimension-at g (a .t .now) (a .w .now) (a .r .0) (a .mark) (a .from) (a .to) h (at .result) (d .result) 2 (at .ensures) (d .ensures) (c .before .before .if2 .taken)))
+          (ap (λ (m : ℕ). a .to + m + (a .to - (a .from + 1))) k ∙ end-is g (a .t .now) (a .w .now) (a .r .0) (a .mark) (a .from) (a .to) h) (c .expand-two .ensures);
     }
 
 expand-wide-requires : tie.Need-expand-wide-requires
 expand-wide-requires c κs =
-    let s = c .before .before .before .before .before in
+    let s = c .before .before .before .before .before .before in
     let a = s .args in
     let p = s .pre in
-    let at = c .before .before .before .before .place-of in
-    let d = c .before .before .before .daughters in
-    wide-as (a .t .now) (a .mark) (a .w .now) (a .from) (a .to) (sym (at .ensures)) (sym (daughters-at (p .grammar) (a .t .now) (a .w .now) (a .r .0) (a .mark) (a .from) (a .to) (p .expands) (at .result) (d .result) (at .ensures) (d .ensures .0)))
-    (wide-step (p .grammar) (a .t .now) (a .w .now) (a .r .0) (a .mark) (a .from) (a .to) (p .expands) (wide-at (p .grammar) (a .t .now) (a .w .now) (a .r .0) (a .mark) (a .from) (a .to) (p .expands) (at .result) (at .ensures) (c .before .before .narrow .result) (c .before .before .narrow .ensures) (c .before .if1 .left)))
-
-returns-2 : tie.Need-returns-2
-returns-2 c =
-    let a = c .before .before .before .before .before .before .args in
     let at = c .before .before .before .before .before .place-of in
-    let d = c .before .before .before .before .daughters in
+    let n = c .before .before .before .before .daughters in
+    let d = c .before .before .before .dimension in
+    let more = other-at (p .grammar) (a .t .now) (a .w .now) (a .r .0) (a .mark) (a .from) (a .to) (p .expands) (at .result) (d .result) 1 (at .ensures) (d .ensures) (c .before .before .if1 .left) in
+    wide-as (a .t .now) (a .mark) (a .w .now) (a .from) (a .to) (sym (at .ensures)) (sym (daughters-at (p .grammar) (a .t .now) (a .w .now) (a .r .0) (a .mark) (a .from) (a .to) (p .expands) (at .result) (n .result) (at .ensures) (n .ensures .0))) (wide-step (p .grammar) (a .t .now) (a .w .now) (a .r .0) (a .mark) (a .from) (a .to) (p .expands) more, wide-begins (p .grammar) (a .t .now) (a .w .now) (a .r .0) (a .mark) (a .from) (a .to) (p .expands) more)
+
+returns-3 : tie.Need-returns-3
+returns-3 c =
+    let a = c .before .before .before .before .before .before .before .args in
+    let at = c .before .before .before .before .before .before .place-of in
+    let n = c .before .before .before .before .before .daughters in
+    let d = c .before .before .before .before .dimension in
     record {
       of-grammar = λ g h.
-          let n : d .result ≡ length (h .rule .daughters) = daughters-at g (a .t .now) (a .w .now) (a .r .0) (a .mark) (a .from) (a .to) h (at .result) (d .result) (at .ensures) (d .ensures .0) in
-          let wide = wide-at g (a .t .now) (a .w .now) (a .r .0) (a .mark) (a .from) (a .to) h (at .result) (at .ensures) (c .before .before .before .narrow .result) (c .before .before .before .narrow .ensures) (c .before .before .if1 .left) in
-          next-as (a .w .now) (c .expand-wide .last .1 .1 .1 .1 .0) (a .to)
-          (ap₂ (λ (i m : ℕ). expanded (a .t .now) i m (a .mark) (a .w .now) (a .from) (a .to)) (at .ensures) n ∙ wide-is g (a .t .now) (a .w .now) (a .r .0) (a .mark) (a .from) (a .to) h wide)
-          (ap (λ (m : ℕ). a .to + m + (a .to - (a .from + 1))) n ∙ end-is g (a .t .now) (a .w .now) (a .r .0) (a .mark) (a .from) (a .to) h) (c .expand-wide .ensures);
+          let k : n .result ≡ length (h .rule .daughters) = daughters-at g (a .t .now) (a .w .now) (a .r .0) (a .mark) (a .from) (a .to) h (at .result) (n .result) (at .ensures) (n .ensures .0) in
+          let more = other-at g (a .t .now) (a .w .now) (a .r .0) (a .mark) (a .from) (a .to) h (at .result) (d .result) 1 (at .ensures) (d .ensures) (c .before .before .before .if1 .left) in
+          written-as (a .w .now) (c .expand-wide .last .1 .1 .1 .1 .0) (a .to)
+          (ap₂ (λ (i m : ℕ). expanded (a .t .now) i m (a .mark) (frontBegins (a .t .now) i (getD (a .w .now) (a .from) 0)) (frontMoves (a .t .now) i (getD (a .w .now) (a .from) 0)) (a .w .now) (a .from) (a .to)) (at .ensures) k
+          ∙ wide-is g (a .t .now) (a .w .now) (a .r .0) (a .mark) (a .from) (a .to) h more)
+          (ap (λ (m : ℕ). a .to + m + (a .to - (a .from + 1))) k ∙ end-is g (a .t .now) (a .w .now) (a .r .0) (a .mark) (a .from) (a .to) h) (c .expand-wide .ensures);
     }
 
 pub expand-spec : {M : Type 1} → statement M
@@ -137,12 +185,14 @@ expand-spec =
     (tie.spec
     place-of-requires
     daughters-requires
-    narrow-requires
+    dimension-requires
     first-length-requires
     ready-made-requires
     ready-made-requires-2
     ready-made-requires-3
     expand-narrow-requires
     returns
+    expand-two-requires
+    returns-2
     expand-wide-requires
-    returns-2)
+    returns-3)

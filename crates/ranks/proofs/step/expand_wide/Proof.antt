@@ -1,20 +1,16 @@
 -- `ranks::step::expand_wide` meets its contract.
 -- Assumes nothing.
-use mathlib.Core.Path.{_≡_, ap, subst, subst⁻¹, _∙_}
-use mathlib.Core.List.{List, [], _∷_, map}
-use Prim.Native.Nat.{ℕ, _+_, _-_}
-use native.Mathlib.Omega.{arith}
-use lib.ListN.{length, getD, take}
-use lib.Seq.{slice}
-use borrow.Author.Needs.{needs}
+use mathlib.Core.Path.{ap, subst⁻¹}
+use mathlib.Core.List.{List}
+use Prim.Native.Nat.{ℕ, _+_}
+use lib.ListN.{length}
 use Rattle.ranks.specs.declared.moves.Moves.{Moves}
-use Rattle.ranking.specs.Ranks.{shifted}
-use Rattle.ranks.specs.Prediction.{Apart, Sized, packed, remade}
-use Rattle.ranks.specs.Queue.{Every, Next, insertAll}
-use Rattle.ranks.specs.Daughters.{daughter}
+use Rattle.ranks.specs.Prediction.{Apart}
+use Rattle.ranks.specs.Queue.{Every}
 use Rattle.ranks.specs.Moves.{movesRanks, movesLengths, Bounded}
-use Rattle.ranks.specs.Step.{frontBegins, daughterAt}
-use Rattle.ranks.proofs.Stepping.{take-same}
+use Rattle.ranks.specs.Step.{Makes}
+use Rattle.ranks.proofs.Stepping.{next-as, wide-next}
+use borrow.Author.Needs.{needs}
 use Rattle.ranks.proofs.step.expand_wide.Statement.{statement}
 use Rattle.ranks.proofs.step.expand_wide.Tie as tie
 
@@ -36,90 +32,36 @@ element-copy-out-lens c = search needs
 bases-requires : tie.Need-bases-requires
 bases-requires c κs = search needs
 
-add-made-if : tie.Need-add-made-if
-add-made-if c = search needs
+made-at-requires : tie.Need-made-at-requires
+made-at-requires c κs =
+    let s = c .before .before .before .before in
+    let a = s .args in
+    let b = c .before .bases in
+    (s .pre .0 .rule, search needs, ap length (b .ensures), λ l. subst⁻¹ (λ (bs : List ℕ). Makes (a .t .now) (a .at) 0 bs (a .mark)) (b .ensures) (s .pre .0 .makes 0 l))
 
-mul-made-if : tie.Need-mul-made-if
-mul-made-if c = search needs
-
-element-copy-out-made-if : tie.Need-element-copy-out-made-if
-element-copy-out-made-if c = search needs
-
-add-made-if-2 : tie.Need-add-made-if-2
-add-made-if-2 c = search needs
-
-mul-made-if-2 : tie.Need-mul-made-if-2
-mul-made-if-2 c = search needs
-
-element-copy-out-made-if-2 : tie.Need-element-copy-out-made-if-2
-element-copy-out-made-if-2 c = search needs
-
-made-if-requires : tie.Need-made-if-requires
-made-if-requires c κs =
+made-at-requires-2 : tie.Need-made-at-requires-2
+made-at-requires-2 c κs =
     let s = c .before .before .before .before .before .before in
     let a = s .args in
     let b = c .before .before .before .bases in
-    (ap length (b .ensures), λ h. subst⁻¹ (λ (bs : List ℕ). Sized (daughter bs (getD (a .t .now) (a .at + 2) 0) (getD (a .t .now) (a .at + 3) 0) (a .mark))) (b .ensures) (s .pre .first h))
+    (s .pre .0 .rule, search needs, ap length (b .ensures), λ l. subst⁻¹ (λ (bs : List ℕ). Makes (a .t .now) (a .at) 1 bs (a .mark)) (b .ensures) (s .pre .0 .makes 1 l))
 
-add-made-if-3 : tie.Need-add-made-if-3
-add-made-if-3 c = search needs
-
-mul-made-if-3 : tie.Need-mul-made-if-3
-mul-made-if-3 c = search needs
-
-element-copy-out-made-if-3 : tie.Need-element-copy-out-made-if-3
-element-copy-out-made-if-3 c = search needs
-
-add-made-if-4 : tie.Need-add-made-if-4
-add-made-if-4 c = search needs
-
-mul-made-if-4 : tie.Need-mul-made-if-4
-mul-made-if-4 c = search needs
-
-element-copy-out-made-if-4 : tie.Need-element-copy-out-made-if-4
-element-copy-out-made-if-4 c = search needs
-
-made-if-requires-2 : tie.Need-made-if-requires-2
-made-if-requires-2 c κs =
-    let s = c .before .before .before .before .before .before .before .before .before .before in
+made-at-requires-3 : tie.Need-made-at-requires-3
+made-at-requires-3 c κs =
+    let s = c .before .before .before .before .before .before .before .before in
     let a = s .args in
-    let b = c .before .before .before .before .before .before .before .bases in
-    (ap length (b .ensures), λ h. subst⁻¹ (λ (bs : List ℕ). Sized (daughter bs (getD (a .t .now) (a .at + 4) 0) (getD (a .t .now) (a .at + 5) 0) (a .mark))) (b .ensures) (s .pre .second h))
-
-add-made-if-5 : tie.Need-add-made-if-5
-add-made-if-5 c = search needs
-
-mul-made-if-5 : tie.Need-mul-made-if-5
-mul-made-if-5 c = search needs
-
-element-copy-out-made-if-5 : tie.Need-element-copy-out-made-if-5
-element-copy-out-made-if-5 c = search needs
-
-add-made-if-6 : tie.Need-add-made-if-6
-add-made-if-6 c = search needs
-
-mul-made-if-6 : tie.Need-mul-made-if-6
-mul-made-if-6 c = search needs
-
-element-copy-out-made-if-6 : tie.Need-element-copy-out-made-if-6
-element-copy-out-made-if-6 c = search needs
-
-made-if-requires-3 : tie.Need-made-if-requires-3
-made-if-requires-3 c κs =
-    let s = c .before .before .before .before .before .before .before .before .before .before .before .before .before .before in
-    let a = s .args in
-    let b = c .before .before .before .before .before .before .before .before .before .before .before .bases in
-    (ap length (b .ensures), λ h. subst⁻¹ (λ (bs : List ℕ). Sized (daughter bs (getD (a .t .now) (a .at + 6) 0) (getD (a .t .now) (a .at + 7) 0) (a .mark))) (b .ensures) (s .pre .third h))
+    let b = c .before .before .before .before .before .bases in
+    (s .pre .0 .rule, search needs, ap length (b .ensures), λ l. subst⁻¹ (λ (bs : List ℕ). Makes (a .t .now) (a .at) 2 bs (a .mark)) (b .ensures) (s .pre .0 .makes 2 l))
 
 moves-of-requires : tie.Need-moves-of-requires
 moves-of-requires c κs = search needs
 
 replace-requires : tie.Need-replace-requires
 replace-requires c κs =
-    let s = c .before .before .before .before .before .before .before .before .before .before .before .before .before .before .before .before .before in
+    let s = c .before .before .before .before .before .before .before .before .before .before .before in
     let a = s .args in
-    let p = s .pre in
-    let m = c .before .moves-of in (
+    let p = s .pre .0 in
+    let m = c .moves-of in (
       p .steps,
       p .some,
       p .short,
@@ -130,13 +72,16 @@ replace-requires c κs =
 
 returns : tie.Need-returns
 returns c =
-    let s = c .before .before .before .before .before .before .before .before .before .before .before .before .before .before .before .before .before .before in
+    let s = c .before .before .before .before .before .before .before .before .before .before .before .before in
     let a = s .args in
-    let b = c .before .before .before .before .before .before .before .before .before .before .before .before .before .before .before .bases in
-    let m = c .before .before .moves-of .ensures in
-    let e = take-same (a .n) (c .before .before .before .before .before .before .before .before .before .before .before .made-if .result) (c .before .before .before .before .before .before .before .made-if2 .result) (c .before .before .before .made-if3 .result) (daughterAt (a .t .now) (a .at + 2) (a .at + 3) (frontBegins (a .t .now) (a .at) (getD (a .w .now) (a .from) 0)) (a .mark)) (daughterAt (a .t .now) (a .at + 4) (a .at + 5) (frontBegins (a .t .now) (a .at) (getD (a .w .now) (a .from) 0)) (a .mark)) (daughterAt (a .t .now) (a .at + 6) (a .at + 7) (frontBegins (a .t .now) (a .at) (getD (a .w .now) (a .from) 0)) (a .mark)) (s .pre .steps .few) (λ h. c .before .before .before .before .before .before .before .before .before .before .before .made-if .ensures h ∙ ap (λ (bs : List ℕ). daughterAt (a .t .now) (a .at + 2) (a .at + 3) bs (a .mark)) (b .ensures)) (λ h. c .before .before .before .before .before .before .before .made-if2 .ensures h ∙ ap (λ (bs : List ℕ). daughterAt (a .t .now) (a .at + 4) (a .at + 5) bs (a .mark)) (b .ensures)) (λ h. c .before .before .before .made-if3 .ensures h ∙ ap (λ (bs : List ℕ). daughterAt (a .t .now) (a .at + 6) (a .at + 7) bs (a .mark)) (b .ensures)) in
-    subst (λ (l : List ℕ). Next l (a .w .now) (c .replace .last .0) (a .to) (a .to + a .n + (a .to - (a .from + 1))))
-    (λ i. insertAll (e i) (map (remade (shifted (movesRanks (m i)) (movesLengths (m i)))) (slice (a .from + 1) (a .to) (a .w .now))))
+    let p = s .pre .0 in
+    let b = c .before .before .before .before .before .before .before .before .before .bases in
+    let e0 = c .before .before .before .before .before .before .before .made-at in
+    let e1 = c .before .before .before .before .before .made-at2 in
+    let e2 = c .before .before .before .made-at3 in
+    let m = c .before .moves-of in
+    next-as (a .w .now) (c .replace .last .0) (a .to)
+    (wide-next (a .t .now) (a .at) (a .n) (a .mark) (b .result) (m .result) (a .w .now) (a .from) (a .to) (e0 .result) (e1 .result) (e2 .result) (p .steps .few) (e0 .ensures) (e1 .ensures) (e2 .ensures) (b .ensures) (m .ensures))
     (c .replace .ensures)
 
 pub expand-wide-spec : {M : Type 1} → statement M
@@ -149,27 +94,9 @@ expand-wide-spec =
     mul-lens
     element-copy-out-lens
     bases-requires
-    add-made-if
-    mul-made-if
-    element-copy-out-made-if
-    add-made-if-2
-    mul-made-if-2
-    element-copy-out-made-if-2
-    made-if-requires
-    add-made-if-3
-    mul-made-if-3
-    element-copy-out-made-if-3
-    add-made-if-4
-    mul-made-if-4
-    element-copy-out-made-if-4
-    made-if-requires-2
-    add-made-if-5
-    mul-made-if-5
-    element-copy-out-made-if-5
-    add-made-if-6
-    mul-made-if-6
-    element-copy-out-made-if-6
-    made-if-requires-3
+    made-at-requires
+    made-at-requires-2
+    made-at-requires-3
     moves-of-requires
     replace-requires
     returns)

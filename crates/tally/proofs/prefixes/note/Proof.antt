@@ -7,7 +7,7 @@ use Rattle.tally.proofs.prefixes.note.Statement.{statement}
 use Rattle.tally.proofs.prefixes.note.Tie as tie
 use Rattle.tally.proofs.prefixes.note.Reads as reads
 use Rattle.tally.proofs.prefixes.note.Lts as lts
-use Rattle.tally.proofs.prefixes.at_end.Reads as at-end-reads
+use Rattle.walk.proofs.at_end.Reads as at-end-reads
 use Rattle.tally.proofs.prefixes.copy_path.Reads as copy-path-reads
 
 at-end-requires : tie.Need-at-end-requires

@@ -1,0 +1,163 @@
+-- Rules of dimension 2: one of the front's two components has rank 0, and where ranks go needs no comparison for it.
+-- Assumes nothing.
+use mathlib.Core.Path.{_≡_, refl, sym, ap, _∙_}
+use mathlib.Core.Bool.{Bool, true, false}
+use mathlib.Core.List.{List, [], _∷_, map}
+use Prim.Native.Nat.{ℕ, _+_, _-_, _*_, _/_, _%_, _<_, _≤_, min}
+use native.Mathlib.Omega.{arith}
+use borrow.Author.Tests.{eq-eqb, ne-eqb, eqb-true, eqb-false, le-ltb, ltb-true, ltb-false}
+use lib.Dec.{ltb, eqb}
+use lib.ListN.{length, getD, take}
+use Rattle.model.specs.Base.{if_then_else_}
+use Rattle.ranking.specs.Ranks.{above, passed, added, shifted, leastRank}
+use Rattle.ranks.specs.declared.moves.Moves.{Moves}
+use Rattle.ranks.specs.Prediction.{Sized, packed, unpacked, lanes}
+use Rattle.ranks.specs.Moves.{movesRanks, movesLengths, Bounded}
+use Rattle.ranks.specs.Daughters.{daughter, Alone}
+use Rattle.ranks.specs.Step.{twoMoves, twoBegins}
+use Rattle.ranks.proofs.Packing.{packed-unpacked}
+use Rattle.ranks.proofs.Moved.{above-zero}
+
+-- a daughter with a single component
+pub alone-made : (bs : List ℕ) (cell places mark : ℕ) → Alone cell places
+    → cell + getD bs (places / 8 % 4) 0 * 2251799948165633 + unpacked cell .rank0 * 2251799813685248 + mark * 4398046511104 ≡ packed (daughter bs cell places mark)
+alone-made bs cell places mark h =
+    let b = getD bs (places / 8 % 4) 0 in
+    let r = unpacked cell .rank0 in
+    sum cell b r (unpacked cell .number) (unpacked cell .category) mark (unpacked cell .rank1) (unpacked cell .rank2) (unpacked cell .rank3) (unpacked cell .least) (sym (packed-unpacked cell)) (h .rank1) (h .rank2) (h .rank3) (h .least)
+    ∙ (let l : b + r ≡ min (min (b + r) (b + unpacked cell .rank1)) (min (b + unpacked cell .rank2) (b + unpacked cell .rank3)) = omega (arith, h .rank1, h .rank2, h .rank3) in
+    let p1 = sym (ap (λ (i : ℕ). getD bs i 0) (h .place1)) in
+    let p2 = sym (ap (λ (i : ℕ). getD bs i 0) (h .place2)) in
+    let p3 = sym (ap (λ (i : ℕ). getD bs i 0) (h .place3)) in
+    let q1 = sym (h .rank1) in
+    let q2 = sym (h .rank2) in
+    let q3 = sym (h .rank3) in
+    ap (λ (x : ℕ). lanes (b + r) (b + r) (b + r) (b + r) ((mark + unpacked cell .number) * 64 + unpacked cell .category) x) l
+    ∙ (λ i. lanes (b + r) (p1 i + q1 i) (p2 i + q2 i) (p3 i + q3 i) ((mark + unpacked cell .number) * 64 + unpacked cell .category) (min (min (b + r) (p1 i + unpacked cell .rank1)) (min (p2 i + unpacked cell .rank2) (p3 i + unpacked cell .rank3)))))
+  where
+    sum : (x b r n a mark r1 r2 r3 l : ℕ) → x ≡ lanes r r1 r2 r3 (n * 64 + a) l → r1 ≡ r → r2 ≡ r → r3 ≡ r → l ≡ 0
+        → x + b * 2251799948165633 + r * 2251799813685248 + mark * 4398046511104 ≡ lanes (b + r) (b + r) (b + r) (b + r) ((mark + n) * 64 + a) (b + r)
+    sum x b r n a mark r1 r2 r3 l e h1 h2 h3 h4 = omega arith
+
+above-none : (k n r : ℕ) → r ≤ k → above k n r ≡ 0
+above-none k n r h = ap (λ (b : Bool). if b then n else 0) (le-ltb k r h)
+
+-- the moves of a front with ranks a and b, and lengths n and m
+abbrev pub twoMovesOf : ℕ → ℕ → ℕ → ℕ → Moves
+twoMovesOf a b n m =
+    if eqb a 0 then record { len0 = n; f1 = b; len1 = m; f2 = 255; len2 = 1; f3 = 255; len3 = 1 } else record { len0 = m; f1 = a; len1 = n; f2 = 255; len2 = 1; f3 = 255; len3 = 1 }
+
+abbrev pub twoBeginsOf : ℕ → ℕ → ℕ → ℕ → List ℕ
+twoBeginsOf a b n m = if eqb a 0 then 0 ∷ ((b + n - 1) ∷ (0 ∷ (0 ∷ []))) else (a + m - 1) ∷ (0 ∷ (0 ∷ (0 ∷ [])))
+
+module _ (a b n m : ℕ) (zero : leastRank (a ∷ b ∷ []) ≡ 0) (unequal : a ≡ b → ⊥) where
+  second-zero : (a ≡ 0 → ⊥) → b ≡ 0
+  second-zero f = go (ltb b a) refl zero
+    where
+      go : (t : Bool) → ltb b a ≡ t → (if t then b else a) ≡ 0 → b ≡ 0
+      go true e z = z
+      go false e z = absurd (f z)
+
+  pub other-some : a ≡ 0 → 0 < b
+  other-some e = some b (λ z. unequal (e ∙ sym z))
+    where
+      some : (b : ℕ) → (b ≡ 0 → ⊥) → 0 < b
+      some b f = omega arith
+
+  pub two-goes : (r : ℕ) → shifted (movesRanks (twoMovesOf a b n m)) (movesLengths (twoMovesOf a b n m)) r ≡ shifted (a ∷ b ∷ []) (n ∷ m ∷ []) r
+  two-goes r = go (eqb a 0) refl
+    where
+      first : shifted (0 ∷ (b ∷ (255 ∷ (255 ∷ [])))) (n ∷ (m ∷ (1 ∷ (1 ∷ [])))) r ≡ shifted (0 ∷ b ∷ []) (n ∷ m ∷ []) r
+      first = omega arith
+
+      second : shifted (0 ∷ (a ∷ (255 ∷ (255 ∷ [])))) (m ∷ (n ∷ (1 ∷ (1 ∷ [])))) r ≡ shifted (a ∷ 0 ∷ []) (n ∷ m ∷ []) r
+      second = omega arith
+
+      go : (t : Bool) → eqb a 0 ≡ t
+          → shifted (movesRanks (if t then record { len0 = n; f1 = b; len1 = m; f2 = 255; len2 = 1; f3 = 255; len3 = 1 } else record { len0 = m; f1 = a; len1 = n; f2 = 255; len2 = 1; f3 = 255; len3 = 1 }))
+          (movesLengths (if t then record { len0 = n; f1 = b; len1 = m; f2 = 255; len2 = 1; f3 = 255; len3 = 1 } else record { len0 = m; f1 = a; len1 = n; f2 = 255; len2 = 1; f3 = 255; len3 = 1 })) r
+          ≡ shifted (a ∷ b ∷ []) (n ∷ m ∷ []) r
+      go true e = first ∙ ap (λ (k : ℕ). shifted (k ∷ b ∷ []) (n ∷ m ∷ []) r) (sym (eqb-true a 0 e))
+      go false e = second ∙ ap (λ (k : ℕ). shifted (a ∷ k ∷ []) (n ∷ m ∷ []) r) (sym (second-zero (eqb-false a 0 e)))
+
+  pub two-begins : take 2 (twoBeginsOf a b n m) ≡ map (shifted (a ∷ b ∷ []) (n ∷ m ∷ [])) (a ∷ b ∷ [])
+  two-begins = go (eqb a 0) refl
+    where
+      at-zero : (k n m : ℕ) → shifted (0 ∷ k ∷ []) (n ∷ m ∷ []) 0 ≡ 0
+      at-zero k n m = omega (arith, above-none 0 n 0 (omega arith), above-none 0 1 0 (omega arith), above-none k m 0 (omega arith), above-none k 1 0 (omega arith))
+
+      at-other : (k n m : ℕ) → 0 < k → shifted (0 ∷ k ∷ []) (n ∷ m ∷ []) k ≡ k + n - 1
+      at-other k n m h = omega (arith, above-zero n k h, above-zero 1 k h, above-none k m k (omega arith), above-none k 1 k (omega arith))
+
+      turned : (r : ℕ) → shifted (0 ∷ a ∷ []) (m ∷ n ∷ []) r ≡ shifted (a ∷ 0 ∷ []) (n ∷ m ∷ []) r
+      turned r = omega arith
+
+      go : (t : Bool) → eqb a 0 ≡ t → take 2 (if t then 0 ∷ ((b + n - 1) ∷ (0 ∷ (0 ∷ []))) else (a + m - 1) ∷ (0 ∷ (0 ∷ (0 ∷ [])))) ≡ map (shifted (a ∷ b ∷ []) (n ∷ m ∷ [])) (a ∷ b ∷ [])
+      go true e =
+          let z = sym (eqb-true a 0 e) in
+          let p = sym (at-zero b n m) in
+          let q = sym (at-other b n m (other-some (eqb-true a 0 e))) in
+          (λ i. p i ∷ (q i ∷ [])) ∙ ap (λ (k : ℕ). map (shifted (k ∷ b ∷ []) (n ∷ m ∷ [])) (k ∷ b ∷ [])) z
+      go false e =
+          let z = sym (second-zero (eqb-false a 0 e)) in
+          let s : 0 < a = pos a (eqb-false a 0 e) in
+          let p = sym (at-other a m n s) ∙ turned a in
+          let q = sym (at-zero a m n) ∙ turned 0 in
+          (λ i. p i ∷ (q i ∷ [])) ∙ ap (λ (k : ℕ). map (shifted (a ∷ k ∷ []) (n ∷ m ∷ [])) (a ∷ k ∷ [])) z
+        where
+          pos : (a : ℕ) → (a ≡ 0 → ⊥) → 0 < a
+          pos a f = omega arith
+
+  pub two-apart : (r : ℕ) → passed r (a ∷ b ∷ []) ≤ r → passed r (movesRanks (twoMovesOf a b n m)) ≤ r + added r (movesRanks (twoMovesOf a b n m)) (movesLengths (twoMovesOf a b n m))
+  two-apart r h = go (eqb a 0) refl
+    where
+      first : a ≡ 0 → passed r (0 ∷ (b ∷ (255 ∷ (255 ∷ [])))) ≤ r + added r (0 ∷ (b ∷ (255 ∷ (255 ∷ [])))) (n ∷ (m ∷ (1 ∷ (1 ∷ []))))
+      first z = omega (arith, h, ap (λ (k : ℕ). above k 1 r) z)
+
+      second : b ≡ 0 → passed r (0 ∷ (a ∷ (255 ∷ (255 ∷ [])))) ≤ r + added r (0 ∷ (a ∷ (255 ∷ (255 ∷ [])))) (m ∷ (n ∷ (1 ∷ (1 ∷ []))))
+      second z = omega (arith, h, ap (λ (k : ℕ). above k 1 r) z)
+
+      go : (t : Bool) → eqb a 0 ≡ t
+          → passed r (movesRanks (if t then record { len0 = n; f1 = b; len1 = m; f2 = 255; len2 = 1; f3 = 255; len3 = 1 } else record { len0 = m; f1 = a; len1 = n; f2 = 255; len2 = 1; f3 = 255; len3 = 1 }))
+          ≤ r + added r (movesRanks (if t then record { len0 = n; f1 = b; len1 = m; f2 = 255; len2 = 1; f3 = 255; len3 = 1 } else record { len0 = m; f1 = a; len1 = n; f2 = 255; len2 = 1; f3 = 255; len3 = 1 }))
+          (movesLengths (if t then record { len0 = n; f1 = b; len1 = m; f2 = 255; len2 = 1; f3 = 255; len3 = 1 } else record { len0 = m; f1 = a; len1 = n; f2 = 255; len2 = 1; f3 = 255; len3 = 1 }))
+      go true e = first (eqb-true a 0 e)
+      go false e = second (second-zero (eqb-false a 0 e))
+
+pub two-bounded : (a b n m : ℕ) → a < 256 → b < 256 → n < 256 → m < 256 → Bounded (twoMovesOf a b n m)
+two-bounded a b n m ha hb hn hm = go (eqb a 0)
+  where
+    go : (t : Bool) → Bounded (if t then record { len0 = n; f1 = b; len1 = m; f2 = 255; len2 = 1; f3 = 255; len3 = 1 } else record { len0 = m; f1 = a; len1 = n; f2 = 255; len2 = 1; f3 = 255; len3 = 1 })
+    go true = record { len0 = hn; f1 = hb; len1 = hm; f2 = omega arith; len2 = omega arith; f3 = omega arith; len3 = omega arith }
+    go false = record { len0 = hm; f1 = ha; len1 = hn; f2 = omega arith; len2 = omega arith; f3 = omega arith; len3 = omega arith }
+
+-- what the code makes of the front's ranks
+module _ (front lens : ℕ) where
+  pub two-four : length (twoBegins front lens) ≡ 4
+  two-four = go (eqb (unpacked front .rank0) 0)
+    where
+      go : (t : Bool) → length {A = ℕ} (if t then 0 ∷ ((unpacked front .rank1 + lens % 65536 - 1) ∷ (0 ∷ (0 ∷ []))) else (unpacked front .rank0 + lens / 65536 % 65536 - 1) ∷ (0 ∷ (0 ∷ (0 ∷ [])))) ≡ 4
+      go true = refl
+      go false = refl
+
+  pub moves-first : (f : ℕ) → unpacked front .rank0 ≡ 0 → f ≡ unpacked front .rank1
+      → record { len0 = lens % 65536; f1 = f; len1 = lens / 65536 % 65536; f2 = 255; len2 = 1; f3 = 255; len3 = 1 } ≡ twoMoves front lens
+  moves-first f z e =
+      ap (λ (k : ℕ). record { len0 = lens % 65536; f1 = k; len1 = lens / 65536 % 65536; f2 = 255; len2 = 1; f3 = 255; len3 = 1 }) e
+      ∙ sym (ap (λ (t : Bool). if t then record { len0 = lens % 65536; f1 = unpacked front .rank1; len1 = lens / 65536 % 65536; f2 = 255; len2 = 1; f3 = 255; len3 = 1 } else record { len0 = lens / 65536 % 65536; f1 = unpacked front .rank0; len1 = lens % 65536; f2 = 255; len2 = 1; f3 = 255; len3 = 1 }) (eq-eqb (unpacked front .rank0) 0 z))
+
+  pub moves-second : (f : ℕ) → f ≡ unpacked front .rank0 → (f ≡ 0 → ⊥)
+      → record { len0 = lens / 65536 % 65536; f1 = f; len1 = lens % 65536; f2 = 255; len2 = 1; f3 = 255; len3 = 1 } ≡ twoMoves front lens
+  moves-second f e n =
+      ap (λ (k : ℕ). record { len0 = lens / 65536 % 65536; f1 = k; len1 = lens % 65536; f2 = 255; len2 = 1; f3 = 255; len3 = 1 }) e
+      ∙ sym (ap (λ (t : Bool). if t then record { len0 = lens % 65536; f1 = unpacked front .rank1; len1 = lens / 65536 % 65536; f2 = 255; len2 = 1; f3 = 255; len3 = 1 } else record { len0 = lens / 65536 % 65536; f1 = unpacked front .rank0; len1 = lens % 65536; f2 = 255; len2 = 1; f3 = 255; len3 = 1 }) (ne-eqb (unpacked front .rank0) 0 (λ z. n (e ∙ z))))
+
+  pub begins-first : (f : ℕ) → unpacked front .rank0 ≡ 0 → f ≡ unpacked front .rank1 → _≡_ {A = List ℕ} (0 ∷ ((f + lens % 65536 - 1) ∷ (0 ∷ (0 ∷ [])))) (twoBegins front lens)
+  begins-first f z e =
+      ap (λ (k : ℕ). 0 ∷ ((k + lens % 65536 - 1) ∷ (0 ∷ (0 ∷ [])))) e
+      ∙ sym (ap (λ (t : Bool). if t then 0 ∷ ((unpacked front .rank1 + lens % 65536 - 1) ∷ (0 ∷ (0 ∷ []))) else (unpacked front .rank0 + lens / 65536 % 65536 - 1) ∷ (0 ∷ (0 ∷ (0 ∷ [])))) (eq-eqb (unpacked front .rank0) 0 z))
+
+  pub begins-second : (f : ℕ) → f ≡ unpacked front .rank0 → (f ≡ 0 → ⊥) → _≡_ {A = List ℕ} ((f + lens / 65536 % 65536 - 1) ∷ (0 ∷ (0 ∷ (0 ∷ [])))) (twoBegins front lens)
+  begins-second f e n =
+      ap (λ (k : ℕ). (k + lens / 65536 % 65536 - 1) ∷ (0 ∷ (0 ∷ (0 ∷ [])))) e
+      ∙ sym (ap (λ (t : Bool). if t then 0 ∷ ((unpacked front .rank1 + lens % 65536 - 1) ∷ (0 ∷ (0 ∷ []))) else (unpacked front .rank0 + lens / 65536 % 65536 - 1) ∷ (0 ∷ (0 ∷ (0 ∷ [])))) (ne-eqb (unpacked front .rank0) 0 (λ z. n (e ∙ z))))

@@ -1,3 +1,0 @@
-pub mod Row
-pub mod Table
-pub mod Expand

@@ -1,3 +1,0 @@
-pub mod Chain
-pub mod Tally
-pub mod Search

@@ -1,9 +1,0 @@
-// The search of the live prefixes, depth first with a budget, and the chain of the rules of a category (document 01, "Counting and listing").
-mod chain;
-mod prefixes;
-
-pub use chain::NO_RULE;
-pub use chain::chain_rules;
-pub use chain::first_rule;
-pub use chain::next_rule;
-pub use prefixes::search;
