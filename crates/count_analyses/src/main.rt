@@ -19,7 +19,7 @@ use ranks::table::TABLE;
 use report::Page;
 use report::Pen;
 use report::fill;
-use rule_table::table::compile;
+use rule_table::compile;
 use steps::Standing;
 use steps::first_standing;
 use walk::chain_rules;

@@ -29,7 +29,7 @@ use Rattle.grammar.proofs.start.Reads as start-reads
 use Rattle.io.proofs.large_buffer.Reads as large-buffer-reads
 use Rattle.ranks.proofs.queue.first_queue.Reads as first-queue-reads
 use Rattle.report.proofs.put_count.Reads as put-count-reads
-use Rattle.rule_table.proofs.table.compile.Reads as compile-reads
+use Rattle.rule_table.proofs.compile.Reads as compile-reads
 use Rattle.steps.proofs.first_standing.Reads as first-standing-reads
 use Rattle.walk.proofs.chain_rules.Reads as chain-rules-reads
 
