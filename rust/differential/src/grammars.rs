@@ -96,8 +96,8 @@ fn sized(rng: &mut Rng, categories: (usize, usize), rules: (usize, usize), words
     let mut dimensions: Vec<u8> = (0..categories).map(|_| rng.pick(row)).collect();
     dimensions[start] = 1;
     if shape != Shape::Any {
-        for dimension in 2..=4 {
-            dimensions[(start + dimension) % categories] = dimension as u8;
+        for apart in 1..=3 {
+            dimensions[(start + apart) % categories] = apart as u8 + 1;
         }
     }
     let crowded = shape == Shape::Crowded;
