@@ -22,6 +22,11 @@ use tally::count_from;
 use tally::entry_from;
 use walk::chain_rules;
 
+// The greatest node limit, and the greatest effort limit.
+const MOST_NODES: u64 = 96;
+
+const MOST_EFFORT: u64 = 1000000000;
+
 // Refusal 24: the node limit is not 1 to 96, or the effort limit not 1 to 1,000,000,000.
 fn limits_refusal(n: u64, limit: u64) -> Tested
     ensures { λ t. ⌜ t ≡ tested (limitsRefusal n limit) ⌝ }
@@ -29,13 +34,13 @@ fn limits_refusal(n: u64, limit: u64) -> Tested
     if n < 1 {
         return Tested::Met(Refusal::Desk(24, 0));
     }
-    if 96 < n {
+    if MOST_NODES < n {
         return Tested::Met(Refusal::Desk(24, 0));
     }
     if limit < 1 {
         return Tested::Met(Refusal::Desk(24, 0));
     }
-    if 1000000000 < limit {
+    if MOST_EFFORT < limit {
         return Tested::Met(Refusal::Desk(24, 0));
     }
     Tested::Passed

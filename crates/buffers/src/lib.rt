@@ -5,6 +5,7 @@ ghost use Prim.Native.Nat.{_<_, _≤_};
 ghost use lib.ListN.{getD, length, take, drop};
 ghost use Rattle.model.specs.Verdict.{tested};
 ghost use Rattle.model.specs.Calls.{roomRefusal};
+use model::MOST_STEPS;
 use model::Refusal;
 use model::Tested;
 
@@ -26,7 +27,7 @@ pub fn number_at(list: &[u16], i: usize) -> u16
 pub fn room_refusal(out: &[u16]) -> Tested
     ensures { λ t. ⌜ t ≡ tested (roomRefusal (now (out .entry))) ⌝ }
 {
-    if out.len() < 96 {
+    if out.len() < MOST_STEPS {
         Tested::Met(Refusal::Desk(23, 0))
     } else {
         Tested::Passed

@@ -12,6 +12,7 @@ ghost use Rattle.count_analyses.specs.Pieces.{PieceSays, Appended, TurnS
 use grammar::start;
 use libc::STDOUT_FILENO;
 use model::CountVerdict;
+use model::MOST_STEPS;
 use model::Refusal;
 use ranks::queue::ROOM;
 use ranks::queue::first_queue;
@@ -22,6 +23,7 @@ use report::fill;
 use rule_table::compile;
 use steps::Standing;
 use steps::first_standing;
+use walk::CHAIN;
 use walk::chain_rules;
 
 // What is read of the files: of a grammar one byte more than an accepted one can have, of a sentence N and one word more than an accepted one can have.
@@ -271,10 +273,10 @@ enum Next {
 fn print_page(
     file: &[u8],
     t: &[u64; TABLE],
-    chain: &[u16; 320],
+    chain: &[u16; CHAIN],
     sentence: &[u32],
     w: &mut [u64; ROOM],
-    path: &mut [u16; 96],
+    path: &mut [u16; MOST_STEPS],
     out: &mut [u8],
     pen: Pen,
 ) -> Next
@@ -310,7 +312,7 @@ fn print_listing(file: &[u8], sentence: &[u32], n: usize, count: u64, effort: u6
     let t = compile(file);
     let chain = chain_rules(file);
     let mut w = first_queue(start(file));
-    let mut path = [0u16; 96];
+    let mut path = [0u16; MOST_STEPS];
     let mut space = io::large_buffer();
     let out: &mut [u8] = &mut space;
     let mut place = report::put_count(count, effort, out, 0);

@@ -12,12 +12,12 @@ ghost use Rattle.derivation.specs.TreeRun.{TreeSays, beforeInput};
 use crate::run::spells;
 use buffers::room_refusal;
 use buffers::write_front;
+use model::MOST_STEPS;
 use model::Refusal;
 use model::Tested;
 use model::Verdict;
 use reader::grammar_refusal;
 use sentences::sentence_refusal;
-use steps::MOST_STEPS;
 use trees::read_tree;
 
 // A tree's verdict, for a grammar file and a sentence that are accepted, and for an accepted tree its trace.

@@ -1,12 +1,12 @@
 -- The fields of a record are the parts of the rule that it holds: what the accessors give. Rule r below R is `ruleRead` of the file (`rule-read`,
 -- model/proofs/FromFile), its category, its word and its weight are the fields as they stand, and it has as many daughters as the field says (`daughters-length`,
--- model/proofs/RuleFromRecord). Here: its daughters; its components, of which those that it lacks have length 0; and that a variable names a daughter.
+-- model/proofs/RuleFromRecord). Here: its daughters; its components, of which those that it lacks have length 0.
 -- Assumes nothing.
-use mathlib.Core.Path.{_≡_, refl, sym, ap, ap₂, subst, _∙_}
+use mathlib.Core.Path.{_≡_, refl, sym, ap, ap₂, _∙_}
 use mathlib.Core.Bool.{Bool}
 use mathlib.Core.Option.{none}
-use mathlib.Core.List.{List, [], _∷_, _++_, map, List·Memᴰ}
-use Prim.Native.Nat.{ℕ, zero, suc, _+_, _-_, _/_, _<_, _≤_}
+use mathlib.Core.List.{List, [], _∷_, _++_, map}
+use Prim.Native.Nat.{ℕ, zero, suc, _+_, _-_, _<_, _≤_}
 use native.Mathlib.Omega.{arith}
 use native.Mathlib.Decide.{decLt}
 use borrow.Author.Tests.{lt-ltb, le-ltb}
@@ -14,14 +14,12 @@ use lib.Dec.{T, eqb}
 use lib.ListN.{length, getD, getElem?, take, drop, List·getD-eq-default}
 use lib.Seq.{drop-drop}
 use Rattle.model.specs.Base.{if_then_else_, sumBelow, numbersFrom}
-use Rattle.model.specs.Grammar.{Variable, Rule, ruleAt, dimension}
-use Rattle.model.specs.GrammarFile.{fields, field, allZero, daughtersOf, lengthsOf, variables, dimensionIn, dimensionsOf, rulesOf, recordOf, unusedBytes, grammarRefusal, decoded, sequences, ruleOf, grammarOf}
+use Rattle.model.specs.Grammar.{Rule, ruleAt, dimension}
+use Rattle.model.specs.GrammarFile.{fields, field, allZero, lengthsOf, variables, dimensionIn, dimensionsOf, rulesOf, recordOf, unusedBytes, grammarRefusal, decoded, sequences, ruleOf, grammarOf}
 use Rattle.model.proofs.Tests.{not-off, every-left, every-right}
 use Rattle.model.proofs.ByteLists.{zero-field}
-use Rattle.model.proofs.Lists.{map-in, mem-getD}
-use Rattle.model.proofs.Perm.{perm-mem}
-use Rattle.model.proofs.Variables.{parts-length, vars-out}
-use Rattle.model.proofs.RuleFromRecord.{Tested, field-length, field-at, daughters-length, not-lexical, twelve, lengths-total, named-are, rule-right}
+use Rattle.model.proofs.Variables.{parts-length}
+use Rattle.model.proofs.RuleFromRecord.{Tested, field-length, field-at, twelve, lengths-total}
 use Rattle.model.proofs.FromFile.{ruleRead, rule-passed, record-tested, dimensions-in, dimensions-four}
 use Rattle.model.proofs.Sums.{sum-same, sum-first, sum-total}
 
@@ -130,26 +128,6 @@ module _ (file : List ℕ) (accepted : grammarRefusal file ≡ none) (r : ℕ) (
       go (no h) =
           ap (λ (t : Bool). getD (if t then sequences (lengthsOf d e) (fields e 11 12) else []) k []) (le-ltb 0 n (omega arith))
           ∙ sym (ap (λ (l : ℕ). map decoded (take l (drop (before k) (fields e 11 12)))) (length-lexical (omega arith) k b))
-
-  -- a variable of the rule names one of its daughters
-  pub variable-daughter : (v : ℕ) → v < before 4 → field e (11 + v) / 4 < n
-  variable-daughter v b = go (decLt 0 n)
-    where
-      named : (h : 0 < n) → List·Memᴰ (decoded (field e (11 + v))) (map decoded (fields e 11 (variables d e)))
-      named h =
-          let l = fields e 11 (variables d e) in
-          let c : v < variables d e = omega (arith, adds-up h) in
-          subst (λ (x : ℕ). List·Memᴰ (decoded x) (map decoded l)) (field-at (grammarOf file) e tested 11 (variables d e) v c)
-          (map-in decoded (mem-getD l 0 v (omega (arith, field-length (grammarOf file) e tested 11 (variables d e) (omega (arith, twelve (grammarOf file) e tested (dimensions-in file accepted)))))))
-
-      go : Dec (0 < n) → field e (11 + v) / 4 < n
-      go (yes h) =
-          let w = dimensions-in file accepted in
-          let m = perm-mem (rule-right (grammarOf file) e tested w .complete (not-lexical (grammarOf file) e tested h))
-          (subst (λ (l : List Variable). List·Memᴰ (decoded (field e (11 + v))) l) (sym (named-are (grammarOf file) e tested w (not-lexical (grammarOf file) e tested h))) (named h)) in
-          let p = vars-out (grammarOf file) 0 (daughtersOf e) (decoded (field e (11 + v))) m in
-          omega (arith, p .daughter-is, p .in-range, daughters-length (grammarOf file) e tested)
-      go (no h) = absurd (omega (arith, before-lexical (omega arith) 4 (omega arith)))
 
   pub daughter-is : (j : ℕ) → j < field (recordOf file r) 1 → getD (ruleRead file r .daughters) j 0 ≡ field (recordOf file r) (2 + j)
   daughter-is j h = field-at (grammarOf file) e tested 2 n j h

@@ -1,8 +1,8 @@
 -- The part of a list from a place on: where it ends early, and what stands in it.
 -- Assumes nothing.
-use mathlib.Core.Path.{_≡_, sym, ap, _∙_}
+use mathlib.Core.Path.{_≡_, sym, _∙_}
 use mathlib.Core.List.{List}
-use Prim.Native.Nat.{ℕ, _+_, _-_, _*_, _<_, _≤_}
+use Prim.Native.Nat.{ℕ, _+_, _-_, _<_, _≤_}
 use native.Mathlib.Omega.{arith}
 use lib.ListN.{length, getD, take, drop, length-drop, length-take, drop-of-length-le, List·getD-eq-default}
 use lib.Seq.{drop-length, take-nil, take-all, take-take, getD-take, getD-drop}
@@ -32,9 +32,3 @@ module _ (bytes : List ℕ) (i n : ℕ) where
   -- the part from its first byte on is the part itself
   pub part-again : fields (fields bytes i n) 0 n ≡ fields bytes i n
   part-again = take-take n n (drop i bytes) (omega arith)
-
--- two bytes of a part
-pub part-two : (bytes : List ℕ) (i n j : ℕ) → j + 1 < n → getD (fields bytes i n) j 0 + 256 * getD (fields bytes i n) (j + 1) 0 ≡ getD bytes (i + j) 0 + 256 * getD bytes (i + j + 1) 0
-part-two bytes i n j h =
-    let e : i + (j + 1) ≡ i + j + 1 = omega arith in
-    omega (arith, part-at bytes i n j (omega arith), part-at bytes i n (j + 1) h, ap (λ (k : ℕ). getD bytes k 0) e)

@@ -2,9 +2,11 @@
 ghost use Rattle.model.specs.GrammarFile.{grammarOf};
 ghost use Rattle.walk.specs.Walking.{Walking};
 ghost use Rattle.listing.specs.Stream.{EntryFor};
+use model::MOST_STEPS;
 use ranks::queue::ROOM;
 use ranks::table::TABLE;
 use steps::Standing;
+use walk::CHAIN;
 use walk::Walked;
 use walk::at_end;
 use walk::next;
@@ -14,10 +16,10 @@ use walk::next;
 pub fn next_entry(
     file: &[u8],
     t: &[u64; TABLE],
-    chain: &[u16; 320],
+    chain: &[u16; CHAIN],
     sentence: &[u32],
     w: &mut [u64; ROOM],
-    path: &mut [u16; 96],
+    path: &mut [u16; MOST_STEPS],
     at: Standing,
 ) -> Walked
     requires { ⌜ Walking (grammarOf (now file)) (now t) (now chain) (now sentence) (now w) (now path) at ⌝ }

@@ -29,7 +29,8 @@ every-unit : {A : Type 0} (xs : List A) → Every (λ x. Unit {0}) xs
 every-unit [] = tt
 every-unit (x ∷ xs) = (tt, every-unit xs)
 
-cross : (js rest : List Index) → AllApart (js ++ rest) → Every (λ x. Every (λ i. Apart i x) js) rest
+-- what is apart in one list is apart in its two parts
+pub cross : (js rest : List Index) → AllApart (js ++ rest) → Every (λ x. Every (λ i. Apart i x) js) rest
 cross [] rest h = every-unit rest
 cross (j ∷ js) rest h = every-both (Apart j) (λ x. Every (λ i. Apart i x) js) rest (every-right (Apart j) js rest (h .0)) (cross js rest (h .1))
 

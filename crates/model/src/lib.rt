@@ -39,6 +39,14 @@ pub const EMPTY_WORD: u16 = 65535;
 
 pub struct RuleNumber(pub u16);
 
+// The limits of document 01: how many categories and rules a grammar has at most, and how many words a sentence, how many steps a trace, and how many nodes
+// a tree.
+pub const MOST_CATEGORIES: usize = 64;
+
+pub const MOST_RULES: usize = 256;
+
+pub const MOST_STEPS: usize = 96;
+
 // The number of a refusal.
 pub fn number_of(r: Refusal) -> u8
     ensures { λ n. ⌜ n ≡ number r ⌝ }

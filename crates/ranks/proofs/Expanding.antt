@@ -24,7 +24,7 @@ use Rattle.ranks.specs.Prediction.{Prediction, Short, Behind, Apart, Siz
 use Rattle.ranks.specs.Queue.{Steps, insert, insertIf, insertAll}
 use Rattle.ranks.specs.Queue as places
 use Rattle.ranks.specs.Daughters.{daughter}
-use Rattle.ranks.specs.declared.moves.Moves.{Moves}
+use Rattle.ranks.specs.declared.prediction.Moves.{Moves}
 use Rattle.ranks.specs.Moves.{movesRanks, movesLengths, lengthsOf, Bounded, Begins}
 use Rattle.ranks.specs.Held.{inLanes, numberOf, predictionOf, queueIn, Fits}
 use Rattle.ranks.specs.Table.{ones, daughtersIn, dimensionIn, marked, readyMade, daughterOf, daughtersOf, RuleLengths, RuleCells, WideCells, NarrowCells}

@@ -1,4 +1,4 @@
--- A front has room for what is gathered: one of its ranks is 0, and no two components that shifted others share rank 0.
+-- A front has room for what is gathered: one of its ranks is 0, and no two components that move others share rank 0.
 -- Assumes nothing.
 use mathlib.Core.Path.{_≡_, refl, sym, ap, _∙_}
 use mathlib.Core.Bool.{Bool, true, false}
@@ -8,7 +8,7 @@ use Prim.Native.Nat.{ℕ, _<_}
 use native.Mathlib.Omega.{arith}
 use borrow.Author.Tests.{eqb-true, eqb-false}
 use lib.Dec.{eqb}
-use Rattle.ranks.specs.declared.moves.Moves.{Moves}
+use Rattle.ranks.specs.declared.prediction.Moves.{Moves}
 use Rattle.ranks.specs.Moves.{nothing, withOther, withIf, withOne, gathered, Bounded}
 use Rattle.ranks.proofs.Gathering.{Free, Fair}
 
@@ -72,7 +72,7 @@ module _ (m : Moves) (f len : ℕ) where
 
 -- ---- four components
 
--- two components that shifted others are not both of rank 0
+-- two components that move others are not both of rank 0
 abbrev pub Unlike : ℕ → ℕ → ℕ → ℕ → Type 0
 Unlike f n g m = (n ≡ 1 → ⊥) → f ≡ 0 → (m ≡ 1 → ⊥) → g ≡ 0 → ⊥
 

@@ -1,4 +1,4 @@
--- Components of length 1 shifted nothing.
+-- Components of length 1 move nothing.
 -- Assumes nothing.
 use mathlib.Core.Path.{_≡_, refl, sym, ap, ap₂, _∙_}
 use mathlib.Core.Bool.{Bool, true, false}
@@ -8,16 +8,12 @@ use native.Mathlib.Omega.{arith}
 use borrow.Author.Tests.{eqb-true, eqb-false}
 use lib.Dec.{eqb}
 use lib.ListN.{getD}
-use Rattle.ranks.specs.declared.moves.Moves.{Moves}
+use Rattle.ranks.specs.declared.prediction.Moves.{Moves}
 use Rattle.ranking.specs.Ranks.{above, passed, added, shifted}
 use Rattle.ranks.specs.Prediction.{Prediction, Apart, unpacked}
 use Rattle.ranks.specs.Queue.{Every}
 use Rattle.ranks.specs.Moves.{movesRanks, movesLengths, nothing, withOther, withIf, withOne, gathered, Bounded}
 use Rattle.ranks.proofs.Moved.{each-also}
-
--- one among others
-pub one-moves-nothing : (k r : ℕ) (ks ns : List ℕ) → shifted (k ∷ ks) (1 ∷ ns) r ≡ shifted ks ns r
-one-moves-nothing k r ks ns = omega arith
 
 -- two and three behind the others
 module _ (n0 f1 n1 f2 n2 f3 n3 : ℕ) (h2 : n2 ≡ 1) (h3 : n3 ≡ 1) where

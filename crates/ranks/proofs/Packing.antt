@@ -57,18 +57,9 @@ unpacked-packed p h =
     let z = packed-rank0 p h in
     λ i. record { least = l i; number = n i; category = a i; rank3 = d i; rank2 = c i; rank1 = b i; rank0 = z i }
 
-pub packed-injective : (p q : Prediction) → Sized p → Sized q → packed p ≡ packed q → p ≡ q
-packed-injective p q h k e = sym (unpacked-packed p h) ∙ ap unpacked e ∙ unpacked-packed q k
-
 -- the order of the numbers is the order of least ranks
 pub packed-rises : (p q : Prediction) → Sized p → Sized q → p .least < q .least → packed p < packed q
 packed-rises p q h k e = omega (arith, h .lanes .rank0, h .lanes .rank1, h .lanes .rank2, h .lanes .rank3, h .number, h .category)
-
-pub packed-ordered : (p q : Prediction) → Sized p → Sized q → packed p ≤ packed q → p .least ≤ q .least
-packed-ordered p q h k e =
-    let a = packed-least p h in
-    let b = packed-least q k in
-    omega (arith, k .lanes .rank0, k .lanes .rank1, k .lanes .rank2, k .lanes .rank3, k .number, k .category)
 
 -- what the contracts say of a packed prediction
 pub remade-packed : (f : ℕ → ℕ) (p : Prediction) → Sized p → remade f (packed p) ≡ packed (rerank f p)

@@ -15,7 +15,7 @@ use Rattle.ranking.proofs.Bounds.{Rising, ranks-rising}
 use Rattle.ranking.proofs.Limits.{Reached}
 use Rattle.ranking.proofs.Moving.{LeastGoes, shifted-least}
 use Rattle.ranks.specs.Prediction.{Prediction, Each, Short, Behind, Apart, ranks, packed, unpacked, remade}
-use Rattle.ranks.specs.declared.moves.Moves.{Moves}
+use Rattle.ranks.specs.declared.prediction.Moves.{Moves}
 use Rattle.ranks.specs.Queue.{insertAll}
 use Rattle.ranks.specs.Moves.{movesRanks, movesLengths, gathered, lengthsOf, Bounded, begun, Begins}
 use Rattle.ranks.specs.Held.{laneOf, inLanes, numberOf, Fits}

@@ -10,7 +10,7 @@ use lib.Dec.{ltb, eqb}
 use lib.ListN.{length, getD, take}
 use Rattle.model.specs.Base.{if_then_else_}
 use Rattle.ranking.specs.Ranks.{above, passed, added, shifted, leastRank}
-use Rattle.ranks.specs.declared.moves.Moves.{Moves}
+use Rattle.ranks.specs.declared.prediction.Moves.{Moves}
 use Rattle.ranks.specs.Prediction.{Sized, packed, unpacked, lanes}
 use Rattle.ranks.specs.Moves.{movesRanks, movesLengths, Bounded}
 use Rattle.ranks.specs.Daughters.{daughter, Alone}

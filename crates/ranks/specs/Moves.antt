@@ -1,11 +1,12 @@
--- Which ranks of the queue shifted, and by how much: the front's components whose lengths are not 1.
+-- Which ranks of the queue move, and by how much: the front's components whose lengths are not 1.
 -- Assumes nothing.
 use mathlib.Core.Path.{_≡_}
 use mathlib.Core.Bool.{Bool, true, false}
 use mathlib.Core.List.{List, [], _∷_}
 use Prim.Native.Nat.{ℕ, _+_, _/_, _%_, _<_, _≤_}
 use lib.Dec.{eqb}
-use Rattle.ranks.specs.declared.moves.Moves.{Moves}
+use Rattle.ranks.specs.declared.prediction.Four.{Four}
+use Rattle.ranks.specs.declared.prediction.Moves.{Moves}
 use Rattle.ranking.specs.Ranks.{shifted}
 use Rattle.ranks.specs.Prediction.{Prediction, Each, Short, Apart, ranks, unpacked, rerank}
 
@@ -50,11 +51,18 @@ pub record Bounded (m : Moves) : Type 0 where
   pub f3 : m .f3 < 256
   pub len3 : m .len3 < 256
 
+-- four numbers below 256
+pub record Small (f : Four) : Type 0 where
+  pub c0 : f .c0 < 256
+  pub c1 : f .c1 < 256
+  pub c2 : f .c2 < 256
+  pub c3 : f .c3 < 256
+
 -- the front x after a step by a rule of these lengths: the rank at which each of its components begins
 abbrev pub begun : ℕ → ℕ → Prediction
 begun x lens = rerank (shifted (ranks (unpacked x)) (lengthsOf lens)) (unpacked x)
 
--- x and the lengths are such that its ranks can shifted
+-- x and the lengths are such that its ranks can move
 pub record Begins (x lens : ℕ) : Type 0 where
   pub short : Short (unpacked x)
   pub apart : Apart (ranks (unpacked x)) (lengthsOf lens) (unpacked x)

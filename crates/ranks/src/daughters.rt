@@ -11,8 +11,19 @@ use crate::prediction::category;
 use crate::prediction::number;
 use crate::prediction::pack;
 use crate::prediction::rank;
+use crate::table::DIMENSIONS;
+use crate::table::PLACE0;
+use crate::table::PLACE1;
+use crate::table::PLACE2;
+use crate::table::PLACE3;
 use crate::table::TABLE;
+use crate::table::daughter_cell;
+use crate::table::places_cell;
 
+// A category has at most so many components.
+const COMPONENTS: u64 = 4;
+
+// Three numbers in rising order.
 pub struct Three {
     pub low: u64,
     pub mid: u64,
@@ -52,10 +63,10 @@ pub fn made_wide(cell: u64, places: u64, b: &[u64; 4], mark: u64) -> u64
     requires { ⌜ (length (now b) ≡ 4) × Sized (daughter (now b) cell places mark) ⌝ }
     ensures { λ r. ⌜ r ≡ packed (daughter (now (b .entry)) cell places mark) ⌝ }
 {
-    let r0 = b[(places / 8 % 4) as usize] + rank(cell, 0);
-    let r1 = b[(places / 64 % 4) as usize] + rank(cell, 1);
-    let r2 = b[(places / 512 % 4) as usize] + rank(cell, 2);
-    let r3 = b[(places / 4096 % 4) as usize] + rank(cell, 3);
+    let r0 = b[(places / PLACE0 % COMPONENTS) as usize] + rank(cell, 0);
+    let r1 = b[(places / PLACE1 % COMPONENTS) as usize] + rank(cell, 1);
+    let r2 = b[(places / PLACE2 % COMPONENTS) as usize] + rank(cell, 2);
+    let r3 = b[(places / PLACE3 % COMPONENTS) as usize] + rank(cell, 3);
     let least = smaller(smaller(r0, r1), smaller(r2, r3));
     pack(
         least,
@@ -73,19 +84,19 @@ pub fn made(cell: u64, places: u64, b: &[u64; 4], mark: u64) -> u64
     requires { ⌜ (length (now b) ≡ 4) × Sized (daughter (now b) cell places mark) × (places % 8 ≡ 1 → Alone cell places) ⌝ }
     ensures { λ r. ⌜ r ≡ packed (daughter (now (b .entry)) cell places mark) ⌝ }
 {
-    if places % 8 == 1 {
-        return alone(cell, b[(places / 8 % 4) as usize], mark);
+    if places % DIMENSIONS == 1 {
+        return alone(cell, b[(places / PLACE0 % COMPONENTS) as usize], mark);
     }
     made_wide(cell, places, b, mark)
 }
 
-// Daughter j of n from the cells of the rule that begin at `at`, or 0 where there are not so many.
-pub fn made_at(t: &[u64; TABLE], at: usize, j: usize, n: usize, b: &[u64; 4], mark: u64) -> u64
-    requires { ⌜ (at + 8 ≤ 2048) × (j < 3) × (length (now b) ≡ 4) × (j < n → Makes (now t) at j (now b) mark) ⌝ }
-    ensures { λ r. ⌜ (j < n → r ≡ daughterAt (now (t .entry)) at j (now (b .entry)) mark) ⌝ }
+// Daughter j of d from the cells of the rule that begin at `at`, or 0 where there are not so many.
+pub fn made_at(t: &[u64; TABLE], at: usize, d: usize, j: usize, b: &[u64; 4], mark: u64) -> u64
+    requires { ⌜ (at + 8 ≤ 2048) × (j < 3) × (length (now b) ≡ 4) × (j < d → Makes (now t) at j (now b) mark) ⌝ }
+    ensures { λ r. ⌜ (j < d → r ≡ daughterAt (now (t .entry)) at j (now (b .entry)) mark) ⌝ }
 {
-    if j < n {
-        made(t[at + 2 + 2 * j], t[at + 3 + 2 * j], b, mark)
+    if j < d {
+        made(daughter_cell(t, at, j), places_cell(t, at, j), b, mark)
     } else {
         0
     }

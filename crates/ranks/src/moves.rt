@@ -7,28 +7,19 @@ ghost use Rattle.ranks.specs.Prediction.{ranks, unpacked, Short, Behind,
 ghost use Rattle.ranks.specs.Queue.{Roomy, Every, Mapped};
 ghost use Rattle.ranks.specs.Step.{twoMoves, twoBegins, TwoRanks};
 ghost use Rattle.ranks.specs.Moves.{movesRanks, movesLengths, withOne, gathered, lengthsOf, Bounded, begun, Begins};
+use crate::prediction::Moves;
 use crate::prediction::moved4;
 use crate::prediction::rank;
+use crate::prediction::ranks_of;
 use crate::queue::ROOM;
 use crate::queue::move1;
 use crate::queue::move3;
 use crate::queue::shift;
-
-// The component of rank 0 gives way to len0 variables, and the one of rank f1 to len1, and so on; where there is none the length is 1.
-pub struct Moves {
-    pub len0: u64,
-    pub f1: u64,
-    pub len1: u64,
-    pub f2: u64,
-    pub len2: u64,
-    pub f3: u64,
-    pub len3: u64,
-}
+use crate::table::LENGTH;
+use crate::table::lengths_of;
 
 // The highest rank: none lies above it.
 const HIGHEST: u64 = 255;
-// A length has 16 bits.
-const LENGTH: u64 = 65536;
 
 // m with a component of rank f and len variables.
 fn with_one(m: Moves, f: u64, len: u64) -> Moves
@@ -72,10 +63,12 @@ pub fn moves_of(front: u64, lens: u64) -> Moves
         f3: HIGHEST,
         len3: 1,
     };
-    let m3 = with_one(none, rank(front, 3), lens / LENGTH / LENGTH / LENGTH);
-    let m2 = with_one(m3, rank(front, 2), lens / LENGTH / LENGTH % LENGTH);
-    let m1 = with_one(m2, rank(front, 1), lens / LENGTH % LENGTH);
-    with_one(m1, rank(front, 0), lens % LENGTH)
+    let f = ranks_of(front);
+    let n = lengths_of(lens);
+    let m3 = with_one(none, f.c3, n.c3);
+    let m2 = with_one(m3, f.c2, n.c2);
+    let m1 = with_one(m2, f.c1, n.c1);
+    with_one(m1, f.c0, n.c0)
 }
 
 // The predictions from..to, which are behind the front, to `out` on.
@@ -93,45 +86,19 @@ pub fn advance(w: &mut [u64; ROOM], from: usize, to: usize, out: usize, m: Moves
             return;
         }
     }
-    move3(
-        w,
-        from,
-        to,
-        out,
-        m.len0,
-        m.f1,
-        m.len1,
-        m.f2,
-        m.len2,
-        m.f3,
-        m.len3,
-    );
+    move3(w, from, to, out, m);
 }
 
-// The ranks at which the components of the front x begin after a step by a rule of these lengths.
-pub fn bases(x: u64, lens: u64) -> [u64; 4]
-    requires { ⌜ Begins x lens ⌝ }
-    ensures { λ b. ⌜ b ≡ ranks (begun x lens) ⌝ }
+// The ranks at which the components of the front begin after a step by a rule of these lengths.
+pub fn bases(front: u64, lens: u64) -> [u64; 4]
+    requires { ⌜ Begins front lens ⌝ }
+    ensures { λ b. ⌜ b ≡ ranks (begun front lens) ⌝ }
 {
-    let f0 = rank(x, 0);
-    let f1 = rank(x, 1);
-    let f2 = rank(x, 2);
-    let f3 = rank(x, 3);
-    let y = moved4(
-        x,
-        f0,
-        lens % LENGTH,
-        f1,
-        lens / LENGTH % LENGTH,
-        f2,
-        lens / LENGTH / LENGTH % LENGTH,
-        f3,
-        lens / LENGTH / LENGTH / LENGTH,
-    );
+    let y = moved4(front, ranks_of(front), lengths_of(lens));
     [rank(y, 0), rank(y, 1), rank(y, 2), rank(y, 3)]
 }
 
-// The same for a rule of dimension 2, without comparing: one of the front's two components has rank 0.
+// What moves for a rule of dimension 2, without comparing: one of the front's two components has rank 0.
 pub fn moves_of_two(front: u64, lens: u64) -> Moves
     ensures { λ m. ⌜ m ≡ twoMoves front lens ⌝ }
 {

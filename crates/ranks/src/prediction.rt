@@ -6,8 +6,29 @@ ghost use Prim.Native.Nat.{_+_, _*_, _<_, _≤_};
 ghost use lib.ListN.{getD};
 ghost use Rattle.ranking.specs.Ranks.{above, shifted};
 ghost use Rattle.ranks.specs.Table.{marked};
-ghost use Rattle.ranks.specs.Prediction.{Prediction, Short, Behind, Apart, Sized, Flags, ranks, packed, unpacked, marks, remade};
+ghost use Rattle.ranks.specs.Prediction.{Prediction, Short, Behind, Apart, Sized, Flags, ranks, packed, unpacked, marks, remade, listed};
+ghost use Rattle.ranks.specs.Moves.{movesRanks, movesLengths, Bounded, Small};
 use model::Category;
+
+// A number for each of four components.
+pub struct Four {
+    pub c0: u64,
+    pub c1: u64,
+    pub c2: u64,
+    pub c3: u64,
+}
+
+// The components of the front that move other ranks: the one of rank 0 gives way to len0 variables, the one of rank f1 to len1, and so on; where there is
+// none the length is 1.
+pub struct Moves {
+    pub len0: u64,
+    pub f1: u64,
+    pub len1: u64,
+    pub f2: u64,
+    pub len2: u64,
+    pub f3: u64,
+    pub len3: u64,
+}
 
 // 1 in the place of each part.
 const LEAST: u64 = 2251799813685248;
@@ -91,6 +112,18 @@ pub fn rank(x: u64, c: usize) -> u64
     (x >> (WIDTH * c)) % LANE
 }
 
+// The ranks of its components.
+pub fn ranks_of(x: u64) -> Four
+    ensures { λ f. ⌜ listed f ≡ ranks (unpacked x) ⌝ }
+{
+    Four {
+        c0: rank(x, 0),
+        c1: rank(x, 1),
+        c2: rank(x, 2),
+        c3: rank(x, 3),
+    }
+}
+
 // 1 in the place of each rank of x that lies above f.
 fn reached(x: u64, f: u64) -> u64
     requires { ⌜ Short (unpacked x) × (f < 256) ⌝ }
@@ -126,14 +159,18 @@ pub fn moved1(x: u64, len0: u64, f1: u64, len1: u64) -> u64
 }
 
 // The same for the front's component of rank 0 and three others.
-pub fn moved3(x: u64, len0: u64, f1: u64, len1: u64, f2: u64, len2: u64, f3: u64, len3: u64) -> u64
-    requires { ⌜ Short (unpacked x) × Behind (unpacked x) × Apart (0 ∷ (f1 ∷ (f2 ∷ (f3 ∷ [])))) (len0 ∷ (len1 ∷ (len2 ∷ (len3 ∷ [])))) (unpacked x) × (len0 < 256) × (f1 < 256) × (len1 < 256) × (f2 < 256) × (len2 < 256) × (f3 < 256) × (len3 < 256) ⌝ }
-    ensures { λ y. ⌜ y ≡ remade (shifted (0 ∷ (f1 ∷ (f2 ∷ (f3 ∷ [])))) (len0 ∷ (len1 ∷ (len2 ∷ (len3 ∷ []))))) x ⌝ }
+pub fn moved3(x: u64, m: Moves) -> u64
+    requires { ⌜ Short (unpacked x) × Behind (unpacked x) × Apart (movesRanks m) (movesLengths m) (unpacked x) × Bounded m ⌝ }
+    ensures { λ y. ⌜ y ≡ remade (shifted (movesRanks m) (movesLengths m)) x ⌝ }
 {
-    let t1 = reached(x, f1);
-    let t2 = reached(x, f2);
-    let t3 = reached(x, f3);
-    x + len0 * ONES + spread(t1, len1) + spread(t2, len2) + spread(t3, len3) - t1 - t2 - t3 - ONES
+    let t1 = reached(x, m.f1);
+    let t2 = reached(x, m.f2);
+    let t3 = reached(x, m.f3);
+    x + m.len0 * ONES + spread(t1, m.len1) + spread(t2, m.len2) + spread(t3, m.len3)
+        - t1
+        - t2
+        - t3
+        - ONES
 }
 
 // The same for the front's component of rank 0 alone: every rank of a prediction that is not the front has len0 - 1 more.
@@ -144,26 +181,16 @@ pub fn shifted(x: u64, len0: u64) -> u64
     x + len0 * ONES - ONES
 }
 
-// Each rank where four components give way, the front's own among them.
-pub fn moved4(
-    x: u64,
-    f0: u64,
-    len0: u64,
-    f1: u64,
-    len1: u64,
-    f2: u64,
-    len2: u64,
-    f3: u64,
-    len3: u64,
-) -> u64
-    requires { ⌜ Short (unpacked x) × Apart (f0 ∷ (f1 ∷ (f2 ∷ (f3 ∷ [])))) (len0 ∷ (len1 ∷ (len2 ∷ (len3 ∷ [])))) (unpacked x) × (f0 < 256) × (len0 < 256) × (f1 < 256) × (len1 < 256) × (f2 < 256) × (len2 < 256) × (f3 < 256) × (len3 < 256) ⌝ }
-    ensures { λ y. ⌜ y ≡ remade (shifted (f0 ∷ (f1 ∷ (f2 ∷ (f3 ∷ [])))) (len0 ∷ (len1 ∷ (len2 ∷ (len3 ∷ []))))) x ⌝ }
+// Each rank where four components, of the ranks f, give way to variables: so many as `lens` says.
+pub fn moved4(x: u64, f: Four, lens: Four) -> u64
+    requires { ⌜ Short (unpacked x) × Apart (listed f) (listed lens) (unpacked x) × Small f × Small lens ⌝ }
+    ensures { λ y. ⌜ y ≡ remade (shifted (listed f) (listed lens)) x ⌝ }
 {
-    let t0 = reached(x, f0);
-    let t1 = reached(x, f1);
-    let t2 = reached(x, f2);
-    let t3 = reached(x, f3);
-    x + spread(t0, len0) + spread(t1, len1) + spread(t2, len2) + spread(t3, len3)
+    let t0 = reached(x, f.c0);
+    let t1 = reached(x, f.c1);
+    let t2 = reached(x, f.c2);
+    let t3 = reached(x, f.c3);
+    x + spread(t0, lens.c0) + spread(t1, lens.c1) + spread(t2, lens.c2) + spread(t3, lens.c3)
         - t0
         - t1
         - t2

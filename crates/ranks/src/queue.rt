@@ -6,8 +6,10 @@ ghost use Prim.Native.Nat.{_+_, _-_, _<_, _≤_};
 ghost use lib.ListN.{length};
 ghost use Rattle.ranking.specs.Ranks.{shifted};
 ghost use Rattle.ranks.specs.Prediction.{Short, Behind, Apart, remade};
+ghost use Rattle.ranks.specs.Moves.{movesRanks, movesLengths, Bounded};
 ghost use Rattle.ranks.specs.Held.{FirstQueue};
 ghost use Rattle.ranks.specs.Queue.{room, Roomy, Gap, Every, Mapped, Settled, Placed};
+use crate::prediction::Moves;
 use crate::prediction::moved1;
 use crate::prediction::moved3;
 use crate::prediction::pack;
@@ -23,11 +25,11 @@ pub fn shift(w: &mut [u64; ROOM], from: usize, to: usize, out: usize, len0: u64)
     ensures { λ r. ⌜ Mapped (remade (shifted (0 ∷ []) (len0 ∷ []))) (now (w .entry)) (now (w .exit)) from to out ⌝ }
 {
     let mut i = from;
-    let mut m = out;
+    let mut k = out;
     while i < to {
-        w[m] = shifted(w[i], len0);
+        w[k] = shifted(w[i], len0);
         i += 1;
-        m += 1;
+        k += 1;
     }
 }
 
@@ -37,37 +39,25 @@ pub fn move1(w: &mut [u64; ROOM], from: usize, to: usize, out: usize, len0: u64,
     ensures { λ r. ⌜ Mapped (remade (shifted (0 ∷ (f1 ∷ [])) (len0 ∷ (len1 ∷ [])))) (now (w .entry)) (now (w .exit)) from to out ⌝ }
 {
     let mut i = from;
-    let mut m = out;
+    let mut k = out;
     while i < to {
-        w[m] = moved1(w[i], len0, f1, len1);
+        w[k] = moved1(w[i], len0, f1, len1);
         i += 1;
-        m += 1;
+        k += 1;
     }
 }
 
 // The same for three other components. A component that is not there has rank 255, above which there is none.
-pub fn move3(
-    w: &mut [u64; ROOM],
-    from: usize,
-    to: usize,
-    out: usize,
-    len0: u64,
-    f1: u64,
-    len1: u64,
-    f2: u64,
-    len2: u64,
-    f3: u64,
-    len3: u64,
-)
-    requires { ⌜ Roomy (now w) from to out × Every Short (now w) from to × Every Behind (now w) from to × Every (Apart (0 ∷ (f1 ∷ (f2 ∷ (f3 ∷ [])))) (len0 ∷ (len1 ∷ (len2 ∷ (len3 ∷ []))))) (now w) from to × (len0 < 256) × (f1 < 256) × (len1 < 256) × (f2 < 256) × (len2 < 256) × (f3 < 256) × (len3 < 256) ⌝ }
-    ensures { λ r. ⌜ Mapped (remade (shifted (0 ∷ (f1 ∷ (f2 ∷ (f3 ∷ [])))) (len0 ∷ (len1 ∷ (len2 ∷ (len3 ∷ [])))))) (now (w .entry)) (now (w .exit)) from to out ⌝ }
+pub fn move3(w: &mut [u64; ROOM], from: usize, to: usize, out: usize, m: Moves)
+    requires { ⌜ Roomy (now w) from to out × Every Short (now w) from to × Every Behind (now w) from to × Every (Apart (movesRanks m) (movesLengths m)) (now w) from to × Bounded m ⌝ }
+    ensures { λ r. ⌜ Mapped (remade (shifted (movesRanks m) (movesLengths m))) (now (w .entry)) (now (w .exit)) from to out ⌝ }
 {
     let mut i = from;
-    let mut m = out;
+    let mut k = out;
     while i < to {
-        w[m] = moved3(w[i], len0, f1, len1, f2, len2, f3, len3);
+        w[k] = moved3(w[i], m);
         i += 1;
-        m += 1;
+        k += 1;
     }
 }
 

@@ -13,12 +13,12 @@ use crate::daughters::larger;
 use crate::daughters::made_at;
 use crate::daughters::rising;
 use crate::daughters::smaller;
-use crate::moves::Moves;
 use crate::moves::advance;
 use crate::moves::bases;
 use crate::moves::bases_of_two;
 use crate::moves::moves_of;
 use crate::moves::moves_of_two;
+use crate::prediction::Moves;
 use crate::queue::ROOM;
 use crate::queue::settle1;
 use crate::queue::settle2;
@@ -28,41 +28,42 @@ use crate::table::TABLE;
 use crate::table::daughters;
 use crate::table::dimension;
 use crate::table::first_length;
+use crate::table::lengths;
 use crate::table::place_of;
 use crate::table::ready_made;
 use model::RuleNumber;
 
-// A step by a rule of dimension 1. Its component has len variables, so the n daughters, the first n of d0, d1 and d2, hold the ranks below len, and every
+// A step by a rule of dimension 1. Its component has len variables, so the d daughters, the first d of e0, e1 and e2, hold the ranks below len, and every
 // other rank moves up by len - 1: the daughters come first, in their order. The next queue begins at `to`.
 pub fn expand_narrow(
     w: &mut [u64; ROOM],
     from: usize,
     to: usize,
-    n: usize,
+    d: usize,
     len: u64,
-    d0: u64,
-    d1: u64,
-    d2: u64,
+    e0: u64,
+    e1: u64,
+    e2: u64,
 )
-    requires { ⌜ Steps (now w) from to n × Every Short (now w) (from + 1) to × Every Behind (now w) (from + 1) to × (len < 256) ⌝ }
-    ensures { λ r. ⌜ Next (take n (d0 ∷ (d1 ∷ (d2 ∷ []))) ++ map (remade (shifted (0 ∷ []) (len ∷ []))) (slice (from + 1) to (now (w .entry)))) (now (w .entry)) (now (w .exit)) to (to + n + (to - (from + 1))) ⌝ }
+    requires { ⌜ Steps (now w) from to d × Every Short (now w) (from + 1) to × Every Behind (now w) (from + 1) to × (len < 256) ⌝ }
+    ensures { λ r. ⌜ Next (take d (e0 ∷ (e1 ∷ (e2 ∷ []))) ++ map (remade (shifted (0 ∷ []) (len ∷ []))) (slice (from + 1) to (now (w .entry)))) (now (w .entry)) (now (w .exit)) to (to + d + (to - (from + 1))) ⌝ }
 {
-    w[to] = d0;
-    w[to + 1] = d1;
-    w[to + 2] = d2;
-    shift(w, from + 1, to, to + n, len);
+    w[to] = e0;
+    w[to + 1] = e1;
+    w[to + 2] = e2;
+    shift(w, from + 1, to, to + d, len);
 }
 
-// The n daughters, the first n of e0, e1 and e2, put in their places in the rising list of from + n .. end, which fills from..end then.
-fn settle_some(w: &mut [u64; ROOM], from: usize, end: usize, n: usize, e0: u64, e1: u64, e2: u64)
-    requires { ⌜ Gap (now w) from n end × (n ≤ 3) ⌝ }
-    ensures { λ r. ⌜ Placed (take n (e0 ∷ (e1 ∷ (e2 ∷ [])))) (now (w .entry)) (now (w .exit)) from n end ⌝ }
+// The d daughters, the first d of e0, e1 and e2, put in their places in the rising list of from + d .. end, which fills from..end then.
+fn settle_some(w: &mut [u64; ROOM], from: usize, end: usize, d: usize, e0: u64, e1: u64, e2: u64)
+    requires { ⌜ Gap (now w) from d end × (d ≤ 3) ⌝ }
+    ensures { λ r. ⌜ Placed (take d (e0 ∷ (e1 ∷ (e2 ∷ [])))) (now (w .entry)) (now (w .exit)) from d end ⌝ }
 {
-    if n == 1 {
+    if d == 1 {
         settle1(w, from, end, e0);
         return;
     }
-    if n == 2 {
+    if d == 2 {
         settle2(w, from, end, smaller(e0, e1), larger(e0, e1));
         return;
     }
@@ -70,97 +71,97 @@ fn settle_some(w: &mut [u64; ROOM], from: usize, end: usize, n: usize, e0: u64, 
     settle3(w, from, end, r.low, r.mid, r.high);
 }
 
-// A step whose daughters are the first n of e0, e1 and e2, in any order: the others move as m says, and the daughters settle among them. The next queue
+// A step whose daughters are the first d of e0, e1 and e2, in any order: the others move as m says, and the daughters settle among them. The next queue
 // begins at `to`.
 fn replace(
     w: &mut [u64; ROOM],
     from: usize,
     to: usize,
-    n: usize,
+    d: usize,
     m: Moves,
     e0: u64,
     e1: u64,
     e2: u64,
 )
-    requires { ⌜ Steps (now w) from to n × (0 < n) × Every Short (now w) (from + 1) to × Every Behind (now w) (from + 1) to × Every (Apart (movesRanks m) (movesLengths m)) (now w) (from + 1) to × Bounded m ⌝ }
-    ensures { λ r. ⌜ Next (insertAll (take n (e0 ∷ (e1 ∷ (e2 ∷ [])))) (map (remade (shifted (movesRanks m) (movesLengths m))) (slice (from + 1) to (now (w .entry))))) (now (w .entry)) (now (w .exit)) to (to + n + (to - (from + 1))) ⌝ }
+    requires { ⌜ Steps (now w) from to d × (0 < d) × Every Short (now w) (from + 1) to × Every Behind (now w) (from + 1) to × Every (Apart (movesRanks m) (movesLengths m)) (now w) (from + 1) to × Bounded m ⌝ }
+    ensures { λ r. ⌜ Next (insertAll (take d (e0 ∷ (e1 ∷ (e2 ∷ [])))) (map (remade (shifted (movesRanks m) (movesLengths m))) (slice (from + 1) to (now (w .entry))))) (now (w .entry)) (now (w .exit)) to (to + d + (to - (from + 1))) ⌝ }
 {
-    advance(w, from + 1, to, to + n, m);
-    settle_some(w, to, to + n + (to - (from + 1)), n, e0, e1, e2);
+    advance(w, from + 1, to, to + d, m);
+    settle_some(w, to, to + d + (to - (from + 1)), d, e0, e1, e2);
 }
 
-// A step by the rule whose cells begin at `at`, which has n daughters: the queue from..to to the one that begins at `to`. `mark` is added to the daughters'
+// A step by the rule whose cells begin at `at`, which has d daughters: the queue from..to to the one that begins at `to`. `mark` is added to the daughters'
 // numbers.
 fn expand_wide(
     t: &[u64; TABLE],
-    at: usize,
-    n: usize,
-    mark: u64,
     w: &mut [u64; ROOM],
     from: usize,
     to: usize,
+    at: usize,
+    d: usize,
+    mark: u64,
 )
-    requires { ⌜ WideStep (now t) at n mark (frontBegins (now t) at (getD (now w) from 0)) (frontMoves (now t) at (getD (now w) from 0)) (now w) from to × Begins (getD (now w) from 0) (getD (now t) (at + 1) 0) ⌝ }
-    ensures { λ r. ⌜ Next (expanded (now (t .entry)) at n mark (frontBegins (now (t .entry)) at (getD (now (w .entry)) from 0)) (frontMoves (now (t .entry)) at (getD (now (w .entry)) from 0)) (now (w .entry)) from to) (now (w .entry)) (now (w .exit)) to (to + n + (to - (from + 1))) ⌝ }
+    requires { ⌜ WideStep (now t) at d mark (frontBegins (now t) at (getD (now w) from 0)) (frontMoves (now t) at (getD (now w) from 0)) (now w) from to × Begins (getD (now w) from 0) (getD (now t) (at + 1) 0) ⌝ }
+    ensures { λ r. ⌜ Next (expanded (now (t .entry)) at d mark (frontBegins (now (t .entry)) at (getD (now (w .entry)) from 0)) (frontMoves (now (t .entry)) at (getD (now (w .entry)) from 0)) (now (w .entry)) from to) (now (w .entry)) (now (w .exit)) to (to + d + (to - (from + 1))) ⌝ }
 {
     let front = w[from];
-    let lens = t[at + 1];
+    let lens = lengths(t, at);
     let b = bases(front, lens);
-    let e0 = made_at(t, at, 0, n, &b, mark);
-    let e1 = made_at(t, at, 1, n, &b, mark);
-    let e2 = made_at(t, at, 2, n, &b, mark);
-    replace(w, from, to, n, moves_of(front, lens), e0, e1, e2);
+    let e0 = made_at(t, at, d, 0, &b, mark);
+    let e1 = made_at(t, at, d, 1, &b, mark);
+    let e2 = made_at(t, at, d, 2, &b, mark);
+    replace(w, from, to, d, moves_of(front, lens), e0, e1, e2);
 }
 
 // The same for a rule of dimension 2.
 fn expand_two(
     t: &[u64; TABLE],
-    at: usize,
-    n: usize,
-    mark: u64,
     w: &mut [u64; ROOM],
     from: usize,
     to: usize,
+    at: usize,
+    d: usize,
+    mark: u64,
 )
-    requires { ⌜ WideStep (now t) at n mark (twoBegins (getD (now w) from 0) (getD (now t) (at + 1) 0)) (twoMoves (getD (now w) from 0) (getD (now t) (at + 1) 0)) (now w) from to × TwoRanks (getD (now w) from 0) (getD (now t) (at + 1) 0) ⌝ }
-    ensures { λ r. ⌜ Next (expanded (now (t .entry)) at n mark (twoBegins (getD (now (w .entry)) from 0) (getD (now (t .entry)) (at + 1) 0)) (twoMoves (getD (now (w .entry)) from 0) (getD (now (t .entry)) (at + 1) 0)) (now (w .entry)) from to) (now (w .entry)) (now (w .exit)) to (to + n + (to - (from + 1))) ⌝ }
+    requires { ⌜ WideStep (now t) at d mark (twoBegins (getD (now w) from 0) (getD (now t) (at + 1) 0)) (twoMoves (getD (now w) from 0) (getD (now t) (at + 1) 0)) (now w) from to × TwoRanks (getD (now w) from 0) (getD (now t) (at + 1) 0) ⌝ }
+    ensures { λ r. ⌜ Next (expanded (now (t .entry)) at d mark (twoBegins (getD (now (w .entry)) from 0) (getD (now (t .entry)) (at + 1) 0)) (twoMoves (getD (now (w .entry)) from 0) (getD (now (t .entry)) (at + 1) 0)) (now (w .entry)) from to) (now (w .entry)) (now (w .exit)) to (to + d + (to - (from + 1))) ⌝ }
 {
     let front = w[from];
-    let lens = t[at + 1];
+    let lens = lengths(t, at);
     let b = bases_of_two(front, lens);
-    let e0 = made_at(t, at, 0, n, &b, mark);
-    let e1 = made_at(t, at, 1, n, &b, mark);
-    let e2 = made_at(t, at, 2, n, &b, mark);
-    replace(w, from, to, n, moves_of_two(front, lens), e0, e1, e2);
+    let e0 = made_at(t, at, d, 0, &b, mark);
+    let e1 = made_at(t, at, d, 1, &b, mark);
+    let e2 = made_at(t, at, d, 2, &b, mark);
+    replace(w, from, to, d, moves_of_two(front, lens), e0, e1, e2);
 }
 
 // A step by nonlexical rule r, which is of the category of the front of the queue from..to. The next queue is written from `to` on. The daughters have the
 // numbers `mark`, `mark` + 1 and `mark` + 2.
 pub fn expand(
     t: &[u64; TABLE],
-    r: RuleNumber,
-    mark: u64,
     w: &mut [u64; ROOM],
     from: usize,
     to: usize,
+    r: RuleNumber,
+    mark: u64,
 )
     requires { ⌜ Expandable (now t) (r .0) mark (now w) from to ⌝ }
     ensures { λ s. ⌜ Expanded (now (t .entry)) (r .0) mark (now (w .entry)) (now (w .exit)) from to ⌝ }
 {
     let at = place_of(r);
-    let n = daughters(t, at);
-    let d = dimension(t, at);
-    if d == 1 {
+    let d = daughters(t, at);
+    let m = dimension(t, at);
+    if m == 1 {
         let len = first_length(t, at);
-        let d0 = ready_made(t, at, 0, mark);
-        let d1 = ready_made(t, at, 1, mark);
-        let d2 = ready_made(t, at, 2, mark);
-        expand_narrow(w, from, to, n, len, d0, d1, d2);
+        let e0 = ready_made(t, at, 0, mark);
+        let e1 = ready_made(t, at, 1, mark);
+        let e2 = ready_made(t, at, 2, mark);
+        expand_narrow(w, from, to, d, len, e0, e1, e2);
         return;
     }
-    if d == 2 {
-        expand_two(t, at, n, mark, w, from, to);
+    if m == 2 {
+        expand_two(t, w, from, to, at, d, mark);
         return;
     }
-    expand_wide(t, at, n, mark, w, from, to);
+    expand_wide(t, w, from, to, at, d, mark);
 }

@@ -1,8 +1,12 @@
-// The rules of a grammar as a table, made once for a call: 8 cells a rule. How a cell is packed is known in this file alone.
+// The rules of a grammar as a table, made once for a call: CELLS cells a rule, which begin at the place that `place_of` gives. How a cell is packed is known
+// in this file, by whose constants the table is made (crate `rule_table`), and nowhere else.
 ghost use mathlib.Core.Path.{_≡_};
 ghost use Prim.Native.Nat.{_+_, _*_, _%_, _<_, _≤_};
 ghost use lib.ListN.{getD};
+ghost use Rattle.ranks.specs.Prediction.{listed};
+ghost use Rattle.ranks.specs.Moves.{lengthsOf};
 ghost use Rattle.ranks.specs.Table.{daughtersIn, dimensionIn, categoryIn, wordIn, marked};
+use crate::prediction::Four;
 use crate::prediction::marked;
 use model::Category;
 use model::RuleNumber;
@@ -11,18 +15,46 @@ use model::Word;
 // The table holds the cells of 256 rules.
 pub const TABLE: usize = 2048;
 
-// What is above the number of daughters in a rule's first cell, and above the dimension of its category, and above the category.
-const DIMENSION: u64 = 4;
+pub const CELLS: usize = 8;
 
-const CATEGORY: u64 = 32;
+// Cell 0 has, from below, the number of daughters, the dimension of the category, the category, and the word: 1 in the place of each but the first.
+pub const DIMENSION: u64 = 4;
 
-const WORD: u64 = 2048;
+pub const CATEGORY: u64 = 32;
+
+pub const WORD: u64 = 2048;
+
+// What is above every dimension, every category and every word in its place.
+pub const DIMENSIONS: u64 = 8;
+
+pub const CATEGORIES: u64 = 64;
+
+const WORDS: u64 = 65536;
+
+// Cell 1 has the lengths of the components, each below this.
+const LENGTHS: usize = 1;
+
+pub const LENGTH: u64 = 65536;
+
+// From cell 2 on each daughter has two cells: it as a prediction with positions for ranks, and then where its components stand.
+const FIRST_DAUGHTER: usize = 2;
+
+const FIRST_PLACES: usize = 3;
+
+// The second has, from below, the daughter's dimension, and of each of its components the component of the rule: 1 in the place of each of these.
+pub const PLACE0: u64 = 8;
+
+pub const PLACE1: u64 = 64;
+
+pub const PLACE2: u64 = 512;
+
+pub const PLACE3: u64 = 4096;
 
 // Where the cells of a rule begin.
 pub fn place_of(r: RuleNumber) -> usize
     ensures { λ at. ⌜ at ≡ 8 * r .0 ⌝ }
 {
-    8 * r.0 as usize
+    CELLS * r.0 as usize
 }
 
 // How many daughters the rule has whose cells begin at `at`.
@@ -38,7 +70,7 @@ pub fn dimension(t: &[u64; TABLE], at: usize) -> u64
     requires { ⌜ at + 8 ≤ 2048 ⌝ }
     ensures { λ d. ⌜ d ≡ dimensionIn (now (t .entry)) at ⌝ }
 {
-    t[at] / DIMENSION % 8
+    t[at] / DIMENSION % DIMENSIONS
 }
 
 // Its category.
@@ -46,7 +78,7 @@ pub fn category(t: &[u64; TABLE], at: usize) -> Category
     requires { ⌜ at + 8 ≤ 2048 ⌝ }
     ensures { λ a. ⌜ a .0 ≡ categoryIn (now (t .entry)) at ⌝ }
 {
-    Category((t[at] / CATEGORY % 64) as u8)
+    Category((t[at] / CATEGORY % CATEGORIES) as u8)
 }
 
 // Its word.
@@ -54,15 +86,51 @@ pub fn word(t: &[u64; TABLE], at: usize) -> Word
     requires { ⌜ at + 8 ≤ 2048 ⌝ }
     ensures { λ w. ⌜ w .0 ≡ wordIn (now (t .entry)) at ⌝ }
 {
-    Word((t[at] / WORD % 65536) as u16)
+    Word((t[at] / WORD % WORDS) as u16)
 }
 
-// The length of the first component of a rule that is nonlexical.
+// The lengths of the components of a rule that is nonlexical, as one number.
+pub fn lengths(t: &[u64; TABLE], at: usize) -> u64
+    requires { ⌜ at + 8 ≤ 2048 ⌝ }
+    ensures { λ n. ⌜ n ≡ getD (now (t .entry)) (at + 1) 0 ⌝ }
+{
+    t[at + LENGTHS]
+}
+
+// The same, one by one.
+pub fn lengths_of(lens: u64) -> Four
+    ensures { λ n. ⌜ listed n ≡ lengthsOf lens ⌝ }
+{
+    Four {
+        c0: lens % LENGTH,
+        c1: lens / LENGTH % LENGTH,
+        c2: lens / LENGTH / LENGTH % LENGTH,
+        c3: lens / LENGTH / LENGTH / LENGTH,
+    }
+}
+
+// The length of the first component.
 pub fn first_length(t: &[u64; TABLE], at: usize) -> u64
     requires { ⌜ at + 8 ≤ 2048 ⌝ }
     ensures { λ n. ⌜ n ≡ getD (now (t .entry)) (at + 1) 0 % 65536 ⌝ }
 {
-    t[at + 1] % 65536
+    t[at + LENGTHS] % LENGTH
+}
+
+// Daughter j as a prediction with positions for ranks.
+pub fn daughter_cell(t: &[u64; TABLE], at: usize, j: usize) -> u64
+    requires { ⌜ (at + 8 ≤ 2048) × (j < 3) ⌝ }
+    ensures { λ x. ⌜ x ≡ getD (now (t .entry)) (at + 2 + 2 * j) 0 ⌝ }
+{
+    t[at + FIRST_DAUGHTER + 2 * j]
+}
+
+// Where its components stand.
+pub fn places_cell(t: &[u64; TABLE], at: usize, j: usize) -> u64
+    requires { ⌜ (at + 8 ≤ 2048) × (j < 3) ⌝ }
+    ensures { λ x. ⌜ x ≡ getD (now (t .entry)) (at + 3 + 2 * j) 0 ⌝ }
+{
+    t[at + FIRST_PLACES + 2 * j]
 }
 
 // The j-th of the daughters that a rule of dimension 1 has ready made, with `mark` added to its number.
@@ -70,5 +138,5 @@ pub fn ready_made(t: &[u64; TABLE], at: usize, j: usize, mark: u64) -> u64
     requires { ⌜ (at + 8 ≤ 2048) × (j < 3) × (getD (now t) (at + 2 + 2 * j) 0 < 1152921504606846976) × (mark < 512) ⌝ }
     ensures { λ y. ⌜ y ≡ marked mark (getD (now (t .entry)) (at + 2 + 2 * j) 0) ⌝ }
 {
-    marked(t[at + 2 + 2 * j], mark)
+    marked(t[at + FIRST_DAUGHTER + 2 * j], mark)
 }

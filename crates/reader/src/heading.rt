@@ -12,6 +12,15 @@ use grammar::start;
 use grammar::words;
 use grammar::zeros;
 
+// How many categories, words and rules a grammar has at most, and the highest dimension.
+const CATEGORIES: u16 = 64;
+
+const WORDS: u16 = 4096;
+
+const RULES: u16 = 256;
+
+const DIMENSIONS: u16 = 4;
+
 // Whether x is from low to high, ends included.
 pub fn within(low: u16, high: u16, x: u16) -> bool
     ensures { λ r. ⌜ r ≡ within low high x ⌝ }
@@ -28,7 +37,7 @@ pub fn dimensions_right(bytes: &[u8]) -> bool
 {
     let mut i: usize = 0;
     while i < bytes.len() {
-        if !within(1, 4, bytes[i] as u16) {
+        if !within(1, DIMENSIONS, bytes[i] as u16) {
             return false;
         }
         i += 1;
@@ -40,13 +49,13 @@ pub fn dimensions_right(bytes: &[u8]) -> bool
 fn numbers_right(file: &[u8]) -> bool
     ensures { λ r. ⌜ r ≡ numbersRight (now (file .entry)) ⌝ }
 {
-    if !within(1, 64, categories(file) as u16) {
+    if !within(1, CATEGORIES, categories(file) as u16) {
         return false;
     }
-    if !within(1, 4096, words(file)) {
+    if !within(1, WORDS, words(file)) {
         return false;
     }
-    within(1, 256, rules(file))
+    within(1, RULES, rules(file))
 }
 
 // Whether the start is a category of dimension 1.

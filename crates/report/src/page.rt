@@ -6,9 +6,11 @@ ghost use Rattle.walk.specs.Walking.{Walking};
 ghost use Rattle.report.specs.Page.{LineSays, PageSays};
 use crate::text::put_line;
 use listing::next_entry;
+use model::MOST_STEPS;
 use ranks::queue::ROOM;
 use ranks::table::TABLE;
 use steps::Standing;
+use walk::CHAIN;
 use walk::Walked;
 
 // A line of 96 numbers has at most so many bytes: of each number five digits, and the blank or the newline after it.
@@ -36,10 +38,10 @@ pub enum Page {
 fn put_next(
     file: &[u8],
     t: &[u64; TABLE],
-    chain: &[u16; 320],
+    chain: &[u16; CHAIN],
     sentence: &[u32],
     w: &mut [u64; ROOM],
-    path: &mut [u16; 96],
+    path: &mut [u16; MOST_STEPS],
     out: &mut [u8],
     pen: Pen,
 ) -> Line
@@ -62,10 +64,10 @@ fn put_next(
 pub fn fill(
     file: &[u8],
     t: &[u64; TABLE],
-    chain: &[u16; 320],
+    chain: &[u16; CHAIN],
     sentence: &[u32],
     w: &mut [u64; ROOM],
-    path: &mut [u16; 96],
+    path: &mut [u16; MOST_STEPS],
     out: &mut [u8],
     pen: Pen,
 ) -> Page

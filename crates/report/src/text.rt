@@ -6,6 +6,7 @@ ghost use Prim.Native.Nat.{_+_, _*_, _%_, _<_, _≤_};
 ghost use lib.ListN.{length, take, drop};
 ghost use Rattle.model.specs.Program.{decimal, line, printed, digitZero};
 ghost use Rattle.report.specs.Text.{Put, ending};
+use model::MOST_STEPS;
 use model::Refusal;
 
 // The last decimal digit of n.
@@ -97,7 +98,7 @@ pub fn put_refusal(r: Refusal, out: &mut [u8], at: usize) -> usize
 }
 
 // Writes the first n numbers of a list as a line, at most six bytes a number.
-pub fn put_line(list: &[u16; 96], n: usize, out: &mut [u8], at: usize) -> usize
+pub fn put_line(list: &[u16; MOST_STEPS], n: usize, out: &mut [u8], at: usize) -> usize
     requires { ⌜ (length (now list) ≡ 96) × (n ≤ 96) × (at + 6 * n < length (now out)) ⌝ }
     ensures { λ r. ⌜ Put (now (out .entry)) (now (out .exit)) at (line (take n (now (list .entry)))) r ⌝ }
 {

@@ -1,5 +1,5 @@
-// The rules of a grammar as a table, made once for a call: 8 cells a rule. How a cell is packed is known in this file alone.
-// Where the table is made, e is the record of a rule in the grammar file, and d has the dimensions of the categories.
+// The table of a grammar's rules is made, once for a call, by the constants of `ranks::table`. Here e is the record of a rule in the grammar file, and d has
+// the dimensions of the categories.
 ghost use mathlib.Core.Option.{none};
 ghost use mathlib.Core.Path.{_≡_};
 ghost use Prim.Native.Nat.{_+_, _*_, _<_, _≤_};
@@ -23,6 +23,7 @@ use grammar::record_daughters;
 use grammar::record_of;
 use grammar::record_word;
 use grammar::rules;
+use model::MOST_RULES;
 use model::RuleNumber;
 use ranks::daughters::Three;
 use ranks::daughters::larger;
@@ -30,29 +31,15 @@ use ranks::daughters::made_wide;
 use ranks::daughters::rising;
 use ranks::daughters::smaller;
 use ranks::prediction::pack;
+use ranks::table::CATEGORIES;
+use ranks::table::CATEGORY;
+use ranks::table::CELLS;
+use ranks::table::DIMENSION;
+use ranks::table::DIMENSIONS;
+use ranks::table::LENGTH;
+use ranks::table::PLACE0;
 use ranks::table::TABLE;
-
-// The table holds the cells of so many rules, and so many for each.
-const RULES: usize = 256;
-
-const CELLS: usize = 8;
-
-// What is above the number of daughters in a rule's first cell, and above the dimension of its category, and above the category.
-const DIMENSION: u64 = 4;
-
-const CATEGORY: u64 = 32;
-
-const WORD: u64 = 2048;
-
-// What is above every dimension, and above every category.
-const DIMENSIONS: u64 = 8;
-
-const CATEGORIES: u64 = 64;
-
-// What is above every length in the second cell, and above every component in the cell of a daughter's places.
-const LENGTH: u64 = 65536;
-
-const PLACE: u64 = 8;
+use ranks::table::WORD;
 
 // The two cells of a daughter: it as a prediction whose ranks are positions, and the component of the rule in which each of its components stands.
 struct Pair {
@@ -117,8 +104,8 @@ fn pair_at(d: &[u8], e: &[u8], j: usize) -> Pair
         s1.position,
         s0.position,
     );
-    let last = s2.component + PLACE * s3.component;
-    let places = n as u64 + PLACE * (s0.component + PLACE * (s1.component + PLACE * last));
+    let last = s2.component + PLACE0 * s3.component;
+    let places = n as u64 + PLACE0 * (s0.component + PLACE0 * (s1.component + PLACE0 * last));
     Pair { cell, places }
 }
 
@@ -211,7 +198,7 @@ fn held(file: &[u8]) -> usize
     ensures { λ n. ⌜ (n ≤ 256) × (rulesOf (now (file .entry)) ≤ 256 → n ≡ rulesOf (now (file .entry))) ⌝ }
 {
     let n = rules(file) as usize;
-    if n <= RULES { n } else { RULES }
+    if n <= MOST_RULES { n } else { MOST_RULES }
 }
 
 // The table of the file's rules.

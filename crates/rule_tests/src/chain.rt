@@ -9,7 +9,11 @@ use crate::layout::Layout;
 use crate::layout::record_in;
 use doubles::same_rule;
 use grammar::byte;
+use model::MOST_RULES;
 use model::RuleNumber;
+
+// A hash is one byte.
+pub const HASHES: usize = 256;
 
 // Byte i of a record, as a wider number.
 fn wide(e: &[u8], i: usize) -> u16
@@ -35,7 +39,7 @@ pub fn hash_of(e: &[u8]) -> u8
 
 // Enters record r, whose hash is h, in the table of the latest records. The answer is what stood there: one more than the number of the latest record
 // before it with that hash, or 0.
-pub fn enter(table: &mut [u16; 256], h: u8, r: RuleNumber) -> u16
+pub fn enter(table: &mut [u16; HASHES], h: u8, r: RuleNumber) -> u16
     requires { ⌜ r .0 < 256 ⌝ }
     ensures { λ v. ⌜ (v ≡ getD (now (table .entry)) h 0) × (now (table .exit) ≡ set (now (table .entry)) h (r .0 + 1)) ⌝ }
 {
@@ -46,7 +50,7 @@ pub fn enter(table: &mut [u16; 256], h: u8, r: RuleNumber) -> u16
 }
 
 // Where the chain leads from record r: one more than the number of an earlier record, or 0 at its end.
-fn earlier(chain: &[u16; 256], r: RuleNumber) -> u16
+fn earlier(chain: &[u16; MOST_RULES], r: RuleNumber) -> u16
     requires { ⌜ r .0 < 256 ⌝ }
     ensures { λ v. ⌜ v ≡ getD (now (chain .entry)) (r .0) 0 ⌝ }
 {
@@ -57,7 +61,7 @@ fn earlier(chain: &[u16; 256], r: RuleNumber) -> u16
 pub fn repeated_rule(
     bytes: &[u8],
     layout: Layout,
-    chain: &[u16; 256],
+    chain: &[u16; MOST_RULES],
     e: &[u8],
     r: RuleNumber,
 ) -> bool

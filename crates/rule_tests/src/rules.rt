@@ -6,11 +6,13 @@ ghost use Rattle.model.specs.GrammarFile.{recordRefusal};
 ghost use Rattle.rule_tests.specs.Chains.{InChain};
 ghost use Rattle.rule_tests.specs.Layout.{recordIn};
 ghost use Rattle.rule_tests.specs.Rules.{rulesRefusal};
+use crate::chain::HASHES;
 use crate::chain::enter;
 use crate::chain::hash_of;
 use crate::chain::repeated_rule;
 use crate::layout::Layout;
 use crate::layout::record_in;
+use model::MOST_RULES;
 use model::Refusal;
 use model::RuleNumber;
 use model::Tested;
@@ -22,7 +24,7 @@ fn rule_refusal(
     words: u16,
     bytes: &[u8],
     layout: Layout,
-    chain: &[u16; 256],
+    chain: &[u16; MOST_RULES],
     e: &[u8],
     r: RuleNumber,
 ) -> Tested
@@ -44,8 +46,8 @@ pub fn rules_refusal(dimensions: &[u8], words: u16, bytes: &[u8], layout: Layout
     requires { ⌜ n ≤ 256 ⌝ }
     ensures { λ t. ⌜ t ≡ tested (rulesRefusal (now (dimensions .entry)) words (recordIn layout (now (bytes .entry))) n) ⌝ }
 {
-    let mut table = [0u16; 256];
-    let mut chain = [0u16; 256];
+    let mut table = [0u16; HASHES];
+    let mut chain = [0u16; MOST_RULES];
     let mut i: u16 = 0;
     while i < n {
         let e = record_in(bytes, layout, RuleNumber(i));

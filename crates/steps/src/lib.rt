@@ -20,10 +20,7 @@ use ranks::table::place_of;
 use ranks::table::word;
 use sentences::fits;
 
-// A trace has at most so many steps, and a tree at most as many nodes (document 01, refusal 12).
-pub const MOST_STEPS: usize = 96;
-
-// Predictions have numbers below this: the root's is 0, and each of 96 steps gives numbers to its daughters.
+// Predictions have numbers below this: the root's is 0, and each of MOST_STEPS steps gives numbers to its daughters.
 pub const NUMBERS: usize = 388;
 
 // Where the recognizer stands: its queue is the part from..to of a lent array, behind the queues of the steps before; so many words are read, so many steps
@@ -170,7 +167,7 @@ pub fn apply(
         return Stepped::Long;
     }
     let mark = 4 * (at.steps as u64 + 1);
-    expand(t, RuleNumber(r.0), mark, w, at.from, at.to);
+    expand(t, w, at.from, at.to, RuleNumber(r.0), mark);
     Stepped::Leads(ahead(t, at, r, at.read))
 }
 

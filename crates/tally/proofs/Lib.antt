@@ -1,4 +1,3 @@
-pub mod Copied
 pub mod Notes
 pub mod Passed
 pub mod Says

@@ -1,13 +1,12 @@
 // A walk over all live prefixes: how many they are, how many of them are complete, and the one asked for of these.
-ghost use mathlib.Core.List.{_++_};
-ghost use mathlib.Core.Path.{_≡_};
-ghost use Prim.Native.Nat.{_≤_};
-ghost use lib.ListN.{length, take, drop};
 ghost use Rattle.tally.specs.Tallies.{MayNote, Noted, MayTally, TalliedAll};
+use buffers::write_front;
+use model::MOST_STEPS;
 use ranks::queue::ROOM;
 use ranks::table::TABLE;
 use steps::Standing;
 use steps::first_standing;
+use walk::CHAIN;
 use walk::Walked;
 use walk::at_end;
 use walk::next;
@@ -25,22 +24,10 @@ pub enum Tallied {
     All(Tally),
 }
 
-// Copies the first `steps` numbers of the path to the front of the output.
-pub fn copy_path(path: &[u16; 96], steps: usize, out: &mut [u16])
-    requires { ⌜ (steps ≤ 96) × (length (now path) ≡ 96) × (steps ≤ length (now out)) ⌝ }
-    ensures { λ r. ⌜ now (out .exit) ≡ take steps (now (path .entry)) ++ drop steps (now (out .entry)) ⌝ }
-{
-    let mut i: usize = 0;
-    while i < steps {
-        out[i] = path[i];
-        i += 1;
-    }
-}
-
 // The tally with the live prefix on the path: of the complete ones, number m is held.
 fn note(
     sentence: &[u32],
-    path: &[u16; 96],
+    path: &[u16; MOST_STEPS],
     at: Standing,
     m: u64,
     held: &mut [u16],
@@ -52,7 +39,7 @@ fn note(
     if at_end(sentence, at) {
         if so.count == m {
             let k = at.steps;
-            copy_path(path, k, held);
+            write_front(path, k, held);
             return Tally {
                 count: so.count + 1,
                 effort: so.effort + 1,
@@ -75,7 +62,7 @@ fn note(
 // The tally of all live prefixes with n steps, from the first on; complete prefix m is held.
 pub fn tally_all(
     t: &[u64; TABLE],
-    chain: &[u16; 320],
+    chain: &[u16; CHAIN],
     sentence: &[u32],
     w: &mut [u64; ROOM],
     n: usize,
@@ -86,7 +73,7 @@ pub fn tally_all(
     requires { ⌜ MayTally (now t) (now chain) (now sentence) (now w) n limit (now held) ⌝ }
     ensures { λ r. ⌜ TalliedAll (now (t .entry)) (now (chain .entry)) (now (sentence .entry)) (now (w .entry)) n limit m (now (held .entry)) (now (held .exit)) r ⌝ }
 {
-    let mut path = [0u16; 96];
+    let mut path = [0u16; MOST_STEPS];
     let mut at = first_standing(n);
     let mut so = Tally {
         count: 0,

@@ -16,6 +16,7 @@ use grammar::daughter_count;
 use grammar::rules;
 use grammar::start;
 use model::Category;
+use model::MOST_STEPS;
 use model::Refusal;
 use model::RuleNumber;
 use model::Tested;
@@ -27,7 +28,13 @@ pub enum Place {
 }
 
 // Reads the tree at place k of the list, whose root is wanted of category a, and stores for each of its nodes the place after the node's tree.
-pub fn read_node(file: &[u8], list: &[u16], k: usize, a: Category, ends: &mut [u16; 96]) -> Place
+pub fn read_node(
+    file: &[u8],
+    list: &[u16],
+    k: usize,
+    a: Category,
+    ends: &mut [u16; MOST_STEPS],
+) -> Place
     requires { ⌜ Readable (now file) (now list) k (now ends) ⌝ }
     ensures { λ p. ⌜ Reading (grammarOf (now (file .entry))) (now (list .entry)) (a .0 ∷ []) k (now (ends .entry)) (now (ends .exit)) p ⌝ }
 {
@@ -58,7 +65,7 @@ pub fn read_daughters(
     r: RuleNumber,
     j: usize,
     k: usize,
-    ends: &mut [u16; 96],
+    ends: &mut [u16; MOST_STEPS],
 ) -> Place
     requires { ⌜ (grammarRefusal (now file) ≡ none) × (length (now list) ≤ 96) × (k ≤ length (now list)) × (length (now ends) ≡ 96) × (r .0 < rulesOf (now file)) × (j ≤ 256) ⌝ }
     ensures { λ p. ⌜ Reading (grammarOf (now (file .entry))) (now (list .entry)) (drop j (below (grammarOf (now (file .entry))) (r .0))) k (now (ends .entry)) (now (ends .exit)) p ⌝ }
@@ -78,7 +85,7 @@ pub fn read<'f, 'a, 'e>(
     file: &'f [u8],
     r: TreeReader<'a>,
     a: Category,
-    ends: &'e mut [u16; 96],
+    ends: &'e mut [u16; MOST_STEPS],
 ) -> Place
     requires { ⌜ Readable (now file) (now (r .list)) (r .place) (now ends) ⌝ }
     ensures { λ p. ⌜ Reading (grammarOf (now (file .entry))) (now (r .entry .list)) (a .0 ∷ []) (r .entry .place) (now (ends .entry)) (now (ends .exit)) p ⌝ }
@@ -91,7 +98,7 @@ pub fn read_first<'f, 'a, 'e>(
     file: &'f [u8],
     list: &'a [u16],
     a: Category,
-    ends: &'e mut [u16; 96],
+    ends: &'e mut [u16; MOST_STEPS],
 ) -> Place
     requires { ⌜ Readable (now file) (now list) 0 (now ends) ⌝ }
     ensures { λ p. ⌜ Reading (grammarOf (now (file .entry))) (now (list .entry)) (a .0 ∷ []) 0 (now (ends .entry)) (now (ends .exit)) p ⌝ }
@@ -100,7 +107,7 @@ pub fn read_first<'f, 'a, 'e>(
 }
 
 // Reads the whole list as one tree with the start category as root: refusals 19, 13, 20 and 21.
-pub fn read_tree(file: &[u8], list: &[u16], ends: &mut [u16; 96]) -> Tested
+pub fn read_tree(file: &[u8], list: &[u16], ends: &mut [u16; MOST_STEPS]) -> Tested
     requires { ⌜ (grammarRefusal (now file) ≡ none) × (length (now list) ≤ 96) × (length (now ends) ≡ 96) ⌝ }
     ensures { λ t. ⌜ ReadAll (grammarOf (now (file .entry))) (now (list .entry)) (now (ends .exit)) t ⌝ }
 {

@@ -16,11 +16,11 @@ use buffers::number_at;
 use buffers::wide;
 use derivation::conversion_tests;
 use grammar::daughter_count;
+use model::MOST_STEPS;
 use model::RuleNumber;
 use model::Tested;
 use model::Verdict;
 use recognizer::run_trace;
-use steps::MOST_STEPS;
 use steps::NUMBERS;
 use steps::first_daughter;
 

@@ -8,37 +8,42 @@ ghost use Rattle.walk.specs.Chain.{noRule, Chained};
 use grammar::category_of;
 use grammar::rules;
 use model::Category;
+use model::MOST_CATEGORIES;
+use model::MOST_RULES;
 use model::RuleNumber;
 
 // One past the last rule number: there is no rule, or no further one.
 pub const NO_RULE: u16 = 256;
 
-// How many rules there are; a table holds those of 256 rules.
+// A cell for each category and one for each rule.
+pub const CHAIN: usize = MOST_CATEGORIES + MOST_RULES;
+
+// How many rules there are; the table holds the rules below NO_RULE.
 fn rule_count(file: &[u8]) -> u16
     ensures { λ n. ⌜ (n ≤ 256) × (rulesOf (now (file .entry)) ≤ 256 → n ≡ rulesOf (now (file .entry))) ⌝ }
 {
     let n = rules(file);
-    if n <= 256 { n } else { 256 }
+    if n <= NO_RULE { n } else { NO_RULE }
 }
 
-// Cell a has the first rule of category a, cell 64 + r the next one of rule r's category; NO_RULE where there is none.
-pub fn chain_rules(file: &[u8]) -> [u16; 320]
+// Cell a has the first rule of category a, cell MOST_CATEGORIES + r the next one of rule r's category; NO_RULE where there is none.
+pub fn chain_rules(file: &[u8]) -> [u16; CHAIN]
     ensures { λ c. ⌜ (grammarRefusal (now (file .entry)) ≡ none → Chained (grammarOf (now (file .entry))) c) ⌝ }
 {
-    let mut chain = [NO_RULE; 320];
+    let mut chain = [NO_RULE; CHAIN];
     let mut r = rule_count(file);
     while 0 < r {
         r -= 1;
         let a = category_of(file, RuleNumber(r)).0 as usize;
         let i = r as usize;
-        chain[64 + i] = chain[a];
+        chain[MOST_CATEGORIES + i] = chain[a];
         chain[a] = r;
     }
     chain
 }
 
 // The first rule of a category, or NO_RULE.
-pub fn first_rule(chain: &[u16; 320], a: Category) -> RuleNumber
+pub fn first_rule(chain: &[u16; CHAIN], a: Category) -> RuleNumber
     requires { ⌜ a .0 < 64 ⌝ }
     ensures { λ r. ⌜ r .0 ≡ getD (now (chain .entry)) (a .0) 0 ⌝ }
 {
@@ -46,9 +51,9 @@ pub fn first_rule(chain: &[u16; 320], a: Category) -> RuleNumber
 }
 
 // The rule of the same category that comes next after rule r, or NO_RULE.
-pub fn next_rule(chain: &[u16; 320], r: RuleNumber) -> RuleNumber
+pub fn next_rule(chain: &[u16; CHAIN], r: RuleNumber) -> RuleNumber
     requires { ⌜ r .0 < noRule ⌝ }
     ensures { λ s. ⌜ s .0 ≡ getD (now (chain .entry)) (64 + r .0) 0 ⌝ }
 {
-    RuleNumber(chain[64 + r.0 as usize])
+    RuleNumber(chain[MOST_CATEGORIES + r.0 as usize])
 }

@@ -2,6 +2,7 @@
 mod chain;
 mod prefixes;
 
+pub use chain::CHAIN;
 pub use chain::NO_RULE;
 pub use chain::chain_rules;
 pub use chain::first_rule;

@@ -2,9 +2,11 @@
 ghost use mathlib.Core.Path.{_≡_};
 ghost use Rattle.walk.specs.Walking.{atEnd};
 ghost use Rattle.walk.specs.Turns.{MayTry, MayTurn, MayGoBack, Turned, TurnedBack, WentOnward, Walks, WalkedOn};
+use crate::chain::CHAIN;
 use crate::chain::NO_RULE;
 use crate::chain::first_rule;
 use crate::chain::next_rule;
+use model::MOST_STEPS;
 use model::RuleNumber;
 use ranks::prediction::category;
 use ranks::queue::ROOM;
@@ -30,10 +32,10 @@ pub enum Walked {
 // Rule r is tried.
 fn attempt(
     t: &[u64; TABLE],
-    chain: &[u16; 320],
+    chain: &[u16; CHAIN],
     sentence: &[u32],
     w: &mut [u64; ROOM],
-    path: &mut [u16; 96],
+    path: &mut [u16; MOST_STEPS],
     at: Standing,
     r: RuleNumber,
 ) -> Turn
@@ -50,7 +52,7 @@ fn attempt(
 }
 
 // No rule is left to try: the last step is taken back, and the rule after it is the next to try.
-fn take_back(t: &[u64; TABLE], chain: &[u16; 320], path: &[u16; 96], at: Standing) -> Turn
+fn take_back(t: &[u64; TABLE], chain: &[u16; CHAIN], path: &[u16; MOST_STEPS], at: Standing) -> Turn
     requires { ⌜ MayGoBack (now t) (now chain) (now path) at ⌝ }
     ensures { λ s. ⌜ TurnedBack (now (t .entry)) (now (chain .entry)) (now (path .entry)) at s ⌝ }
 {
@@ -65,10 +67,10 @@ fn take_back(t: &[u64; TABLE], chain: &[u16; 320], path: &[u16; 96], at: Standin
 // One turn of the walk.
 fn one_turn(
     t: &[u64; TABLE],
-    chain: &[u16; 320],
+    chain: &[u16; CHAIN],
     sentence: &[u32],
     w: &mut [u64; ROOM],
-    path: &mut [u16; 96],
+    path: &mut [u16; MOST_STEPS],
     at: Standing,
     r: RuleNumber,
 ) -> Turn
@@ -85,10 +87,10 @@ fn one_turn(
 // it are tried.
 fn onward(
     t: &[u64; TABLE],
-    chain: &[u16; 320],
+    chain: &[u16; CHAIN],
     sentence: &[u32],
     w: &mut [u64; ROOM],
-    path: &mut [u16; 96],
+    path: &mut [u16; MOST_STEPS],
     at: Standing,
     r: RuleNumber,
 ) -> Walked
@@ -113,10 +115,10 @@ fn onward(
 // The next live prefix, in dictionary order, after the one that path[0..at.steps] holds.
 pub fn next(
     t: &[u64; TABLE],
-    chain: &[u16; 320],
+    chain: &[u16; CHAIN],
     sentence: &[u32],
     w: &mut [u64; ROOM],
-    path: &mut [u16; 96],
+    path: &mut [u16; MOST_STEPS],
     at: Standing,
 ) -> Walked
     requires { ⌜ Walks (now t) (now chain) (now sentence) (now w) (now path) at ⌝ }

@@ -76,8 +76,8 @@ returns-3 c =
       of-grammar = λ g ready front.
           let some : daughtersIn (a .t .now) (8 * a .r .0) ≡ 0 → ⊥ = λ z. c .before .before .before .before .before .before .if1 .left (e ∙ z) in
           let fits : a .at .to - a .at .from + daughtersIn (a .t .now) (8 * a .r .0) ≤ a .at .left = omega (arith, e, c .before .before .before .if2 .left) in
-          subst (λ (n : Standing). StepSays g (a .t .now) (a .sentence .now) (a .w .now) (c .before .expand .last .1 .1 .1 .0) (a .at) (a .r .0) (Leads n)) (sym (c .ahead .ensures))
-          (expand-says g (a .t .now) (a .sentence .now) (a .w .now) (a .at) ready (a .r .0) front some fits (c .before .expand .last .1 .1 .1 .0) (c .before .expand .ensures .of-grammar g (expands g (a .t .now) (a .sentence .now) (a .w .now) (a .at) ready (a .r .0) front some fits)));
+          subst (λ (n : Standing). StepSays g (a .t .now) (a .sentence .now) (a .w .now) (c .before .expand .last .1 .0) (a .at) (a .r .0) (Leads n)) (sym (c .ahead .ensures))
+          (expand-says g (a .t .now) (a .sentence .now) (a .w .now) (a .at) ready (a .r .0) front some fits (c .before .expand .last .1 .0) (c .before .expand .ensures .of-grammar g (expands g (a .t .now) (a .sentence .now) (a .w .now) (a .at) ready (a .r .0) front some fits)));
     }
 
 pub apply-spec : {M : Type 1} → statement M

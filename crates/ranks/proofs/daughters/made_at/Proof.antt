@@ -1,65 +1,39 @@
 -- `ranks::daughters::made_at` meets its contract.
 -- Assumes nothing.
+use mathlib.Core.Path.{_≡_, ap₂, subst⁻¹, _∙_}
+use Prim.Native.Nat.{ℕ, _%_}
 use borrow.Author.Needs.{needs}
+use Rattle.ranks.specs.Prediction.{Sized, packed}
+use Rattle.ranks.specs.Daughters.{daughter, Alone}
 use Rattle.ranks.proofs.daughters.made_at.Statement.{statement}
 use Rattle.ranks.proofs.daughters.made_at.Tie as tie
 
-add-made : tie.Need-add-made
-add-made c = search needs
+-- what holds of the cells holds of what is read
+cells-are : (P : ℕ → ℕ → Type 0) {x y u v : ℕ} → x ≡ u → y ≡ v → P u v → P x y
+cells-are P {x = x} {v = v} e f h = subst⁻¹ (λ (n : ℕ). P x n) f (subst⁻¹ (λ (n : ℕ). P n v) e h)
 
-mul-made : tie.Need-mul-made
-mul-made c = search needs
+daughter-cell-requires : tie.Need-daughter-cell-requires
+daughter-cell-requires c κs = search needs
 
-add-made-2 : tie.Need-add-made-2
-add-made-2 c = search needs
-
-mul-made-2 : tie.Need-mul-made-2
-mul-made-2 c = search needs
-
-element-copy-out-made : tie.Need-element-copy-out-made
-element-copy-out-made c = search needs
-
-add-made-3 : tie.Need-add-made-3
-add-made-3 c = search needs
-
-mul-made-3 : tie.Need-mul-made-3
-mul-made-3 c = search needs
-
-add-made-4 : tie.Need-add-made-4
-add-made-4 c = search needs
-
-mul-made-4 : tie.Need-mul-made-4
-mul-made-4 c = search needs
-
-element-copy-out-made-2 : tie.Need-element-copy-out-made-2
-element-copy-out-made-2 c = search needs
+places-cell-requires : tie.Need-places-cell-requires
+places-cell-requires c κs = search needs
 
 made-requires : tie.Need-made-requires
 made-requires c κs =
     let s = c .before .before .before in
+    let a = s .args in
     let m = s .pre .3 (c .before .before .if1 .taken) in
-    (s .pre .2, m .sized, m .alone)
+    let x = c .before .daughter-cell in
+    let y = c .places-cell in
+    (s .pre .2, cells-are (λ (u v : ℕ). Sized (daughter (a .b .now) u v (a .mark))) (x .ensures) (y .ensures) (m .sized), cells-are (λ (u v : ℕ). v % 8 ≡ 1 → Alone u v) (x .ensures) (y .ensures) (m .alone))
 
 returns : tie.Need-returns
-returns c = search needs
+returns c =
+    let a = c .before .before .before .before .args in
+    λ l. c .made .ensures ∙ ap₂ (λ (u v : ℕ). packed (daughter (a .b .now) u v (a .mark))) (c .before .before .daughter-cell .ensures) (c .before .places-cell .ensures)
 
 returns-2 : tie.Need-returns-2
 returns-2 c = search needs
 
 pub made-at-spec : {M : Type 1} → statement M
-made-at-spec =
-    tie.close
-    (tie.spec
-    add-made
-    mul-made
-    add-made-2
-    mul-made-2
-    element-copy-out-made
-    add-made-3
-    mul-made-3
-    add-made-4
-    mul-made-4
-    element-copy-out-made-2
-    made-requires
-    returns
-    returns-2)
+made-at-spec = tie.close (tie.spec daughter-cell-requires places-cell-requires made-requires returns returns-2)

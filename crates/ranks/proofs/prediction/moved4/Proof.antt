@@ -31,19 +31,19 @@ spread-requires : tie.Need-spread-requires
 spread-requires c κs =
     let s = c .before .before .before .before in
     let r = c .before .before .before .reached in
-    (marked-flags (s .args .f0) (unpacked (s .args .x)) (r .result) (r .ensures), s .pre .3)
+    (marked-flags (s .args .f .c0) (unpacked (s .args .x)) (r .result) (r .ensures), s .pre .3 .c0)
 
 module _ (c : tie.After-spread) where
-  spread0-is : c .spread .result ≡ packed (marks (above (c .before .before .before .before .before .args .f0) (c .before .before .before .before .before .args .len0)) (unpacked (c .before .before .before .before .before .args .x)))
+  spread0-is : c .spread .result ≡ packed (marks (above (c .before .before .before .before .before .args .f .c0) (c .before .before .before .before .before .args .lens .c0)) (unpacked (c .before .before .before .before .before .args .x)))
   spread0-is =
       let a = c .before .before .before .before .before .args in
       let r = c .before .before .before .before .reached in
-      marked-spread (a .f0) (unpacked (a .x)) (r .result) (a .len0) (c .spread .result) (r .ensures) (c .spread .ensures)
+      marked-spread (a .f .c0) (unpacked (a .x)) (r .result) (a .lens .c0) (c .spread .result) (r .ensures) (c .spread .ensures)
 
   spread0-small : c .spread .result < 576460752303423488
   spread0-small =
       let s = c .before .before .before .before .before in
-      small (marks-small (s .args .f0) (s .args .len0) (unpacked (s .args .x)) (s .pre .3)) spread0-is
+      small (marks-small (s .args .f .c0) (s .args .lens .c0) (unpacked (s .args .x)) (s .pre .3 .c0)) spread0-is
 
 add-result : tie.Need-add-result
 add-result c =
@@ -54,19 +54,19 @@ spread-requires-2 : tie.Need-spread-requires-2
 spread-requires-2 c κs =
     let s = c .before .before .before .before .before in
     let r = c .before .before .before .reached2 in
-    (marked-flags (s .args .f1) (unpacked (s .args .x)) (r .result) (r .ensures), s .pre .5)
+    (marked-flags (s .args .f .c1) (unpacked (s .args .x)) (r .result) (r .ensures), s .pre .3 .c1)
 
 module _ (c : tie.After-spread2) where
-  spread1-is : c .spread2 .result ≡ packed (marks (above (c .before .before .before .before .before .before .args .f1) (c .before .before .before .before .before .before .args .len1)) (unpacked (c .before .before .before .before .before .before .args .x)))
+  spread1-is : c .spread2 .result ≡ packed (marks (above (c .before .before .before .before .before .before .args .f .c1) (c .before .before .before .before .before .before .args .lens .c1)) (unpacked (c .before .before .before .before .before .before .args .x)))
   spread1-is =
       let a = c .before .before .before .before .before .before .args in
       let r = c .before .before .before .before .reached2 in
-      marked-spread (a .f1) (unpacked (a .x)) (r .result) (a .len1) (c .spread2 .result) (r .ensures) (c .spread2 .ensures)
+      marked-spread (a .f .c1) (unpacked (a .x)) (r .result) (a .lens .c1) (c .spread2 .result) (r .ensures) (c .spread2 .ensures)
 
   spread1-small : c .spread2 .result < 576460752303423488
   spread1-small =
       let s = c .before .before .before .before .before .before in
-      small (marks-small (s .args .f1) (s .args .len1) (unpacked (s .args .x)) (s .pre .5)) spread1-is
+      small (marks-small (s .args .f .c1) (s .args .lens .c1) (unpacked (s .args .x)) (s .pre .3 .c1)) spread1-is
 
 add-result-2 : tie.Need-add-result-2
 add-result-2 c =
@@ -77,19 +77,19 @@ spread-requires-3 : tie.Need-spread-requires-3
 spread-requires-3 c κs =
     let s = c .before .before .before .before .before .before in
     let r = c .before .before .before .reached3 in
-    (marked-flags (s .args .f2) (unpacked (s .args .x)) (r .result) (r .ensures), s .pre .7)
+    (marked-flags (s .args .f .c2) (unpacked (s .args .x)) (r .result) (r .ensures), s .pre .3 .c2)
 
 module _ (c : tie.After-spread3) where
-  spread2-is : c .spread3 .result ≡ packed (marks (above (c .before .before .before .before .before .before .before .args .f2) (c .before .before .before .before .before .before .before .args .len2)) (unpacked (c .before .before .before .before .before .before .before .args .x)))
+  spread2-is : c .spread3 .result ≡ packed (marks (above (c .before .before .before .before .before .before .before .args .f .c2) (c .before .before .before .before .before .before .before .args .lens .c2)) (unpacked (c .before .before .before .before .before .before .before .args .x)))
   spread2-is =
       let a = c .before .before .before .before .before .before .before .args in
       let r = c .before .before .before .before .reached3 in
-      marked-spread (a .f2) (unpacked (a .x)) (r .result) (a .len2) (c .spread3 .result) (r .ensures) (c .spread3 .ensures)
+      marked-spread (a .f .c2) (unpacked (a .x)) (r .result) (a .lens .c2) (c .spread3 .result) (r .ensures) (c .spread3 .ensures)
 
   spread2-small : c .spread3 .result < 576460752303423488
   spread2-small =
       let s = c .before .before .before .before .before .before .before in
-      small (marks-small (s .args .f2) (s .args .len2) (unpacked (s .args .x)) (s .pre .7)) spread2-is
+      small (marks-small (s .args .f .c2) (s .args .lens .c2) (unpacked (s .args .x)) (s .pre .3 .c2)) spread2-is
 
 add-result-3 : tie.Need-add-result-3
 add-result-3 c =
@@ -100,19 +100,19 @@ spread-requires-4 : tie.Need-spread-requires-4
 spread-requires-4 c κs =
     let s = c .before .before .before .before .before .before .before in
     let r = c .before .before .before .reached4 in
-    (marked-flags (s .args .f3) (unpacked (s .args .x)) (r .result) (r .ensures), s .pre .9)
+    (marked-flags (s .args .f .c3) (unpacked (s .args .x)) (r .result) (r .ensures), s .pre .3 .c3)
 
 module _ (c : tie.After-spread4) where
-  spread3-is : c .spread4 .result ≡ packed (marks (above (c .before .before .before .before .before .before .before .before .args .f3) (c .before .before .before .before .before .before .before .before .args .len3)) (unpacked (c .before .before .before .before .before .before .before .before .args .x)))
+  spread3-is : c .spread4 .result ≡ packed (marks (above (c .before .before .before .before .before .before .before .before .args .f .c3) (c .before .before .before .before .before .before .before .before .args .lens .c3)) (unpacked (c .before .before .before .before .before .before .before .before .args .x)))
   spread3-is =
       let a = c .before .before .before .before .before .before .before .before .args in
       let r = c .before .before .before .before .reached4 in
-      marked-spread (a .f3) (unpacked (a .x)) (r .result) (a .len3) (c .spread4 .result) (r .ensures) (c .spread4 .ensures)
+      marked-spread (a .f .c3) (unpacked (a .x)) (r .result) (a .lens .c3) (c .spread4 .result) (r .ensures) (c .spread4 .ensures)
 
   spread3-small : c .spread4 .result < 576460752303423488
   spread3-small =
       let s = c .before .before .before .before .before .before .before .before in
-      small (marks-small (s .args .f3) (s .args .len3) (unpacked (s .args .x)) (s .pre .9)) spread3-is
+      small (marks-small (s .args .f .c3) (s .args .lens .c3) (unpacked (s .args .x)) (s .pre .3 .c3)) spread3-is
 
 add-result-4 : tie.Need-add-result-4
 add-result-4 c =
@@ -121,7 +121,7 @@ add-result-4 c =
 
 module _ (c : tie.After-spread4) where
   abbrev after : ℕ
-  after = remade (shifted (c .before .before .before .before .before .before .before .before .args .f0 ∷ (c .before .before .before .before .before .before .before .before .args .f1 ∷ (c .before .before .before .before .before .before .before .before .args .f2 ∷ (c .before .before .before .before .before .before .before .before .args .f3 ∷ [])))) (c .before .before .before .before .before .before .before .before .args .len0 ∷ (c .before .before .before .before .before .before .before .before .args .len1 ∷ (c .before .before .before .before .before .before .before .before .args .len2 ∷ (c .before .before .before .before .before .before .before .before .args .len3 ∷ []))))) (c .before .before .before .before .before .before .before .before .args .x)
+  after = remade (shifted (c .before .before .before .before .before .before .before .before .args .f .c0 ∷ (c .before .before .before .before .before .before .before .before .args .f .c1 ∷ (c .before .before .before .before .before .before .before .before .args .f .c2 ∷ (c .before .before .before .before .before .before .before .before .args .f .c3 ∷ [])))) (c .before .before .before .before .before .before .before .before .args .lens .c0 ∷ (c .before .before .before .before .before .before .before .before .args .lens .c1 ∷ (c .before .before .before .before .before .before .before .before .args .lens .c2 ∷ (c .before .before .before .before .before .before .before .before .args .lens .c3 ∷ []))))) (c .before .before .before .before .before .before .before .before .args .x)
 
   abbrev before-less : ℕ
   before-less = c .before .before .before .before .before .before .before .before .args .x + c .before .before .before .spread .result + c .before .before .spread2 .result + c .before .spread3 .result + c .spread4 .result
@@ -130,7 +130,7 @@ module _ (c : tie.After-spread4) where
   sum =
       let s = c .before .before .before .before .before .before .before .before in
       let a = s .args in
-      moved4-sum (a .x) (a .f0) (a .len0) (a .f1) (a .len1) (a .f2) (a .len2) (a .f3) (a .len3) (c .before .before .before .before .before .before .before .reached .result) (c .before .before .before .before .before .before .reached2 .result) (c .before .before .before .before .before .reached3 .result) (c .before .before .before .before .reached4 .result) (c .before .before .before .spread .result) (c .before .before .spread2 .result) (c .before .spread3 .result) (c .spread4 .result)
+      moved4-sum (a .x) (a .f .c0) (a .lens .c0) (a .f .c1) (a .lens .c1) (a .f .c2) (a .lens .c2) (a .f .c3) (a .lens .c3) (c .before .before .before .before .before .before .before .reached .result) (c .before .before .before .before .before .before .reached2 .result) (c .before .before .before .before .before .reached3 .result) (c .before .before .before .before .reached4 .result) (c .before .before .before .spread .result) (c .before .before .spread2 .result) (c .before .spread3 .result) (c .spread4 .result)
       (s .pre .1) (c .before .before .before .before .before .before .before .reached .ensures) (spread0-is (c .before .before .before)) (c .before .before .before .before .before .before .reached2 .ensures) (spread1-is (c .before .before)) (c .before .before .before .before .before .reached3 .ensures) (spread2-is (c .before)) (c .before .before .before .before .reached4 .ensures) (spread3-is c)
 
 sub-result : tie.Need-sub-result

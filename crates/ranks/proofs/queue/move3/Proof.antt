@@ -1,27 +1,27 @@
 -- `ranks::queue::move3` meets its contract.
 -- Assumes nothing.
 use mathlib.Core.Path.{_≡_, refl, sym, ap, subst}
-use mathlib.Core.List.{[], _∷_}
 use Prim.Native.Nat.{ℕ, _+_, _-_, _<_, _≤_}
 use native.Mathlib.Omega.{arith}
 use borrow.Author.Needs.{needs}
 use Rattle.ranking.specs.Ranks.{shifted}
 use Rattle.ranks.specs.Prediction.{Short, Behind, Apart, remade}
+use Rattle.ranks.specs.Moves.{movesRanks, movesLengths}
 use Rattle.ranks.specs.Queue.{Mapped}
 use Rattle.ranks.proofs.Copying.{mapped-none, every-read, mapped-more}
 use Rattle.ranks.proofs.queue.move3.Statement.{statement}
 use Rattle.ranks.proofs.queue.move3.Tie as tie
 
 abbrev Inv-loop : tie.InvT-loop
-Inv-loop w₀ from to out len0 f1 len1 f2 len2 f3 len3 i₀ m₀ w i m = (from ≤ i) × (i ≤ to) × (m ≡ out + (i - from)) × Mapped (remade (shifted (0 ∷ (f1 ∷ (f2 ∷ (f3 ∷ [])))) (len0 ∷ (len1 ∷ (len2 ∷ (len3 ∷ [])))))) w₀ w from i out
+Inv-loop w₀ from to out m i₀ k₀ w i k = (from ≤ i) × (i ≤ to) × (k ≡ out + (i - from)) × Mapped (remade (shifted (movesRanks m) (movesLengths m))) w₀ w from i out
 
 abbrev μ-loop : tie.MeasureT-loop
-μ-loop w₀ from to out len0 f1 len1 f2 len2 f3 len3 i₀ m₀ w i m = to - i
+μ-loop w₀ from to out m i₀ k₀ w i k = to - i
 
 loop-holds : tie.Need-loop-holds Inv-loop μ-loop
 loop-holds c =
     let a = c .args in
-    (omega arith, c .pre .0 .ordered, omega arith, mapped-none (remade (shifted (0 ∷ (a .f1 ∷ (a .f2 ∷ (a .f3 ∷ [])))) (a .len0 ∷ (a .len1 ∷ (a .len2 ∷ (a .len3 ∷ [])))))) (a .w .now) (a .from) (a .out))
+    (omega arith, c .pre .0 .ordered, omega arith, mapped-none (remade (shifted (movesRanks (a .m)) (movesLengths (a .m)))) (a .w .now) (a .from) (a .out))
 
 mul-moved3 : tie.Need-mul-moved3 Inv-loop μ-loop
 mul-moved3 c = search needs
@@ -35,8 +35,8 @@ moved3-requires c κs =
     let s = c .before .before .before in
     let a = s .args in
     let k : i .i < a .to = c .before .loop-test .taken in
-    let r = every-read (remade (shifted (0 ∷ (a .f1 ∷ (a .f2 ∷ (a .f3 ∷ [])))) (a .len0 ∷ (a .len1 ∷ (a .len2 ∷ (a .len3 ∷ [])))))) (a .w .now) (i .w) (a .from) (i .i) (a .to) (a .out) (i .m) (s .pre .0) (i .inv .0) k (i .inv .2) (i .inv .3) in
-    (r Short (s .pre .1), r Behind (s .pre .2), r (Apart (0 ∷ (a .f1 ∷ (a .f2 ∷ (a .f3 ∷ [])))) (a .len0 ∷ (a .len1 ∷ (a .len2 ∷ (a .len3 ∷ []))))) (s .pre .3), s .pre .4, s .pre .5, s .pre .6, s .pre .7, s .pre .8, s .pre .9, s .pre .10)
+    let r = every-read (remade (shifted (movesRanks (a .m)) (movesLengths (a .m)))) (a .w .now) (i .w) (a .from) (i .i) (a .to) (a .out) (i .k) (s .pre .0) (i .inv .0) k (i .inv .2) (i .inv .3) in
+    (r Short (s .pre .1), r Behind (s .pre .2), r (Apart (movesRanks (a .m)) (movesLengths (a .m))) (s .pre .3), s .pre .4)
 
 mul-w : tie.Need-mul-w Inv-loop μ-loop
 mul-w c = search needs
@@ -50,8 +50,8 @@ element-write-w c =
 add-i : tie.Need-add-i Inv-loop μ-loop
 add-i c = search needs
 
-add-m : tie.Need-add-m Inv-loop μ-loop
-add-m c =
+add-k : tie.Need-add-k Inv-loop μ-loop
+add-k c =
     let i = c .before .before .before .loop in
     let s = c .before .before .before .before in
     record { fits = omega (arith, i .inv .2, s .pre .0 .fits) }
@@ -65,14 +65,14 @@ loop-again c =
     let s = c .before .before .before .before in
     let a = s .args in
     let k : i .i < a .to = c .before .before .loop-test .taken in
-    (omega arith, omega arith, omega (arith, i .inv .2), mapped-more (remade (shifted (0 ∷ (a .f1 ∷ (a .f2 ∷ (a .f3 ∷ [])))) (a .len0 ∷ (a .len1 ∷ (a .len2 ∷ (a .len3 ∷ [])))))) (a .w .now) (i .w) (a .from) (i .i) (a .to) (a .out) (i .m) (s .pre .0) (i .inv .0) k (i .inv .2) (i .inv .3) (c .moved3 .result) (c .moved3 .ensures))
+    (omega arith, omega arith, omega (arith, i .inv .2), mapped-more (remade (shifted (movesRanks (a .m)) (movesLengths (a .m)))) (a .w .now) (i .w) (a .from) (i .i) (a .to) (a .out) (i .k) (s .pre .0) (i .inv .0) k (i .inv .2) (i .inv .3) (c .moved3 .result) (c .moved3 .ensures))
 
 returns : tie.Need-returns Inv-loop μ-loop
 returns c =
     let i = c .before .loop in
     let a = c .before .before .args in
     let e : i .i ≡ a .to = omega arith in
-    subst (λ (n : ℕ). Mapped (remade (shifted (0 ∷ (a .f1 ∷ (a .f2 ∷ (a .f3 ∷ [])))) (a .len0 ∷ (a .len1 ∷ (a .len2 ∷ (a .len3 ∷ [])))))) (a .w .now) (i .w) (a .from) n (a .out)) e (i .inv .3)
+    subst (λ (n : ℕ). Mapped (remade (shifted (movesRanks (a .m)) (movesLengths (a .m)))) (a .w .now) (i .w) (a .from) n (a .out)) e (i .inv .3)
 
 pub move3-spec : {M : Type 1} → statement M
-move3-spec = tie.close (tie.spec Inv-loop μ-loop loop-holds mul-moved3 element-copy-out-moved3 moved3-requires mul-w element-write-w add-i add-m loop-less loop-again returns)
+move3-spec = tie.close (tie.spec Inv-loop μ-loop loop-holds mul-moved3 element-copy-out-moved3 moved3-requires mul-w element-write-w add-i add-k loop-less loop-again returns)

@@ -8,7 +8,7 @@ use borrow.Author.Needs.{needs}
 use lib.ListN.{length, getD, take}
 use lib.Seq.{slice}
 use Rattle.ranking.specs.Ranks.{shifted}
-use Rattle.ranks.specs.declared.moves.Moves.{Moves}
+use Rattle.ranks.specs.declared.prediction.Moves.{Moves}
 use Rattle.ranks.specs.Prediction.{remade}
 use Rattle.ranks.specs.Queue.{Steps, Next}
 use Rattle.ranks.specs.Moves.{Begins}
@@ -146,7 +146,7 @@ returns-2 c =
     record {
       of-grammar = λ g h.
           let k : n .result ≡ length (h .rule .daughters) = daughters-at g (a .t .now) (a .w .now) (a .r .0) (a .mark) (a .from) (a .to) h (at .result) (n .result) (at .ensures) (n .ensures .0) in
-          written-as (a .w .now) (c .expand-two .last .1 .1 .1 .1 .0) (a .to)
+          written-as (a .w .now) (c .expand-two .last .1 .0) (a .to)
           (ap₂ (λ (i m : ℕ). expanded (a .t .now) i m (a .mark) (twoBegins (getD (a .w .now) (a .from) 0) (getD (a .t .now) (i + 1) 0)) (twoMoves (getD (a .w .now) (a .from) 0) (getD (a .t .now) (i + 1) 0)) (a .w .now) (a .from) (a .to)) (at .ensures) k
           ∙ two-is g (a .t .now) (a .w .now) (a .r .0) (a .mark) (a .from) (a .to) h (other-at g (a .t .now) (a .w .now) (a .r .0) (a .mark) (a .from) (a .to) h (at .result) (d .result) 1 (at .ensures) (d .ensures) (c .before .before .before .if1 .left)) (dimension-at g (a .t .now) (a .w .now) (a .r .0) (a .mark) (a .from) (a .to) h (at .result) (d .result) 2 (at .ensures) (d .ensures) (c .before .before .if2 .taken)))
           (ap (λ (m : ℕ). a .to + m + (a .to - (a .from + 1))) k ∙ end-is g (a .t .now) (a .w .now) (a .r .0) (a .mark) (a .from) (a .to) h) (c .expand-two .ensures);
@@ -173,7 +173,7 @@ returns-3 c =
       of-grammar = λ g h.
           let k : n .result ≡ length (h .rule .daughters) = daughters-at g (a .t .now) (a .w .now) (a .r .0) (a .mark) (a .from) (a .to) h (at .result) (n .result) (at .ensures) (n .ensures .0) in
           let more = other-at g (a .t .now) (a .w .now) (a .r .0) (a .mark) (a .from) (a .to) h (at .result) (d .result) 1 (at .ensures) (d .ensures) (c .before .before .before .if1 .left) in
-          written-as (a .w .now) (c .expand-wide .last .1 .1 .1 .1 .0) (a .to)
+          written-as (a .w .now) (c .expand-wide .last .1 .0) (a .to)
           (ap₂ (λ (i m : ℕ). expanded (a .t .now) i m (a .mark) (frontBegins (a .t .now) i (getD (a .w .now) (a .from) 0)) (frontMoves (a .t .now) i (getD (a .w .now) (a .from) 0)) (a .w .now) (a .from) (a .to)) (at .ensures) k
           ∙ wide-is g (a .t .now) (a .w .now) (a .r .0) (a .mark) (a .from) (a .to) h more)
           (ap (λ (m : ℕ). a .to + m + (a .to - (a .from + 1))) k ∙ end-is g (a .t .now) (a .w .now) (a .r .0) (a .mark) (a .from) (a .to) h) (c .expand-wide .ensures);

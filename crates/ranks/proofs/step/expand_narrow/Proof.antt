@@ -43,9 +43,9 @@ shift-requires c κs =
     let s = c .before in
     let a = s .args in
     let f = remade (shifted (0 ∷ []) (a .len ∷ [])) in (
-      narrow-room f (a .w .now) (a .w .now) (a .from) (a .to) (a .n) (a .d0) (a .d1) (a .d2) (s .pre .0),
-      narrow-every f (a .w .now) (a .w .now) (a .from) (a .to) (a .n) (a .d0) (a .d1) (a .d2) (s .pre .0) Short (s .pre .1),
-      narrow-every f (a .w .now) (a .w .now) (a .from) (a .to) (a .n) (a .d0) (a .d1) (a .d2) (s .pre .0) Behind (s .pre .2),
+      narrow-room f (a .w .now) (a .w .now) (a .from) (a .to) (a .d) (a .e0) (a .e1) (a .e2) (s .pre .0),
+      narrow-every f (a .w .now) (a .w .now) (a .from) (a .to) (a .d) (a .e0) (a .e1) (a .e2) (s .pre .0) Short (s .pre .1),
+      narrow-every f (a .w .now) (a .w .now) (a .from) (a .to) (a .d) (a .e0) (a .e1) (a .e2) (s .pre .0) Behind (s .pre .2),
       s .pre .3,
     )
 
@@ -53,7 +53,7 @@ returns : tie.Need-returns
 returns c =
     let s = c .before .before in
     let a = s .args in
-    narrow-next (remade (shifted (0 ∷ []) (a .len ∷ []))) (a .w .now) (c .shift .last .0) (a .from) (a .to) (a .n) (a .d0) (a .d1) (a .d2) (s .pre .0) (c .shift .ensures)
+    narrow-next (remade (shifted (0 ∷ []) (a .len ∷ []))) (a .w .now) (c .shift .last .0) (a .from) (a .to) (a .d) (a .e0) (a .e1) (a .e2) (s .pre .0) (c .shift .ensures)
 
 pub expand-narrow-spec : {M : Type 1} → statement M
 expand-narrow-spec = tie.close (tie.spec mul-w element-write-w add-w mul-w-2 element-write-w-2 add-w-2 mul-w-3 element-write-w-3 add-shift add-shift-2 shift-requires returns)

@@ -37,7 +37,7 @@ settle-some-requires c κs = search needs
 returns : tie.Need-returns
 returns c =
     let a = c .before .before .before .before .args in
-    replaced (remade (shifted (movesRanks (a .m)) (movesLengths (a .m)))) (take (a .n) (a .e0 ∷ (a .e1 ∷ (a .e2 ∷ [])))) (a .w .now) (c .before .before .advance .last .0) (c .settle-some .last .0) (a .from) (a .to) (a .n) (c .before .before .advance .ensures) (c .settle-some .ensures)
+    replaced (remade (shifted (movesRanks (a .m)) (movesLengths (a .m)))) (take (a .d) (a .e0 ∷ (a .e1 ∷ (a .e2 ∷ [])))) (a .w .now) (c .before .before .advance .last .0) (c .settle-some .last .0) (a .from) (a .to) (a .d) (c .before .before .advance .ensures) (c .settle-some .ensures)
 
 pub replace-spec : {M : Type 1} → statement M
 replace-spec = tie.close (tie.spec add-advance add-advance-2 advance-requires add-settle-some add-settle-some-2 sub-settle-some add-settle-some-3 settle-some-requires returns)

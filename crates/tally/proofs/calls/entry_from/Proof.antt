@@ -7,7 +7,7 @@ use Rattle.tally.proofs.calls.entry_from.Statement.{statement}
 use Rattle.tally.proofs.calls.entry_from.Tie as tie
 use Rattle.tally.proofs.calls.entry_from.Reads as reads
 use Rattle.tally.proofs.calls.entry_from.Lts as lts
-use Rattle.tally.proofs.prefixes.copy_path.Reads as copy-path-reads
+use Rattle.buffers.proofs.write_front.Reads as write-front-reads
 use Rattle.tally.proofs.prefixes.tally_all.Reads as tally-all-reads
 
 slice-aggregate-tally-all : tie.Need-slice-aggregate-tally-all
@@ -28,8 +28,8 @@ returns c =
     let a = s .args in
     entry-beyond (a .t .now) (a .chain .now) (a .sentence .now) (a .w .now) (a .n) (a .limit) (a .m) _ _ (a .out .now) _ (rw (c .before .before .before .all .given .1) at (c .before .before .before .before .before .before .tally-all .ensures)) (c .if1 .taken)
 
-copy-path-requires : tie.Need-copy-path-requires
-copy-path-requires c κs =
+write-front-requires : tie.Need-write-front-requires
+write-front-requires c κs =
     let s = c .before .before .before .before .before .before .before .before .before .before .before .before .before in
     let a = s .args in
     may-copy (a .t .now) (a .chain .now) (a .sentence .now) (a .w .now) (a .n) (a .limit) (a .m) _ _ _ (a .out .now) (s .pre) refl (rw (c .before .before .before .before .before .all .given .1) at (c .before .before .before .before .before .before .before .before .tally-all .ensures))
@@ -47,7 +47,7 @@ returns-3 : tie.Need-returns-3
 returns-3 c =
     let s = c .before .before .before .before .before .before .before .before .before .before .before .before .before .before .before .before in
     let a = s .args in
-    entry-writes (a .t .now) (a .chain .now) (a .sentence .now) (a .w .now) (a .n) (a .limit) (a .m) _ _ (a .out .now) _ (rw (c .before .before .before .before .before .before .before .before .all .given .1) at (c .before .before .before .before .before .before .before .before .before .before .before .tally-all .ensures)) (c .before .before .before .before .before .if1 .left) (c .before .before .before .before .before .before .before .before .before .before .before .tally-all .ensures .kept) _ (c .before .before .copy-path .ensures)
+    entry-writes (a .t .now) (a .chain .now) (a .sentence .now) (a .w .now) (a .n) (a .limit) (a .m) _ _ (a .out .now) _ (rw (c .before .before .before .before .before .before .before .before .all .given .1) at (c .before .before .before .before .before .before .before .before .before .before .before .tally-all .ensures)) (c .before .before .before .before .before .if1 .left) (c .before .before .before .before .before .before .before .before .before .before .before .tally-all .ensures .kept) _ (c .before .before .write-front .ensures)
 
 pub entry-from-spec : {M : Type 1} → statement M
 entry-from-spec =
@@ -58,7 +58,7 @@ entry-from-spec =
     enum-told
     enum-known-all
     returns
-    copy-path-requires
+    write-front-requires
     returns-2
     same-length
     returns-3)

@@ -8,13 +8,13 @@ use Rattle.tally.proofs.prefixes.note.Tie as tie
 use Rattle.tally.proofs.prefixes.note.Reads as reads
 use Rattle.tally.proofs.prefixes.note.Lts as lts
 use Rattle.walk.proofs.at_end.Reads as at-end-reads
-use Rattle.tally.proofs.prefixes.copy_path.Reads as copy-path-reads
+use Rattle.buffers.proofs.write_front.Reads as write-front-reads
 
 at-end-requires : tie.Need-at-end-requires
 at-end-requires c κs = search needs
 
-copy-path-requires : tie.Need-copy-path-requires
-copy-path-requires c κs = search needs
+write-front-requires : tie.Need-write-front-requires
+write-front-requires c κs = search needs
 
 add-t13 : tie.Need-add-t13
 add-t13 c = search needs
@@ -29,7 +29,7 @@ returns : tie.Need-returns
 returns c =
     let s = c .before .before .before .before .before .before .before .before .before .before .before .before in
     let a = s .args in
-    notes-this (a .sentence .now) (a .path .now) (a .at) (a .m) (a .held .now) (a .so) (s .pre) (sym (c .before .before .before .before .before .before .before .before .if1 .taken) ∙ c .before .before .before .before .before .before .before .before .before .at-end .ensures) (c .before .before .before .before .before .before .if2 .taken) _ (c .before .before .before .before .copy-path .ensures)
+    notes-this (a .sentence .now) (a .path .now) (a .at) (a .m) (a .held .now) (a .so) (s .pre) (sym (c .before .before .before .before .before .before .before .before .if1 .taken) ∙ c .before .before .before .before .before .before .before .before .before .at-end .ensures) (c .before .before .before .before .before .before .if2 .taken) _ (c .before .before .before .before .write-front .ensures)
 
 add-t15 : tie.Need-add-t15
 add-t15 c = search needs
@@ -57,7 +57,7 @@ note-spec =
     tie.close
     (tie.spec
     at-end-requires
-    copy-path-requires
+    write-front-requires
     add-t13
     add-t14
     same-length
