@@ -7,7 +7,7 @@ use mathlib.Core.List.{List, [], _∷_, _++_, map}
 use Prim.Native.Nat.{ℕ, zero, suc, _+_, _-_, _*_, _/_, _%_, _<_, _≤_}
 use native.Mathlib.Omega.{arith}
 use native.Mathlib.Decide.{ℕ-discrete}
-use borrow.Author.Tests.{eq-eqb, lt-ltb}
+use borrow.Author.Tests.{eq-eqb, lt-ltb, eqb-true}
 use lib.Dec.{eqb}
 use lib.ListN.{length, getD, take, length-map}
 use lib.Seq.{slice}
@@ -25,10 +25,10 @@ use Rattle.ranks.specs.Queue.{Steps, insert, insertIf, insertAll}
 use Rattle.ranks.specs.Queue as places
 use Rattle.ranks.specs.Daughters.{daughter}
 use Rattle.ranks.specs.declared.prediction.Moves.{Moves}
-use Rattle.ranks.specs.Moves.{movesRanks, movesLengths, lengthsOf, Bounded, Begins}
+use Rattle.ranks.specs.Moves.{movesRanks, movesLengths, gathered, lengthsOf, Bounded, begun, Begins}
 use Rattle.ranks.specs.Held.{inLanes, numberOf, predictionOf, queueIn, Fits}
 use Rattle.ranks.specs.Table.{ones, daughtersIn, dimensionIn, marked, readyMade, daughterOf, daughtersOf, RuleLengths, RuleCells, WideCells, NarrowCells}
-use Rattle.ranks.specs.Step.{frontMoves, frontBegins, daughterAt, Makes, twoMoves, twoBegins, TwoRanks, expanded, WideStep, Expands, expandedQueue}
+use Rattle.ranks.specs.Step.{daughterAt, Makes, twoMoves, twoBegins, TwoRanks, isTwo, expanded, WideStep, WideFor, expandedFor, Expands, expandedQueue}
 use Rattle.ranks.proofs.Fitting.{all-fit}
 use Rattle.ranks.proofs.Numbers.{sized, unpacked-number, put-perm}
 use Rattle.ranks.proofs.Moved.{above-zero}
@@ -259,8 +259,8 @@ module _ (g : Grammar) (t w : List ℕ) (r mark from to : ℕ) (h : Expands g t 
     front = getD w from 0
 
     -- by comparing, for any rule
-    pub wide-step : WideStep t (8 * r) (length (rule .daughters)) mark (frontBegins t (8 * r) (getD w from 0)) (frontMoves t (8 * r) (getD w from 0)) w from to
-    wide-step = step-of (frontBegins t (8 * r) front) (frontMoves t (8 * r) front) refl (begun-components g rule right (h .nonlexical) x R (h .words) reached fit (h .of-front) front (getD t (8 * r + 1) 0) front-is lens)
+    pub wide-step : WideStep t (8 * r) (length (rule .daughters)) mark (ranks (begun (getD w from 0) (getD t (8 * r + 1) 0))) (gathered (ranks (unpacked (getD w from 0))) (lengthsOf (getD t (8 * r + 1) 0))) w from to
+    wide-step = step-of (ranks (begun front (getD t (8 * r + 1) 0))) (gathered (ranks (unpacked front)) (lengthsOf (getD t (8 * r + 1) 0))) refl (begun-components g rule right (h .nonlexical) x R (h .words) reached fit (h .of-front) front (getD t (8 * r + 1) 0) front-is lens)
         (gathered-goes g rule right (h .nonlexical) x R (h .words) reached fit (h .of-front) front (getD t (8 * r + 1) 0) front-is lens)
         (gathered-fits g rule right (h .nonlexical) x R (h .words) reached fit (h .of-front) front (getD t (8 * r + 1) 0) front-is lens)
         (others-apart g rule right (h .nonlexical) x R (h .words) reached fit (h .of-front) front (getD t (8 * r + 1) 0) front-is lens)
@@ -268,8 +268,8 @@ module _ (g : Grammar) (t w : List ℕ) (r mark from to : ℕ) (h : Expands g t 
     pub wide-begins : Begins (getD w from 0) (getD t (8 * r + 1) 0)
     wide-begins = front-begins g rule right (h .nonlexical) x R (h .words) reached fit (h .of-front) front (getD t (8 * r + 1) 0) front-is lens
 
-    pub wide-is : expanded t (8 * r) (length (rule .daughters)) mark (frontBegins t (8 * r) (getD w from 0)) (frontMoves t (8 * r) (getD w from 0)) w from to ≡ map numberOf next
-    wide-is = next-is (frontBegins t (8 * r) front) (frontMoves t (8 * r) front) refl (begun-components g rule right (h .nonlexical) x R (h .words) reached fit (h .of-front) front (getD t (8 * r + 1) 0) front-is lens)
+    pub wide-is : expanded t (8 * r) (length (rule .daughters)) mark (ranks (begun (getD w from 0) (getD t (8 * r + 1) 0))) (gathered (ranks (unpacked (getD w from 0))) (lengthsOf (getD t (8 * r + 1) 0))) w from to ≡ map numberOf next
+    wide-is = next-is (ranks (begun front (getD t (8 * r + 1) 0))) (gathered (ranks (unpacked front)) (lengthsOf (getD t (8 * r + 1) 0))) refl (begun-components g rule right (h .nonlexical) x R (h .words) reached fit (h .of-front) front (getD t (8 * r + 1) 0) front-is lens)
         (gathered-goes g rule right (h .nonlexical) x R (h .words) reached fit (h .of-front) front (getD t (8 * r + 1) 0) front-is lens)
         (gathered-fits g rule right (h .nonlexical) x R (h .words) reached fit (h .of-front) front (getD t (8 * r + 1) 0) front-is lens)
         (others-apart g rule right (h .nonlexical) x R (h .words) reached fit (h .of-front) front (getD t (8 * r + 1) 0) front-is lens)
@@ -349,6 +349,21 @@ module _ (g : Grammar) (t w : List ℕ) (r mark from to : ℕ) (h : Expands g t 
 
       pub two-is : expanded t (8 * r) (length (rule .daughters)) mark (twoBegins (getD w from 0) (getD t (8 * r + 1) 0)) (twoMoves (getD w from 0) (getD t (8 * r + 1) 0)) w from to ≡ map numberOf next
       two-is = next-is (twoBegins front (getD t (8 * r + 1) 0)) (twoMoves front (getD t (8 * r + 1) 0)) (two-four front (getD t (8 * r + 1) 0)) begin-two goes-by-two bounded-two apart-two
+
+    -- by the one or the other
+    pub step-for : WideFor (isTwo t (8 * r)) t (8 * r) (length (rule .daughters)) mark w from to
+    step-for = go (isTwo t (8 * r)) refl
+      where
+        go : (two : Bool) → isTwo t (8 * r) ≡ two → WideFor two t (8 * r) (length (rule .daughters)) mark w from to
+        go true e = let k = eqb-true (dimensionIn t (8 * r)) 2 e in (two-step k, two-ranks k)
+        go false e = (wide-step, wide-begins)
+
+    pub next-for : expandedFor (isTwo t (8 * r)) t (8 * r) (length (rule .daughters)) mark w from to ≡ map numberOf next
+    next-for = go (isTwo t (8 * r)) refl
+      where
+        go : (two : Bool) → isTwo t (8 * r) ≡ two → expandedFor two t (8 * r) (length (rule .daughters)) mark w from to ≡ map numberOf next
+        go true e = two-is (eqb-true (dimensionIn t (8 * r)) 2 e)
+        go false e = wide-is
 
   -- a rule of dimension 1: its front has rank 0 alone, and every other rank moves by the same
   module _ (is-one : dimensionIn t (8 * r) ≡ 1) where

@@ -14,7 +14,7 @@ use Rattle.ranks.specs.declared.prediction.Moves.{Moves}
 use Rattle.ranks.specs.Prediction.{Sized, packed, unpacked, lanes}
 use Rattle.ranks.specs.Moves.{movesRanks, movesLengths, Bounded}
 use Rattle.ranks.specs.Daughters.{daughter, Alone}
-use Rattle.ranks.specs.Step.{twoMoves, twoBegins}
+use Rattle.ranks.specs.Step.{twoMoves, twoBegins, beginsFor}
 use Rattle.ranks.proofs.Packing.{packed-unpacked}
 use Rattle.ranks.proofs.Moved.{above-zero}
 
@@ -161,3 +161,8 @@ module _ (front lens : ℕ) where
   begins-second f e n =
       ap (λ (k : ℕ). (k + lens / 65536 % 65536 - 1) ∷ (0 ∷ (0 ∷ (0 ∷ [])))) e
       ∙ sym (ap (λ (t : Bool). if t then 0 ∷ ((unpacked front .rank1 + lens % 65536 - 1) ∷ (0 ∷ (0 ∷ []))) else (unpacked front .rank0 + lens / 65536 % 65536 - 1) ∷ (0 ∷ (0 ∷ (0 ∷ [])))) (ne-eqb (unpacked front .rank0) 0 (λ z. n (e ∙ z))))
+
+-- four ranks, whatever the dimension
+pub begins-four : (two : Bool) (front lens : ℕ) → length (beginsFor two front lens) ≡ 4
+begins-four true front lens = two-four front lens
+begins-four false front lens = refl

@@ -5,7 +5,7 @@ ghost use Prim.Native.Nat.{_+_, _<_, _≤_};
 ghost use Rattle.ranking.specs.Ranks.{shifted};
 ghost use Rattle.ranks.specs.Prediction.{ranks, unpacked, Short, Behind, Apart, remade};
 ghost use Rattle.ranks.specs.Queue.{Roomy, Every, Mapped};
-ghost use Rattle.ranks.specs.Step.{twoMoves, twoBegins, TwoRanks};
+ghost use Rattle.ranks.specs.Step.{twoMoves, twoBegins, TwoRanks, beginsFor, movesFor, BeginsFor};
 ghost use Rattle.ranks.specs.Moves.{movesRanks, movesLengths, withOne, gathered, lengthsOf, Bounded, begun, Begins};
 use crate::prediction::Moves;
 use crate::prediction::moved4;
@@ -51,7 +51,7 @@ fn with_one(m: Moves, f: u64, len: u64) -> Moves
 }
 
 // Of the front, where the rule's components have these lengths.
-pub fn moves_of(front: u64, lens: u64) -> Moves
+fn moves_of(front: u64, lens: u64) -> Moves
     ensures { λ m. ⌜ m ≡ gathered (ranks (unpacked front)) (lengthsOf lens) ⌝ }
 {
     let none = Moves {
@@ -90,7 +90,7 @@ pub fn advance(w: &mut [u64; ROOM], from: usize, to: usize, out: usize, m: Moves
 }
 
 // The ranks at which the components of the front begin after a step by a rule of these lengths.
-pub fn bases(front: u64, lens: u64) -> [u64; 4]
+fn bases(front: u64, lens: u64) -> [u64; 4]
     requires { ⌜ Begins front lens ⌝ }
     ensures { λ b. ⌜ b ≡ ranks (begun front lens) ⌝ }
 {
@@ -99,7 +99,7 @@ pub fn bases(front: u64, lens: u64) -> [u64; 4]
 }
 
 // What moves for a rule of dimension 2, without comparing: one of the front's two components has rank 0.
-pub fn moves_of_two(front: u64, lens: u64) -> Moves
+fn moves_of_two(front: u64, lens: u64) -> Moves
     ensures { λ m. ⌜ m ≡ twoMoves front lens ⌝ }
 {
     let f0 = rank(front, 0);
@@ -127,7 +127,7 @@ pub fn moves_of_two(front: u64, lens: u64) -> Moves
 }
 
 // And where its components begin after the step.
-pub fn bases_of_two(front: u64, lens: u64) -> [u64; 4]
+fn bases_of_two(front: u64, lens: u64) -> [u64; 4]
     requires { ⌜ TwoRanks front lens ⌝ }
     ensures { λ b. ⌜ b ≡ twoBegins front lens ⌝ }
 {
@@ -137,4 +137,25 @@ pub fn bases_of_two(front: u64, lens: u64) -> [u64; 4]
         return [0, f1 + lens % LENGTH - 1, 0, 0];
     }
     [f0 + lens / LENGTH % LENGTH - 1, 0, 0, 0]
+}
+
+// Where the front's components begin after the step, for a rule of dimension 2 or of another.
+pub fn bases_for(front: u64, lens: u64, two: bool) -> [u64; 4]
+    requires { ⌜ BeginsFor two front lens ⌝ }
+    ensures { λ b. ⌜ b ≡ beginsFor two front lens ⌝ }
+{
+    if two {
+        return bases_of_two(front, lens);
+    }
+    bases(front, lens)
+}
+
+// And what moves.
+pub fn moves_for(front: u64, lens: u64, two: bool) -> Moves
+    ensures { λ m. ⌜ m ≡ movesFor two front lens ⌝ }
+{
+    if two {
+        return moves_of_two(front, lens);
+    }
+    moves_of(front, lens)
 }

@@ -2,22 +2,20 @@
 ghost use mathlib.Core.Path.{_≡_};
 ghost use mathlib.Core.List.{[], _∷_, _++_, map};
 ghost use Prim.Native.Nat.{_+_, _-_, _<_, _≤_};
-ghost use lib.ListN.{getD, take};
+ghost use lib.ListN.{take};
 ghost use lib.Seq.{slice};
 ghost use Rattle.ranking.specs.Ranks.{shifted};
 ghost use Rattle.ranks.specs.Prediction.{Short, Behind, Apart, remade};
-ghost use Rattle.ranks.specs.Moves.{movesRanks, movesLengths, Bounded, Begins};
-ghost use Rattle.ranks.specs.Step.{frontMoves, frontBegins, twoMoves, twoBegins, TwoRanks, expanded, WideStep, Expandable, Expanded};
+ghost use Rattle.ranks.specs.Moves.{movesRanks, movesLengths, Bounded};
+ghost use Rattle.ranks.specs.Step.{isTwo, expandedFor, WideFor, Expandable, Expanded};
 ghost use Rattle.ranks.specs.Queue.{Every, Gap, Placed, Steps, Next, insertAll};
 use crate::daughters::larger;
 use crate::daughters::made_at;
 use crate::daughters::rising;
 use crate::daughters::smaller;
 use crate::moves::advance;
-use crate::moves::bases;
-use crate::moves::bases_of_two;
-use crate::moves::moves_of;
-use crate::moves::moves_of_two;
+use crate::moves::bases_for;
+use crate::moves::moves_for;
 use crate::prediction::Moves;
 use crate::queue::ROOM;
 use crate::queue::settle1;
@@ -28,6 +26,7 @@ use crate::table::TABLE;
 use crate::table::daughters;
 use crate::table::dimension;
 use crate::table::first_length;
+use crate::table::is_two;
 use crate::table::lengths;
 use crate::table::place_of;
 use crate::table::ready_made;
@@ -90,8 +89,8 @@ fn replace(
     settle_some(w, to, to + d + (to - (from + 1)), d, e0, e1, e2);
 }
 
-// A step by the rule whose cells begin at `at`, which has d daughters: the queue from..to to the one that begins at `to`. `mark` is added to the daughters'
-// numbers.
+// A step by the rule whose cells begin at `at`, which has d daughters and not dimension 1: the queue from..to to the one that begins at `to`. `mark` is
+// added to the daughters' numbers.
 fn expand_wide(
     t: &[u64; TABLE],
     w: &mut [u64; ROOM],
@@ -101,38 +100,17 @@ fn expand_wide(
     d: usize,
     mark: u64,
 )
-    requires { ⌜ WideStep (now t) at d mark (frontBegins (now t) at (getD (now w) from 0)) (frontMoves (now t) at (getD (now w) from 0)) (now w) from to × Begins (getD (now w) from 0) (getD (now t) (at + 1) 0) ⌝ }
-    ensures { λ r. ⌜ Next (expanded (now (t .entry)) at d mark (frontBegins (now (t .entry)) at (getD (now (w .entry)) from 0)) (frontMoves (now (t .entry)) at (getD (now (w .entry)) from 0)) (now (w .entry)) from to) (now (w .entry)) (now (w .exit)) to (to + d + (to - (from + 1))) ⌝ }
+    requires { ⌜ WideFor (isTwo (now t) at) (now t) at d mark (now w) from to ⌝ }
+    ensures { λ r. ⌜ Next (expandedFor (isTwo (now (t .entry)) at) (now (t .entry)) at d mark (now (w .entry)) from to) (now (w .entry)) (now (w .exit)) to (to + d + (to - (from + 1))) ⌝ }
 {
     let front = w[from];
     let lens = lengths(t, at);
-    let b = bases(front, lens);
+    let two = is_two(t, at);
+    let b = bases_for(front, lens, two);
     let e0 = made_at(t, at, d, 0, &b, mark);
     let e1 = made_at(t, at, d, 1, &b, mark);
     let e2 = made_at(t, at, d, 2, &b, mark);
-    replace(w, from, to, d, moves_of(front, lens), e0, e1, e2);
-}
-
-// The same for a rule of dimension 2.
-fn expand_two(
-    t: &[u64; TABLE],
-    w: &mut [u64; ROOM],
-    from: usize,
-    to: usize,
-    at: usize,
-    d: usize,
-    mark: u64,
-)
-    requires { ⌜ WideStep (now t) at d mark (twoBegins (getD (now w) from 0) (getD (now t) (at + 1) 0)) (twoMoves (getD (now w) from 0) (getD (now t) (at + 1) 0)) (now w) from to × TwoRanks (getD (now w) from 0) (getD (now t) (at + 1) 0) ⌝ }
-    ensures { λ r. ⌜ Next (expanded (now (t .entry)) at d mark (twoBegins (getD (now (w .entry)) from 0) (getD (now (t .entry)) (at + 1) 0)) (twoMoves (getD (now (w .entry)) from 0) (getD (now (t .entry)) (at + 1) 0)) (now (w .entry)) from to) (now (w .entry)) (now (w .exit)) to (to + d + (to - (from + 1))) ⌝ }
-{
-    let front = w[from];
-    let lens = lengths(t, at);
-    let b = bases_of_two(front, lens);
-    let e0 = made_at(t, at, d, 0, &b, mark);
-    let e1 = made_at(t, at, d, 1, &b, mark);
-    let e2 = made_at(t, at, d, 2, &b, mark);
-    replace(w, from, to, d, moves_of_two(front, lens), e0, e1, e2);
+    replace(w, from, to, d, moves_for(front, lens, two), e0, e1, e2);
 }
 
 // A step by nonlexical rule r, which is of the category of the front of the queue from..to. The next queue is written from `to` on. The daughters have the
@@ -150,17 +128,12 @@ pub fn expand(
 {
     let at = place_of(r);
     let d = daughters(t, at);
-    let m = dimension(t, at);
-    if m == 1 {
+    if dimension(t, at) == 1 {
         let len = first_length(t, at);
         let e0 = ready_made(t, at, 0, mark);
         let e1 = ready_made(t, at, 1, mark);
         let e2 = ready_made(t, at, 2, mark);
         expand_narrow(w, from, to, d, len, e0, e1, e2);
-        return;
-    }
-    if m == 2 {
-        expand_two(t, w, from, to, at, d, mark);
         return;
     }
     expand_wide(t, w, from, to, at, d, mark);

@@ -5,6 +5,7 @@ ghost use Prim.Native.Nat.{_+_, _*_, _%_, _<_, _≤_};
 ghost use lib.ListN.{getD};
 ghost use Rattle.ranks.specs.Prediction.{listed};
 ghost use Rattle.ranks.specs.Moves.{lengthsOf};
+ghost use Rattle.ranks.specs.Step.{isTwo};
 ghost use Rattle.ranks.specs.Table.{daughtersIn, dimensionIn, categoryIn, wordIn, marked};
 use crate::prediction::Four;
 use crate::prediction::marked;
@@ -71,6 +72,14 @@ pub fn dimension(t: &[u64; TABLE], at: usize) -> u64
     ensures { λ d. ⌜ d ≡ dimensionIn (now (t .entry)) at ⌝ }
 {
     t[at] / DIMENSION % DIMENSIONS
+}
+
+// Whether that is 2.
+pub fn is_two(t: &[u64; TABLE], at: usize) -> bool
+    requires { ⌜ at + 8 ≤ 2048 ⌝ }
+    ensures { λ b. ⌜ b ≡ isTwo (now (t .entry)) at ⌝ }
+{
+    dimension(t, at) == 2
 }
 
 // Its category.

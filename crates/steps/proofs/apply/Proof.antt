@@ -50,8 +50,8 @@ add-mark c = search needs
 mul-mark : tie.Need-mul-mark
 mul-mark c = search needs
 
-expand-requires : tie.Need-expand-requires
-expand-requires c κs =
+predict-requires : tie.Need-predict-requires
+predict-requires c κs =
     let s = c .before .before .before .before .before .before .before .before in
     let a = s .args in
     let p = s .pre in
@@ -76,8 +76,8 @@ returns-3 c =
       of-grammar = λ g ready front.
           let some : daughtersIn (a .t .now) (8 * a .r .0) ≡ 0 → ⊥ = λ z. c .before .before .before .before .before .before .if1 .left (e ∙ z) in
           let fits : a .at .to - a .at .from + daughtersIn (a .t .now) (8 * a .r .0) ≤ a .at .left = omega (arith, e, c .before .before .before .if2 .left) in
-          subst (λ (n : Standing). StepSays g (a .t .now) (a .sentence .now) (a .w .now) (c .before .expand .last .1 .0) (a .at) (a .r .0) (Leads n)) (sym (c .ahead .ensures))
-          (expand-says g (a .t .now) (a .sentence .now) (a .w .now) (a .at) ready (a .r .0) front some fits (c .before .expand .last .1 .0) (c .before .expand .ensures .of-grammar g (expands g (a .t .now) (a .sentence .now) (a .w .now) (a .at) ready (a .r .0) front some fits)));
+          subst (λ (n : Standing). StepSays g (a .t .now) (a .sentence .now) (a .w .now) (c .before .predict .last .1 .0) (a .at) (a .r .0) (Leads n)) (sym (c .ahead .ensures))
+          (expand-says g (a .t .now) (a .sentence .now) (a .w .now) (a .at) ready (a .r .0) front some fits (c .before .predict .last .1 .0) (c .before .predict .ensures .of-grammar g (expands g (a .t .now) (a .sentence .now) (a .w .now) (a .at) ready (a .r .0) front some fits)));
     }
 
 pub apply-spec : {M : Type 1} → statement M
@@ -93,6 +93,6 @@ apply-spec =
     returns-2
     add-mark
     mul-mark
-    expand-requires
+    predict-requires
     ahead-requires
     returns-3)

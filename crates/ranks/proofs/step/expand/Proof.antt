@@ -5,15 +5,13 @@ use mathlib.Core.List.{List, [], _∷_, _++_, map}
 use Prim.Native.Nat.{ℕ, _+_, _-_}
 use native.Mathlib.Omega.{arith}
 use borrow.Author.Needs.{needs}
-use lib.ListN.{length, getD, take}
+use lib.ListN.{length, take}
 use lib.Seq.{slice}
 use Rattle.ranking.specs.Ranks.{shifted}
-use Rattle.ranks.specs.declared.prediction.Moves.{Moves}
 use Rattle.ranks.specs.Prediction.{remade}
 use Rattle.ranks.specs.Queue.{Steps, Next}
-use Rattle.ranks.specs.Moves.{Begins}
-use Rattle.ranks.specs.Step.{frontMoves, frontBegins, twoMoves, twoBegins, TwoRanks, expanded, WideStep}
-use Rattle.ranks.proofs.Expanding.{dimension-at, other-at, cells-at, daughters-at, step-fits, short, behind, end-is, wide-step, wide-begins, wide-is, two-step, two-ranks, two-is, ready-small, length-at, narrow-written}
+use Rattle.ranks.specs.Step.{isTwo, WideFor, expandedFor}
+use Rattle.ranks.proofs.Expanding.{dimension-at, other-at, cells-at, daughters-at, step-fits, short, behind, end-is, step-for, next-for, ready-small, length-at, narrow-written}
 use Rattle.ranks.proofs.step.expand.Statement.{statement}
 use Rattle.ranks.proofs.step.expand.Tie as tie
 
@@ -22,19 +20,9 @@ written-as : (w w′ : List ℕ) (to : ℕ) {l m : List ℕ} {e f : ℕ} → l �
 written-as w w′ to {m = m} {e = e} p q h = subst (λ (x : ℕ). Next m w w′ to x) q (subst (λ (x : List ℕ). Next x w w′ to e) p h)
 
 -- and needed, where the cells begin at i, and there are n daughters
-wide-as : (t : List ℕ) (mark : ℕ) (w : List ℕ) (from to : ℕ) {i j n m : ℕ} → i ≡ j → n ≡ m
-    → WideStep t i n mark (frontBegins t i (getD w from 0)) (frontMoves t i (getD w from 0)) w from to × Begins (getD w from 0) (getD t (i + 1) 0)
-    → WideStep t j m mark (frontBegins t j (getD w from 0)) (frontMoves t j (getD w from 0)) w from to × Begins (getD w from 0) (getD t (j + 1) 0)
+wide-as : (t : List ℕ) (mark : ℕ) (w : List ℕ) (from to : ℕ) {i j n m : ℕ} → i ≡ j → n ≡ m → WideFor (isTwo t i) t i n mark w from to → WideFor (isTwo t j) t j m mark w from to
 wide-as t mark w from to {j = j} {n = n} p q h =
-    subst (λ (x : ℕ). WideStep t j x mark (frontBegins t j (getD w from 0)) (frontMoves t j (getD w from 0)) w from to × Begins (getD w from 0) (getD t (j + 1) 0)) q
-    (subst (λ (x : ℕ). WideStep t x n mark (frontBegins t x (getD w from 0)) (frontMoves t x (getD w from 0)) w from to × Begins (getD w from 0) (getD t (x + 1) 0)) p h)
-
-two-as : (t : List ℕ) (mark : ℕ) (w : List ℕ) (from to : ℕ) {i j n m : ℕ} → i ≡ j → n ≡ m
-    → WideStep t i n mark (twoBegins (getD w from 0) (getD t (i + 1) 0)) (twoMoves (getD w from 0) (getD t (i + 1) 0)) w from to × TwoRanks (getD w from 0) (getD t (i + 1) 0)
-    → WideStep t j m mark (twoBegins (getD w from 0) (getD t (j + 1) 0)) (twoMoves (getD w from 0) (getD t (j + 1) 0)) w from to × TwoRanks (getD w from 0) (getD t (j + 1) 0)
-two-as t mark w from to {j = j} {n = n} p q h =
-    subst (λ (x : ℕ). WideStep t j x mark (twoBegins (getD w from 0) (getD t (j + 1) 0)) (twoMoves (getD w from 0) (getD t (j + 1) 0)) w from to × TwoRanks (getD w from 0) (getD t (j + 1) 0)) q
-    (subst (λ (x : ℕ). WideStep t x n mark (twoBegins (getD w from 0) (getD t (x + 1) 0)) (twoMoves (getD w from 0) (getD t (x + 1) 0)) w from to × TwoRanks (getD w from 0) (getD t (x + 1) 0)) p h)
+    subst (λ (x : ℕ). WideFor (isTwo t j) t j x mark w from to) q (subst (λ (x : ℕ). WideFor (isTwo t x) t x n mark w from to) p h)
 
 place-of-requires : tie.Need-place-of-requires
 place-of-requires c κs = search needs
@@ -126,56 +114,30 @@ returns c =
           (ap (λ (m : ℕ). a .to + m + (a .to - (a .from + 1))) k ∙ end-is g (a .t .now) (a .w .now) (a .r .0) (a .mark) (a .from) (a .to) h) (c .expand-narrow .ensures);
     }
 
-expand-two-requires : tie.Need-expand-two-requires
-expand-two-requires c κs =
-    let s = c .before .before .before .before .before .before in
+expand-wide-requires : tie.Need-expand-wide-requires
+expand-wide-requires c κs =
+    let s = c .before .before .before .before .before in
     let a = s .args in
     let p = s .pre in
-    let at = c .before .before .before .before .before .place-of in
-    let n = c .before .before .before .before .daughters in
-    let d = c .before .before .before .dimension in
-    two-as (a .t .now) (a .mark) (a .w .now) (a .from) (a .to) (sym (at .ensures)) (sym (daughters-at (p .grammar) (a .t .now) (a .w .now) (a .r .0) (a .mark) (a .from) (a .to) (p .expands) (at .result) (n .result) (at .ensures) (n .ensures .0)))
-    (two-step (p .grammar) (a .t .now) (a .w .now) (a .r .0) (a .mark) (a .from) (a .to) (p .expands) (other-at (p .grammar) (a .t .now) (a .w .now) (a .r .0) (a .mark) (a .from) (a .to) (p .expands) (at .result) (d .result) 1 (at .ensures) (d .ensures) (c .before .before .if1 .left)) (dimension-at (p .grammar) (a .t .now) (a .w .now) (a .r .0) (a .mark) (a .from) (a .to) (p .expands) (at .result) (d .result) 2 (at .ensures) (d .ensures) (c .before .if2 .taken)), two-ranks (p .grammar) (a .t .now) (a .w .now) (a .r .0) (a .mark) (a .from) (a .to) (p .expands) (other-at (p .grammar) (a .t .now) (a .w .now) (a .r .0) (a .mark) (a .from) (a .to) (p .expands) (at .result) (d .result) 1 (at .ensures) (d .ensures) (c .before .before .if1 .left)) (dimension-at (p .grammar) (a .t .now) (a .w .now) (a .r .0) (a .mark) (a .from) (a .to) (p .expands) (at .result) (d .result) 2 (at .ensures) (d .ensures) (c .before .if2 .taken)))
+    let at = c .before .before .before .before .place-of in
+    let n = c .before .before .before .daughters in
+    let d = c .before .before .dimension in
+    let more = other-at (p .grammar) (a .t .now) (a .w .now) (a .r .0) (a .mark) (a .from) (a .to) (p .expands) (at .result) (d .result) 1 (at .ensures) (d .ensures) (c .before .if1 .left) in
+    wide-as (a .t .now) (a .mark) (a .w .now) (a .from) (a .to) (sym (at .ensures)) (sym (daughters-at (p .grammar) (a .t .now) (a .w .now) (a .r .0) (a .mark) (a .from) (a .to) (p .expands) (at .result) (n .result) (at .ensures) (n .ensures .0))) (step-for (p .grammar) (a .t .now) (a .w .now) (a .r .0) (a .mark) (a .from) (a .to) (p .expands) more)
 
 returns-2 : tie.Need-returns-2
 returns-2 c =
-    let a = c .before .before .before .before .before .before .before .args in
-    let at = c .before .before .before .before .before .before .place-of in
-    let n = c .before .before .before .before .before .daughters in
-    let d = c .before .before .before .before .dimension in
-    record {
-      of-grammar = λ g h.
-          let k : n .result ≡ length (h .rule .daughters) = daughters-at g (a .t .now) (a .w .now) (a .r .0) (a .mark) (a .from) (a .to) h (at .result) (n .result) (at .ensures) (n .ensures .0) in
-          written-as (a .w .now) (c .expand-two .last .1 .0) (a .to)
-          (ap₂ (λ (i m : ℕ). expanded (a .t .now) i m (a .mark) (twoBegins (getD (a .w .now) (a .from) 0) (getD (a .t .now) (i + 1) 0)) (twoMoves (getD (a .w .now) (a .from) 0) (getD (a .t .now) (i + 1) 0)) (a .w .now) (a .from) (a .to)) (at .ensures) k
-          ∙ two-is g (a .t .now) (a .w .now) (a .r .0) (a .mark) (a .from) (a .to) h (other-at g (a .t .now) (a .w .now) (a .r .0) (a .mark) (a .from) (a .to) h (at .result) (d .result) 1 (at .ensures) (d .ensures) (c .before .before .before .if1 .left)) (dimension-at g (a .t .now) (a .w .now) (a .r .0) (a .mark) (a .from) (a .to) h (at .result) (d .result) 2 (at .ensures) (d .ensures) (c .before .before .if2 .taken)))
-          (ap (λ (m : ℕ). a .to + m + (a .to - (a .from + 1))) k ∙ end-is g (a .t .now) (a .w .now) (a .r .0) (a .mark) (a .from) (a .to) h) (c .expand-two .ensures);
-    }
-
-expand-wide-requires : tie.Need-expand-wide-requires
-expand-wide-requires c κs =
-    let s = c .before .before .before .before .before .before in
-    let a = s .args in
-    let p = s .pre in
+    let a = c .before .before .before .before .before .before .args in
     let at = c .before .before .before .before .before .place-of in
     let n = c .before .before .before .before .daughters in
     let d = c .before .before .before .dimension in
-    let more = other-at (p .grammar) (a .t .now) (a .w .now) (a .r .0) (a .mark) (a .from) (a .to) (p .expands) (at .result) (d .result) 1 (at .ensures) (d .ensures) (c .before .before .if1 .left) in
-    wide-as (a .t .now) (a .mark) (a .w .now) (a .from) (a .to) (sym (at .ensures)) (sym (daughters-at (p .grammar) (a .t .now) (a .w .now) (a .r .0) (a .mark) (a .from) (a .to) (p .expands) (at .result) (n .result) (at .ensures) (n .ensures .0))) (wide-step (p .grammar) (a .t .now) (a .w .now) (a .r .0) (a .mark) (a .from) (a .to) (p .expands) more, wide-begins (p .grammar) (a .t .now) (a .w .now) (a .r .0) (a .mark) (a .from) (a .to) (p .expands) more)
-
-returns-3 : tie.Need-returns-3
-returns-3 c =
-    let a = c .before .before .before .before .before .before .before .args in
-    let at = c .before .before .before .before .before .before .place-of in
-    let n = c .before .before .before .before .before .daughters in
-    let d = c .before .before .before .before .dimension in
     record {
       of-grammar = λ g h.
           let k : n .result ≡ length (h .rule .daughters) = daughters-at g (a .t .now) (a .w .now) (a .r .0) (a .mark) (a .from) (a .to) h (at .result) (n .result) (at .ensures) (n .ensures .0) in
-          let more = other-at g (a .t .now) (a .w .now) (a .r .0) (a .mark) (a .from) (a .to) h (at .result) (d .result) 1 (at .ensures) (d .ensures) (c .before .before .before .if1 .left) in
+          let more = other-at g (a .t .now) (a .w .now) (a .r .0) (a .mark) (a .from) (a .to) h (at .result) (d .result) 1 (at .ensures) (d .ensures) (c .before .before .if1 .left) in
           written-as (a .w .now) (c .expand-wide .last .1 .0) (a .to)
-          (ap₂ (λ (i m : ℕ). expanded (a .t .now) i m (a .mark) (frontBegins (a .t .now) i (getD (a .w .now) (a .from) 0)) (frontMoves (a .t .now) i (getD (a .w .now) (a .from) 0)) (a .w .now) (a .from) (a .to)) (at .ensures) k
-          ∙ wide-is g (a .t .now) (a .w .now) (a .r .0) (a .mark) (a .from) (a .to) h more)
+          (ap₂ (λ (i m : ℕ). expandedFor (isTwo (a .t .now) i) (a .t .now) i m (a .mark) (a .w .now) (a .from) (a .to)) (at .ensures) k
+          ∙ next-for g (a .t .now) (a .w .now) (a .r .0) (a .mark) (a .from) (a .to) h more)
           (ap (λ (m : ℕ). a .to + m + (a .to - (a .from + 1))) k ∙ end-is g (a .t .now) (a .w .now) (a .r .0) (a .mark) (a .from) (a .to) h) (c .expand-wide .ensures);
     }
 
@@ -192,7 +154,5 @@ expand-spec =
     ready-made-requires-3
     expand-narrow-requires
     returns
-    expand-two-requires
-    returns-2
     expand-wide-requires
-    returns-3)
+    returns-2)
