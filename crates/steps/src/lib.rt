@@ -3,7 +3,6 @@ ghost use mathlib.Core.Path.{_≡_};
 ghost use Prim.Native.Nat.{_*_, _<_};
 ghost use Rattle.model.specs.GrammarFile.{grammarOf};
 ghost use Rattle.ranking.specs.Numbered.{madeAt};
-ghost use Rattle.ranks.specs.Step.{Expandable, Expanded};
 ghost use Rattle.ranks.specs.Table.{daughtersIn};
 ghost use Rattle.steps.specs.Steps.{begin, Ready, Applies, Applied, StepSays, TakenBack, heardBy, readBy, Advances, aheadWith, behind};
 use grammar::rules;
@@ -149,28 +148,8 @@ fn lexical(
     Stepped::Leads(ahead(t, at, r, read))
 }
 
-// The queue after the step of nonlexical rule r, which has d daughters, as `expand` writes it. It is called in two places, since the compiler takes a function
-// that is called in one into its caller, and the walk is quicker with `expand` outside it.
-fn predict(
-    t: &[u64; TABLE],
-    w: &mut [u64; ROOM],
-    from: usize,
-    to: usize,
-    r: RuleNumber,
-    d: usize,
-    mark: u64,
-)
-    requires { ⌜ Expandable (now t) (r .0) mark (now w) from to ⌝ }
-    ensures { λ s. ⌜ Expanded (now (t .entry)) (r .0) mark (now (w .entry)) (now (w .exit)) from to ⌝ }
-{
-    if d == 1 {
-        expand(t, w, from, to, r, mark);
-        return;
-    }
-    expand(t, w, from, to, r, mark);
-}
-
-// The step of rule r, which is of the front's category. The next queue is written from `at.to` on, and what stands before it is as it was.
+// The step of rule r, which is of the front's category. The next queue is written from `at.to` on, and what stands before it is as it was. `expand` is called
+// in two places, since the compiler takes a function that is called in one into its caller, and the walk is quicker with `expand` outside.
 pub fn apply(
     t: &[u64; TABLE],
     sentence: &[u32],
@@ -189,7 +168,11 @@ pub fn apply(
         return Stepped::Long;
     }
     let mark = 4 * (at.steps as u64 + 1);
-    predict(t, w, at.from, at.to, RuleNumber(r.0), d, mark);
+    if d == 1 {
+        expand(t, w, at.from, at.to, RuleNumber(r.0), mark);
+        return Stepped::Leads(ahead(t, at, r, at.read));
+    }
+    expand(t, w, at.from, at.to, RuleNumber(r.0), mark);
     Stepped::Leads(ahead(t, at, r, at.read))
 }
 

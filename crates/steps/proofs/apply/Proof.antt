@@ -50,34 +50,64 @@ add-mark c = search needs
 mul-mark : tie.Need-mul-mark
 mul-mark c = search needs
 
-predict-requires : tie.Need-predict-requires
-predict-requires c κs =
-    let s = c .before .before .before .before .before .before .before .before in
+expand-requires : tie.Need-expand-requires
+expand-requires c κs =
+    let s = c .before .before .before .before .before .before .before .before .before in
     let a = s .args in
     let p = s .pre in
-    let d = c .before .before .before .before .before .daughters in
-    let e = d .ensures .0 ∙ ap (daughtersIn (a .t .now)) (c .before .before .before .before .before .before .place-of .ensures) in
-    record { grammar = p .grammar; expands = expands (p .grammar) (a .t .now) (a .sentence .now) (a .w .now) (a .at) (p .ready) (a .r .0) (p .fronted) (λ z. c .before .before .before .before .if1 .left (e ∙ z)) (omega (arith, e, c .before .if2 .left)) }
+    let d = c .before .before .before .before .before .before .daughters in
+    let e = d .ensures .0 ∙ ap (daughtersIn (a .t .now)) (c .before .before .before .before .before .before .before .place-of .ensures) in
+    record { grammar = p .grammar; expands = expands (p .grammar) (a .t .now) (a .sentence .now) (a .w .now) (a .at) (p .ready) (a .r .0) (p .fronted) (λ z. c .before .before .before .before .before .if1 .left (e ∙ z)) (omega (arith, e, c .before .before .if2 .left)) }
 
 ahead-requires : tie.Need-ahead-requires
 ahead-requires c κs =
-    let s = c .before .before .before .before .before .before .before .before .before in
+    let s = c .before .before .before .before .before .before .before .before .before .before in
     let a = s .args in
     let p = s .pre in
     (rule-small (p .grammar) (a .t .now) (a .sentence .now) (a .w .now) (a .at) (p .ready) (a .r .0) (p .fronted), advances (p .grammar) (a .t .now) (a .sentence .now) (a .w .now) (a .at) (p .ready) (a .r .0) (p .fronted))
 
 returns-3 : tie.Need-returns-3
 returns-3 c =
-    let s = c .before .before .before .before .before .before .before .before .before .before in
+    let s = c .before .before .before .before .before .before .before .before .before .before .before in
     let a = s .args in
-    let d = c .before .before .before .before .before .before .before .daughters in
-    let e = d .ensures .0 ∙ ap (daughtersIn (a .t .now)) (c .before .before .before .before .before .before .before .before .place-of .ensures) in
+    let d = c .before .before .before .before .before .before .before .before .daughters in
+    let e = d .ensures .0 ∙ ap (daughtersIn (a .t .now)) (c .before .before .before .before .before .before .before .before .before .place-of .ensures) in
     record {
       of-grammar = λ g ready front.
-          let some : daughtersIn (a .t .now) (8 * a .r .0) ≡ 0 → ⊥ = λ z. c .before .before .before .before .before .before .if1 .left (e ∙ z) in
-          let fits : a .at .to - a .at .from + daughtersIn (a .t .now) (8 * a .r .0) ≤ a .at .left = omega (arith, e, c .before .before .before .if2 .left) in
-          subst (λ (n : Standing). StepSays g (a .t .now) (a .sentence .now) (a .w .now) (c .before .predict .last .1 .0) (a .at) (a .r .0) (Leads n)) (sym (c .ahead .ensures))
-          (expand-says g (a .t .now) (a .sentence .now) (a .w .now) (a .at) ready (a .r .0) front some fits (c .before .predict .last .1 .0) (c .before .predict .ensures .of-grammar g (expands g (a .t .now) (a .sentence .now) (a .w .now) (a .at) ready (a .r .0) front some fits)));
+          let some : daughtersIn (a .t .now) (8 * a .r .0) ≡ 0 → ⊥ = λ z. c .before .before .before .before .before .before .before .if1 .left (e ∙ z) in
+          let fits : a .at .to - a .at .from + daughtersIn (a .t .now) (8 * a .r .0) ≤ a .at .left = omega (arith, e, c .before .before .before .before .if2 .left) in
+          subst (λ (n : Standing). StepSays g (a .t .now) (a .sentence .now) (a .w .now) (c .before .expand .last .1 .0) (a .at) (a .r .0) (Leads n)) (sym (c .ahead .ensures))
+          (expand-says g (a .t .now) (a .sentence .now) (a .w .now) (a .at) ready (a .r .0) front some fits (c .before .expand .last .1 .0) (c .before .expand .ensures .of-grammar g (expands g (a .t .now) (a .sentence .now) (a .w .now) (a .at) ready (a .r .0) front some fits)));
+    }
+
+expand-requires-2 : tie.Need-expand-requires-2
+expand-requires-2 c κs =
+    let s = c .before .before .before .before .before .before .before .before .before in
+    let a = s .args in
+    let p = s .pre in
+    let d = c .before .before .before .before .before .before .daughters in
+    let e = d .ensures .0 ∙ ap (daughtersIn (a .t .now)) (c .before .before .before .before .before .before .before .place-of .ensures) in
+    record { grammar = p .grammar; expands = expands (p .grammar) (a .t .now) (a .sentence .now) (a .w .now) (a .at) (p .ready) (a .r .0) (p .fronted) (λ z. c .before .before .before .before .before .if1 .left (e ∙ z)) (omega (arith, e, c .before .before .if2 .left)) }
+
+ahead-requires-2 : tie.Need-ahead-requires-2
+ahead-requires-2 c κs =
+    let s = c .before .before .before .before .before .before .before .before .before .before in
+    let a = s .args in
+    let p = s .pre in
+    (rule-small (p .grammar) (a .t .now) (a .sentence .now) (a .w .now) (a .at) (p .ready) (a .r .0) (p .fronted), advances (p .grammar) (a .t .now) (a .sentence .now) (a .w .now) (a .at) (p .ready) (a .r .0) (p .fronted))
+
+returns-4 : tie.Need-returns-4
+returns-4 c =
+    let s = c .before .before .before .before .before .before .before .before .before .before .before in
+    let a = s .args in
+    let d = c .before .before .before .before .before .before .before .before .daughters in
+    let e = d .ensures .0 ∙ ap (daughtersIn (a .t .now)) (c .before .before .before .before .before .before .before .before .before .place-of .ensures) in
+    record {
+      of-grammar = λ g ready front.
+          let some : daughtersIn (a .t .now) (8 * a .r .0) ≡ 0 → ⊥ = λ z. c .before .before .before .before .before .before .before .if1 .left (e ∙ z) in
+          let fits : a .at .to - a .at .from + daughtersIn (a .t .now) (8 * a .r .0) ≤ a .at .left = omega (arith, e, c .before .before .before .before .if2 .left) in
+          subst (λ (n : Standing). StepSays g (a .t .now) (a .sentence .now) (a .w .now) (c .before .expand2 .last .1 .0) (a .at) (a .r .0) (Leads n)) (sym (c .ahead2 .ensures))
+          (expand-says g (a .t .now) (a .sentence .now) (a .w .now) (a .at) ready (a .r .0) front some fits (c .before .expand2 .last .1 .0) (c .before .expand2 .ensures .of-grammar g (expands g (a .t .now) (a .sentence .now) (a .w .now) (a .at) ready (a .r .0) front some fits)));
     }
 
 pub apply-spec : {M : Type 1} → statement M
@@ -93,6 +123,9 @@ apply-spec =
     returns-2
     add-mark
     mul-mark
-    predict-requires
+    expand-requires
     ahead-requires
-    returns-3)
+    returns-3
+    expand-requires-2
+    ahead-requires-2
+    returns-4)
