@@ -7,8 +7,9 @@ use Rattle.model.specs.declared.Refusal.{Refusal}
 use Rattle.model.specs.Base.{_orElse_}
 use Rattle.model.specs.GrammarFile.{grammarRefusal, grammarOf}
 use Rattle.model.specs.Trace.{sentenceRefusal}
-use Rattle.model.specs.Counting.{limitsRefusal, effortRefusal, entryRefusal}
+use Rattle.model.specs.Counting.{limitsRefusal}
 use Rattle.model.specs.Calls.{roomRefusal}
+use Rattle.tally.specs.Answers.{afterTally}
 
 abbrev pub beforeSearch : List ℕ → List ℕ → ℕ → ℕ → Option Refusal
 beforeSearch file sentence n limit = grammarRefusal file orElse limitsRefusal n limit orElse sentenceRefusal (grammarOf file) sentence
@@ -18,4 +19,4 @@ beforeEntry file sentence n limit out =
     grammarRefusal file orElse roomRefusal out orElse limitsRefusal n limit orElse sentenceRefusal (grammarOf file) sentence
 
 abbrev pub afterSearch : List ℕ → List ℕ → ℕ → ℕ → ℕ → Option Refusal
-afterSearch file sentence n limit m = effortRefusal (grammarOf file) sentence n limit orElse entryRefusal (grammarOf file) sentence n m
+afterSearch file sentence n limit m = afterTally (grammarOf file) sentence n limit m

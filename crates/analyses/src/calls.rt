@@ -57,7 +57,7 @@ fn counted(file: &[u8], sentence: &[u32], n: u64, limit: u64) -> CountVerdict
     count_from(&t, &chain, sentence, &mut w, n as usize, limit)
 }
 
-// What the count tests before it searches: the grammar, 24, 11 and 29.
+// What the count tests before the walk: the grammar, 24, 11 and 29.
 fn count_tests(file: &[u8], sentence: &[u32], n: u64, limit: u64) -> Tested
     ensures { λ t. ⌜ t ≡ tested (beforeSearch (now (file .entry)) (now (sentence .entry)) n limit) ⌝ }
 {
@@ -112,7 +112,7 @@ pub fn entry(file: &[u8], sentence: &[u32], n: u64, limit: u64, m: u64, out: &mu
     }
 }
 
-// What the call for an entry tests before it searches: the grammar, 23, 24, 11 and 29.
+// What the call for an entry tests before the walk: the grammar, 23, 24, 11 and 29.
 fn entry_tests(file: &[u8], sentence: &[u32], n: u64, limit: u64, out: &[u16]) -> Tested
     ensures { λ t. ⌜ t ≡ tested (beforeEntry (now (file .entry)) (now (sentence .entry)) n limit (now (out .entry))) ⌝ }
 {

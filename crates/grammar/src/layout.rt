@@ -1,12 +1,13 @@
 // Where things stand in a grammar file, and its fields, read where they lie. Each is the field of the list of bytes, whatever the list; for a file that
 // the reader accepts it is the part of the grammar (proofs/OfGrammar).
 ghost use mathlib.Core.Path.{_≡_};
-ghost use Prim.Native.Nat.{_+_};
+ghost use Prim.Native.Nat.{_+_, _≤_};
 ghost use Rattle.model.specs.GrammarFile.{categoriesOf, startOf, wordsOf, rulesOf, dimensionsOf, dimensionIn, recordPlace, recordOf, field};
 use crate::bytes::byte;
 use crate::bytes::fields;
 use crate::bytes::two_bytes;
 use model::Category;
+use model::MOST_RULES;
 use model::RuleNumber;
 
 // The number of categories, C.
@@ -35,6 +36,15 @@ pub fn rules(file: &[u8]) -> u16
     ensures { λ n. ⌜ n ≡ rulesOf (now (file .entry)) ⌝ }
 {
     two_bytes(file, 7)
+}
+
+// How many rules a table of MOST_RULES holds: all of them, in a file that the reader accepts.
+pub fn rules_held(file: &[u8]) -> u16
+    ensures { λ n. ⌜ (n ≤ 256) × (rulesOf (now (file .entry)) ≤ 256 → n ≡ rulesOf (now (file .entry))) ⌝ }
+{
+    let n = rules(file);
+    let most = MOST_RULES as u16;
+    if n <= most { n } else { most }
 }
 
 // The dimensions of the categories, one byte each.

@@ -16,6 +16,7 @@ pub use layout::dimensions;
 pub use layout::record_byte;
 pub use layout::record_of;
 pub use layout::rules;
+pub use layout::rules_held;
 pub use layout::start;
 pub use layout::words;
 pub use lists::block_check;

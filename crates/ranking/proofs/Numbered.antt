@@ -16,12 +16,12 @@ use Rattle.model.specs.WellFormed.{WellFormed}
 use Rattle.model.specs.Trace.{noNode}
 use Rattle.model.specs.GrammarFile.{grammarRefusal, grammarOf}
 use Rattle.model.specs.Tree.{Tree, treeOfList}
-use Rattle.model.specs.Conversions.{label, subtree, traceOf, Address, below, sortNodes, treeOf}
+use Rattle.model.specs.Conversions.{label, subtree, traceOf}
 use Rattle.model.proofs.WellFormed.{accepted-well}
 use Rattle.model.proofs.Apart.{Every, every-to}
-use Rattle.ranking.specs.Recognizer.{Moved, stops, goes, traceBy, placedBy}
-use Rattle.ranking.specs.Ranks.{Ranked, RankedState, shifted, lowered, lengths, variableRanks, leastRank, rerank, insertRanked, putIn, readRanked, scanRanked, withoutFront, daughtersRanked, expandRanked, predictRanked, applyRanked, stepRanked, rankRecognizer, traceOfRanked, treeOfRanked}
-use Rattle.ranking.specs.Numbered.{madeAt, numberAt, plain, plainMoved, extended, namesAfter, beginNumbered, traceNumbered, traceOfNumbered, placedNumbered, treeOfNumbered}
+use Rattle.ranking.specs.Recognizer.{Moved, stops, goes, traceBy}
+use Rattle.ranking.specs.Ranks.{Ranked, RankedState, shifted, lowered, lengths, variableRanks, leastRank, rerank, insertRanked, putIn, readRanked, scanRanked, withoutFront, daughtersRanked, expandRanked, predictRanked, applyRanked, stepRanked, rankRecognizer, traceOfRanked}
+use Rattle.ranking.specs.Numbered.{madeAt, numberAt, plain, plainMoved, extended, namesAfter, beginNumbered, traceNumbered, traceOfNumbered}
 use Rattle.ranking.proofs.RanksAgree.{ranks-agree}
 use Rattle.ranking.proofs.Marks.{remark, renamed, renamedMoved, step-remark}
 
@@ -157,38 +157,7 @@ module _ (g : Grammar) (well : WellFormed g) where
   pub trace-numbered : (sentence tree : List ℕ) → traceOfNumbered g sentence tree ≡ traceOfRanked g sentence tree
   trace-numbered sentence tree = trace-from (length tree) 0 (λ n. treeOfList g tree) (beginNumbered g sentence) (omega arith, tt)
 
-  placed-from : (k : ℕ) (names : ℕ → Address) (t : RankedState ℕ) (rs : List ℕ) → Below (madeAt k) (t .queue) → placedNumbered g k names t rs ≡ placedBy (rankRecognizer below g) (renamed names t) rs
-  placed-from k names t [] h = refl
-  placed-from k names t (r ∷ rs) h = go (t .queue) h (λ names′ t′ h′. placed-from (suc k) names′ t′ rs h′)
-    where
-      one : (names′ : ℕ → Address) (u : Moved (RankedState ℕ)) (v : Moved (RankedState Address)) → renamedMoved names′ u ≡ v → After (madeAt (suc k)) u
-          → ((names′ : ℕ → Address) (t′ : RankedState ℕ) → Below (madeAt (suc k)) (t′ .queue) → placedNumbered g (suc k) names′ t′ rs ≡ placedBy (rankRecognizer below g) (renamed names′ t′) rs)
-          → _≡_ {A = List (Address × ℕ)} (elim u [ stops m ↦ [] | goes t′ ↦ placedNumbered g (suc k) names′ t′ rs ]) (elim v [ stops m ↦ [] | goes s ↦ placedBy (rankRecognizer below g) s rs ])
-      one names′ u v e a ih = on u a ∙ ap (λ (w : Moved (RankedState Address)). elim w as (λ w. List (Address × ℕ)) [ stops m ↦ [] | goes s ↦ placedBy (rankRecognizer below g) s rs ]) e
-        where
-          on : (u : Moved (RankedState ℕ)) → After (madeAt (suc k)) u
-              → _≡_ {A = List (Address × ℕ)} (elim u [ stops m ↦ [] | goes t′ ↦ placedNumbered g (suc k) names′ t′ rs ]) (elim (renamedMoved names′ u) [ stops m ↦ [] | goes s ↦ placedBy (rankRecognizer below g) s rs ])
-          on (stops m) b = refl
-          on (goes t′) b = ih names′ t′ b
-
-      go : (q : List (Ranked ℕ)) → Below (madeAt k) q
-          → ((names′ : ℕ → Address) (t′ : RankedState ℕ) → Below (madeAt (suc k)) (t′ .queue) → placedNumbered g (suc k) names′ t′ rs ≡ placedBy (rankRecognizer below g) (renamed names′ t′) rs)
-          → placedNumbered g k names (record { queue = q; words = t .words }) (r ∷ rs) ≡ placedBy (rankRecognizer below g) (renamed names (record { queue = q; words = t .words })) (r ∷ rs)
-      go [] h ih = refl
-      go (p ∷ q) h ih =
-          ap (λ (l : List (Address × ℕ)). (names (p .node), r) ∷ l)
-          (one (namesAfter below k names (p .node)) (stepRanked (numberAt k) g (record { queue = p ∷ q; words = t .words }) r)
-          (stepRanked below g (renamed names (record { queue = p ∷ q; words = t .words })) r) (step-named below g k names p q (t .words) r h)
-          (below-apply g k (ruleAt g r) (λ rule f. well .ranges r rule f .daughters-few) (p ∷ q) (t .words) h) ih)
-
-  pub tree-numbered : (sentence trace : List ℕ) → treeOfNumbered g sentence trace ≡ treeOfRanked g sentence trace
-  tree-numbered sentence trace =
-      ap (λ (l : List (Address × ℕ)). map (λ x. x .1) (sortNodes l)) (placed-from 0 (λ n. []) (beginNumbered g sentence) trace (omega arith, tt))
-
 -- of a file that the reader accepts
 module _ (file : List ℕ) (accepted : grammarRefusal file ≡ none) (sentence : List ℕ) where
   pub trace-agrees : (tree : List ℕ) → traceOfNumbered (grammarOf file) sentence tree ≡ traceOf (grammarOf file) sentence tree
   trace-agrees tree = trace-numbered (grammarOf file) (accepted-well file accepted) sentence tree ∙ ranks-agree file accepted sentence .traces tree
-
-  pub tree-agrees : (trace : List ℕ) → treeOfNumbered (grammarOf file) sentence trace ≡ treeOf (grammarOf file) sentence trace
-  tree-agrees trace = tree-numbered (grammarOf file) (accepted-well file accepted) sentence trace ∙ ranks-agree file accepted sentence .trees trace

@@ -1,4 +1,4 @@
--- The conversions with numbers for what predictions stand for, as code holds them: daughter j of step k has number 4 * (k + 1) + j, the root number 0.
+-- Numbers for what predictions stand for, as code holds them, and the trace of a tree with them: daughter j of step k has number 4 * (k + 1) + j, the root number 0.
 -- So a number tells the step that predicted, and the daughter position there. `names` is what each number stands for.
 -- Assumes nothing.
 use Prim.Native.Nat.{ℕ, zero, suc, _+_, _-_, _*_}
@@ -8,7 +8,7 @@ use lib.ListN.{length}
 use Rattle.model.specs.Base.{if_then_else_}
 use Rattle.model.specs.Grammar.{Grammar}
 use Rattle.model.specs.Tree.{Tree, treeOfList}
-use Rattle.model.specs.Conversions.{label, subtree, Address, below, sortNodes}
+use Rattle.model.specs.Conversions.{label, subtree}
 use Rattle.ranking.specs.Recognizer.{Moved, stops, goes}
 use Rattle.ranking.specs.Ranks.{RankedState, stepRanked, beginRanked}
 
@@ -53,14 +53,3 @@ module _ (g : Grammar) where
 
   abbrev pub traceOfNumbered : List ℕ → List ℕ → List ℕ
   traceOfNumbered sentence tree = traceNumbered (length tree) 0 (λ n. treeOfList g tree) (beginNumbered sentence)
-
-  abbrev pub placedNumbered : ℕ → (ℕ → Address) → RankedState ℕ → List ℕ → List (Address × ℕ)
-  placedNumbered k names t [] = []
-  placedNumbered k names t (r ∷ rs) =
-      elim (t .queue) [
-        | [] ↦ []
-        | p ∷ q ↦ (names (p .node), r) ∷ elim (stepRanked (numberAt k) g t r) [ stops m ↦ [] | goes t′ ↦ placedNumbered (suc k) (namesAfter below k names (p .node)) t′ rs ]
-      ]
-
-  abbrev pub treeOfNumbered : List ℕ → List ℕ → List ℕ
-  treeOfNumbered sentence trace = map (λ x. x .1) (sortNodes (placedNumbered 0 (λ n. []) (beginNumbered sentence) trace))

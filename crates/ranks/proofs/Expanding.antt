@@ -8,16 +8,15 @@ use Prim.Native.Nat.{ℕ, zero, suc, _+_, _-_, _*_, _/_, _%_, _<_, _≤_}
 use native.Mathlib.Omega.{arith}
 use native.Mathlib.Decide.{ℕ-discrete}
 use borrow.Author.Tests.{eq-eqb, lt-ltb, eqb-true}
-use lib.Dec.{eqb}
 use lib.ListN.{length, getD, take, length-map}
 use lib.Seq.{slice}
 use Rattle.model.specs.Base.{if_then_else_, numbersFrom}
 use Rattle.model.specs.Grammar.{Rule, Grammar, ruleAt, isLexical, dimension}
 use Rattle.model.specs.WellFormed.{RightRule}
-use Rattle.model.proofs.Perm.{perm-sym, perm-length}
+use Rattle.model.proofs.Perm.{perm-sym}
 use Rattle.model.proofs.Apart.{Every, every-mem, mem-every, every-append, every-perm}
-use Rattle.ranking.specs.Recognizer.{Moved, stops, goes}
-use Rattle.ranking.specs.Ranks.{Ranked, RankedState, passed, added, shifted, lengths, leastRank, rerank, putIn, expandRanked, predictRanked, scanRanked, withoutFront, applyRanked, stepRanked}
+use Rattle.ranking.specs.Recognizer.{stops, goes}
+use Rattle.ranking.specs.Ranks.{Ranked, passed, added, shifted, lengths, leastRank, rerank, expandRanked, predictRanked, scanRanked, withoutFront, applyRanked, stepRanked}
 use Rattle.ranking.proofs.Bounds.{Rising, ranks-rising}
 use Rattle.ranking.proofs.Limits.{Reached, reached-step, predict-length}
 use Rattle.ranks.specs.Prediction.{Prediction, Short, Behind, Apart, Sized, ranks, lanes, packed, unpacked, remade}
@@ -38,7 +37,7 @@ use Rattle.ranks.proofs.Fronts.{front-least, front-takes, front-unequal
 use Rattle.ranks.proofs.Two.{two-four, other-some, two-goes, two-begins, two-apart, two-bounded}
 use Rattle.ranks.proofs.Scanning as alone
 use Rattle.ranks.proofs.Holding.{queue-length, queue-first, front-number, others-numbers, each-held}
-use Rattle.ranks.proofs.Predicting.{each-lane, goesTo, daughters-are, others-short, others-behind, gathered-goes, gathered-fits, others-apart, begun-ranks, begun-components, front-begins, daughters-fit, predicted-numbers}
+use Rattle.ranks.proofs.Predicting.{each-lane, goesTo, daughters-are, others-short, others-behind, gathered-goes, gathered-fits, others-apart, begun-components, front-begins, daughters-fit, predicted-numbers}
 use Rattle.ranks.proofs.Stepping.{take-same}
 
 -- a nonlexical rule of the front's category leads on

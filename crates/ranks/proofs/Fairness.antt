@@ -1,6 +1,6 @@
 -- A front has room for what is gathered: one of its ranks is 0, and no two components that move others share rank 0.
 -- Assumes nothing.
-use mathlib.Core.Path.{_≡_, refl, sym, ap, _∙_}
+use mathlib.Core.Path.{_≡_, refl}
 use mathlib.Core.Bool.{Bool, true, false}
 use mathlib.Core.Logic.{_⊎_, ⊎-elim}
 use mathlib.Core.List.{List, [], _∷_}
@@ -10,7 +10,7 @@ use borrow.Author.Tests.{eqb-true, eqb-false}
 use lib.Dec.{eqb}
 use Rattle.ranks.specs.declared.prediction.Moves.{Moves}
 use Rattle.ranks.specs.Moves.{nothing, withOther, withIf, withOne, gathered, Bounded}
-use Rattle.ranks.proofs.Gathering.{Free, Fair}
+use Rattle.ranks.proofs.Gathering.{Fair}
 
 -- ---- bounds
 

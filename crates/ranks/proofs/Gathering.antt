@@ -1,9 +1,9 @@
 -- Components of length 1 move nothing.
 -- Assumes nothing.
-use mathlib.Core.Path.{_≡_, refl, sym, ap, ap₂, _∙_}
+use mathlib.Core.Path.{_≡_, refl, ap}
 use mathlib.Core.Bool.{Bool, true, false}
 use mathlib.Core.List.{List, [], _∷_}
-use Prim.Native.Nat.{ℕ, _+_, _-_, _<_, _≤_}
+use Prim.Native.Nat.{ℕ, _+_, _-_, _≤_}
 use native.Mathlib.Omega.{arith}
 use borrow.Author.Tests.{eqb-true, eqb-false}
 use lib.Dec.{eqb}
@@ -12,7 +12,7 @@ use Rattle.ranks.specs.declared.prediction.Moves.{Moves}
 use Rattle.ranking.specs.Ranks.{above, passed, added, shifted}
 use Rattle.ranks.specs.Prediction.{Prediction, Apart, unpacked}
 use Rattle.ranks.specs.Queue.{Every}
-use Rattle.ranks.specs.Moves.{movesRanks, movesLengths, nothing, withOther, withIf, withOne, gathered, Bounded}
+use Rattle.ranks.specs.Moves.{movesRanks, movesLengths, withOther, withIf, withOne, gathered}
 use Rattle.ranks.proofs.Moved.{each-also}
 
 -- two and three behind the others

@@ -2,14 +2,14 @@
 -- Assumes nothing.
 use mathlib.Core.Path.{_≡_, refl, sym, ap, ap₂, subst⁻¹, _∙_}
 use mathlib.Core.Bool.{Bool, true, false}
-use Prim.Native.Nat.{ℕ, zero, suc, _+_, _-_, _*_, _/_, _%_, _^_, _<_, _≤_}
+use Prim.Native.Nat.{ℕ, zero, suc, _+_, _-_, _*_, _/_, _<_}
 use native.Mathlib.Omega.{arith}
 use borrow.Author.Tests.{ltb-true, ltb-false}
 use lib.Dec.{ltb}
 use lib.Bits.{bitAnd, and-block, and-shr, and-high, and-zero-r, and-zero-l, and-mask, and-comm}
 use Rattle.model.specs.Base.{if_then_else_}
 use Rattle.ranking.specs.Ranks.{above}
-use Rattle.ranks.specs.Prediction.{Prediction, Short, Sized, Each, Flags, lanes, packed, unpacked, rerank, marks}
+use Rattle.ranks.specs.Prediction.{Prediction, Short, Sized, Flags, lanes, packed, unpacked, marks}
 use Rattle.ranks.proofs.Packing.{unpacked-packed}
 
 -- ---- a mask, place by place

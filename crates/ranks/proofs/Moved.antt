@@ -2,14 +2,14 @@
 -- Assumes nothing.
 use mathlib.Core.Path.{_≡_, refl, sym, ap, ap₂, _∙_}
 use mathlib.Core.Bool.{Bool, true, false}
-use mathlib.Core.List.{List, [], _∷_}
+use mathlib.Core.List.{[], _∷_}
 use Prim.Native.Nat.{ℕ, zero, suc, _+_, _-_, _*_, _<_, _≤_}
 use native.Mathlib.Omega.{arith}
 use borrow.Author.Tests.{ltb-true, lt-ltb}
 use lib.Dec.{ltb}
 use Rattle.model.specs.Base.{if_then_else_}
 use Rattle.ranking.specs.Ranks.{above, passed, added, shifted}
-use Rattle.ranks.specs.Prediction.{Prediction, Short, Behind, Apart, Each, lanes, packed, unpacked, rerank, marks, remade}
+use Rattle.ranks.specs.Prediction.{Prediction, Behind, Apart, Each, lanes, packed, unpacked, rerank, marks, remade}
 use Rattle.ranks.proofs.Packing.{packed-unpacked}
 
 -- ---- sums, place by place
@@ -90,19 +90,6 @@ module _ (d t u v o s : ℕ) (e : d + t + u + v + o ≡ s) where
 -- and before the ones are taken off
 
 module _ (x : ℕ) where
-  pub moved-sum : (f n t m : ℕ) → t ≡ packed (marks (above f 1) (unpacked x)) → m ≡ packed (marks (above f n) (unpacked x)) → remade (shifted (f ∷ []) (n ∷ [])) x + t ≡ x + m
-  moved-sum f n t m e d =
-      let p = unpacked x in
-      ap (λ (y : ℕ). remade (shifted (f ∷ []) (n ∷ [])) x + y) e
-      ∙ lane-add (shifted (f ∷ []) (n ∷ [])) (above f 1) (unpacked x)
-      ∙ lane-same (λ r. shifted (f ∷ []) (n ∷ []) r + above f 1 r) (λ r. r + above f n r) (unpacked x)
-      (record { least = one (p .least); rank3 = one (p .rank3); rank2 = one (p .rank2); rank1 = one (p .rank1); rank0 = one (p .rank0) })
-      ∙ sym (lane-add (λ r. r) (above f n) (unpacked x))
-      ∙ ap₂ (λ (a b : ℕ). a + b) (packed-unpacked x) (sym d)
-    where
-      one : (r : ℕ) → shifted (f ∷ []) (n ∷ []) r + above f 1 r ≡ r + above f n r
-      one r = omega (arith, above-some f r)
-
   pub shifted-sum : (n : ℕ) → Behind (unpacked x) → remade (shifted (0 ∷ []) (n ∷ [])) x + 2251799948165633 ≡ x + n * 2251799948165633
   shifted-sum n h =
       lane-add (shifted (0 ∷ []) (n ∷ [])) (λ r. 1) (unpacked x)

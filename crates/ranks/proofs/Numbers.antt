@@ -5,9 +5,9 @@ use mathlib.Core.Bool.{Bool, true, false}
 use mathlib.Core.List.{List, [], _∷_, _++_, map}
 use Prim.Native.Nat.{ℕ, _+_, _<_, _≤_}
 use native.Mathlib.Omega.{arith}
-use native.Mathlib.Decide.{decLt, ℕ-discrete}
+use native.Mathlib.Decide.{decLt}
 use lib.Dec.{ltb}
-use lib.ListN.{length, getD, take}
+use lib.ListN.{length, take}
 use borrow.Author.Tests.{lt-ltb, le-ltb}
 use Rattle.model.specs.Base.{if_then_else_}
 use Rattle.model.specs.Grammar.{Grammar, dimension}
@@ -16,7 +16,7 @@ use Rattle.model.proofs.Perm.{perm-sym}
 use Rattle.model.proofs.Apart.{Every, every-to, every-perm}
 use Rattle.ranking.specs.Ranks.{Ranked, leastRank, insertRanked, putIn}
 use Rattle.ranking.proofs.Bounds.{Rising}
-use Rattle.ranks.specs.Prediction.{Prediction, Sized, ranks, packed, unpacked}
+use Rattle.ranks.specs.Prediction.{Prediction, Sized, ranks, unpacked}
 use Rattle.ranks.specs.Queue.{insert, insertIf, insertAll}
 use Rattle.ranks.specs.Held.{laneOf, inLanes, numberOf, predictionOf, Fits}
 use Rattle.ranks.proofs.Packing.{unpacked-packed, packed-rises}

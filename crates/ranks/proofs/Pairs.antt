@@ -4,10 +4,8 @@ use mathlib.Core.Path.{_≡_, subst}
 use mathlib.Core.List.{List, [], _∷_, _++_}
 use Prim.Native.Nat.{ℕ, zero, suc, _≤_}
 use native.Mathlib.Omega.{arith}
-use lib.ListN.{length}
 use Rattle.model.specs.Base.{numbersFrom}
 use Rattle.model.specs.WellFormed.{Perm, same, more, swap, chain}
-use Rattle.model.proofs.Perm.{perm-sym}
 use Rattle.model.proofs.Apart.{Every, every-left, every-perm}
 
 module _ {A : Type 0} (D : A → A → Type 0) where

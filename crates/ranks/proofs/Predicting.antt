@@ -3,14 +3,14 @@
 use mathlib.Core.Path.{_≡_, refl, sym, ap, ap₂, subst, subst⁻¹, _∙_}
 use mathlib.Core.Bool.{false}
 use mathlib.Core.List.{List, [], _∷_, _++_, map, List·Memᴰ, List·Memᴰ·head, List·Memᴰ·tail}
-use Prim.Native.Nat.{ℕ, zero, suc, _+_, _-_, _*_, _<_, _≤_}
+use Prim.Native.Nat.{ℕ, zero, suc, _+_, _-_, _<_, _≤_}
 use native.Mathlib.Omega.{arith}
 use lib.ListN.{length, getD, take, length-map}
 use Rattle.model.specs.Base.{numbersFrom}
-use Rattle.model.specs.Grammar.{Variable, Rule, Grammar, isLexical, dimension}
+use Rattle.model.specs.Grammar.{Rule, Grammar, isLexical, dimension}
 use Rattle.model.specs.WellFormed.{RightRule}
 use Rattle.model.proofs.Apart.{Every, every-to, every-mem, mem-every, every-left, every-perm}
-use Rattle.ranking.specs.Ranks.{Ranked, RankedState, passed, added, above, shifted, lengths, leastRank, rerank, variableRanks, rankOf, putIn, daughtersRanked, expandRanked, predictRanked}
+use Rattle.ranking.specs.Ranks.{Ranked, passed, added, shifted, lengths, leastRank, rerank, variableRanks, rankOf, daughtersRanked, expandRanked, predictRanked}
 use Rattle.ranking.proofs.Bounds.{Rising, ranks-rising}
 use Rattle.ranking.proofs.Limits.{Reached}
 use Rattle.ranking.proofs.Moving.{LeastGoes, shifted-least}

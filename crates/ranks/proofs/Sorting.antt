@@ -3,11 +3,11 @@
 use mathlib.Core.Path.{_≡_, refl, sym, ap, ap₂, _∙_}
 use mathlib.Core.Bool.{Bool, true, false}
 use mathlib.Core.List.{List, [], _∷_}
-use Prim.Native.Nat.{ℕ, _+_, _<_, _≤_, min, max}
+use Prim.Native.Nat.{ℕ, _<_, _≤_, min, max}
 use native.Mathlib.Omega.{arith}
 use borrow.Author.Tests.{ltb-true, ltb-false, lt-ltb, le-ltb}
 use lib.Dec.{ltb}
-use Rattle.ranks.specs.Queue.{insertIf, insert, insertAll}
+use Rattle.ranks.specs.Queue.{insertIf, insert}
 use Rattle.ranks.specs.Daughters.{Rising}
 
 insert-before : (a x : ℕ) (q : List ℕ) → a < x → insert a (x ∷ q) ≡ a ∷ (x ∷ q)

@@ -5,13 +5,13 @@ use mathlib.Core.Bool.{Bool, true, false}
 use mathlib.Core.List.{List, [], _∷_, map}
 use Prim.Native.Nat.{ℕ, _+_, _-_, _*_, _/_, _%_, _<_, _≤_, min}
 use native.Mathlib.Omega.{arith}
-use borrow.Author.Tests.{eq-eqb, ne-eqb, eqb-true, eqb-false, le-ltb, ltb-true, ltb-false}
+use borrow.Author.Tests.{eq-eqb, ne-eqb, eqb-true, eqb-false, le-ltb}
 use lib.Dec.{ltb, eqb}
 use lib.ListN.{length, getD, take}
 use Rattle.model.specs.Base.{if_then_else_}
 use Rattle.ranking.specs.Ranks.{above, passed, added, shifted, leastRank}
 use Rattle.ranks.specs.declared.prediction.Moves.{Moves}
-use Rattle.ranks.specs.Prediction.{Sized, packed, unpacked, lanes}
+use Rattle.ranks.specs.Prediction.{packed, unpacked, lanes}
 use Rattle.ranks.specs.Moves.{movesRanks, movesLengths, Bounded}
 use Rattle.ranks.specs.Daughters.{daughter, Alone}
 use Rattle.ranks.specs.Step.{twoMoves, twoBegins, beginsFor}

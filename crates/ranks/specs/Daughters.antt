@@ -5,7 +5,7 @@ use mathlib.Core.List.{List, [], _∷_}
 use Prim.Native.Nat.{ℕ, _+_, _/_, _%_, _≤_, min}
 use lib.ListN.{getD}
 use Rattle.ranks.specs.Prediction.{Prediction, unpacked}
-use Rattle.ranks.specs.Queue.{insert, insertAll}
+use Rattle.ranks.specs.Queue.{insertAll}
 
 -- a prediction of these ranks, otherwise as the packed one, with `mark` added to its number
 abbrev pub reranked : ℕ → ℕ → ℕ → ℕ → ℕ → ℕ → Prediction

@@ -1,9 +1,8 @@
 -- Which ranks of the queue move, and by how much: the front's components whose lengths are not 1.
 -- Assumes nothing.
-use mathlib.Core.Path.{_≡_}
 use mathlib.Core.Bool.{Bool, true, false}
 use mathlib.Core.List.{List, [], _∷_}
-use Prim.Native.Nat.{ℕ, _+_, _/_, _%_, _<_, _≤_}
+use Prim.Native.Nat.{ℕ, _/_, _%_, _<_}
 use lib.Dec.{eqb}
 use Rattle.ranks.specs.declared.prediction.Four.{Four}
 use Rattle.ranks.specs.declared.prediction.Moves.{Moves}

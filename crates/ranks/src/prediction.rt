@@ -83,13 +83,6 @@ pub fn alone(x: u64, b: u64, mark: u64) -> u64
     x + b * ONES + x % LANE * LEAST + mark * NUMBER
 }
 
-// Its least rank.
-pub fn least(x: u64) -> u64
-    ensures { λ l. ⌜ l ≡ unpacked x .least ⌝ }
-{
-    x / LEAST
-}
-
 // Its number.
 pub fn number(x: u64) -> u64
     ensures { λ n. ⌜ n ≡ unpacked x .number ⌝ }
@@ -140,16 +133,8 @@ fn spread(t: u64, len: u64) -> u64
     (t * LANE - t) & (len * ONES)
 }
 
-// Each rank that lies above f has len - 1 more: where the component of rank f gives way to len variables.
-pub fn moved(x: u64, f: u64, len: u64) -> u64
-    requires { ⌜ Short (unpacked x) × (f < 256) × (len < 256) ⌝ }
-    ensures { λ y. ⌜ y ≡ remade (shifted (f ∷ []) (len ∷ [])) x ⌝ }
-{
-    let t = reached(x, f);
-    x + spread(t, len) - t
-}
-
-// The same for the front's component of rank 0 and one other, in a prediction that is not the front.
+// Each rank has len0 - 1 more, where the front's component of rank 0 gives way to len0 variables, and each that lies above f1 has len1 - 1 more, where another
+// of rank f1 gives way to len1, in a prediction that is not the front.
 pub fn moved1(x: u64, len0: u64, f1: u64, len1: u64) -> u64
     requires { ⌜ Short (unpacked x) × Behind (unpacked x) × Apart (0 ∷ (f1 ∷ [])) (len0 ∷ (len1 ∷ [])) (unpacked x) × (len0 < 256) × (f1 < 256) × (len1 < 256) ⌝ }
     ensures { λ y. ⌜ y ≡ remade (shifted (0 ∷ (f1 ∷ [])) (len0 ∷ (len1 ∷ []))) x ⌝ }

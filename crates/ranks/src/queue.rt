@@ -16,7 +16,7 @@ use crate::prediction::pack;
 use crate::prediction::shifted;
 use model::Category;
 
-// 64 predictions for each of 98 queues.
+// 64 predictions for each of the 97 queues of a run, and as many cells behind the last.
 pub const ROOM: usize = 6272;
 
 // The predictions from..to, which are behind the front, to `out` on: the front's component of rank 0 gives way to len0 variables.

@@ -1,5 +1,5 @@
 // The rules of a grammar as a table, made once for a call: CELLS cells a rule, which begin at the place that `place_of` gives. How a cell is packed is known
-// in this file, by whose constants the table is made (crate `rule_table`), and nowhere else.
+// by the constants of this file, by which the table is made too (crate `rule_table`).
 ghost use mathlib.Core.Path.{_≡_};
 ghost use Prim.Native.Nat.{_+_, _*_, _%_, _<_, _≤_};
 ghost use lib.ListN.{getD};
@@ -147,5 +147,5 @@ pub fn ready_made(t: &[u64; TABLE], at: usize, j: usize, mark: u64) -> u64
     requires { ⌜ (at + 8 ≤ 2048) × (j < 3) × (getD (now t) (at + 2 + 2 * j) 0 < 1152921504606846976) × (mark < 512) ⌝ }
     ensures { λ y. ⌜ y ≡ marked mark (getD (now (t .entry)) (at + 2 + 2 * j) 0) ⌝ }
 {
-    marked(t[at + FIRST_DAUGHTER + 2 * j], mark)
+    marked(daughter_cell(t, at, j), mark)
 }

@@ -3,10 +3,10 @@
 ghost use mathlib.Core.Option.{none};
 ghost use mathlib.Core.Path.{_≡_};
 ghost use Prim.Native.Nat.{_+_, _*_, _<_, _≤_};
-ghost use lib.Dec.{ltb, eqb};
+ghost use lib.Dec.{ltb};
 ghost use lib.ListN.{length};
 ghost use Rattle.model.specs.Base.{if_then_else_};
-ghost use Rattle.model.specs.GrammarFile.{field, rulesOf, grammarRefusal, grammarOf};
+ghost use Rattle.model.specs.GrammarFile.{field, grammarRefusal, grammarOf};
 ghost use Rattle.ranks.specs.Prediction.{Sized, packed};
 ghost use Rattle.ranks.specs.Daughters.{daughter};
 ghost use Rattle.ranks.specs.Table.{Compiled};
@@ -22,8 +22,7 @@ use grammar::record_daughter;
 use grammar::record_daughters;
 use grammar::record_of;
 use grammar::record_word;
-use grammar::rules;
-use model::MOST_RULES;
+use grammar::rules_held;
 use model::RuleNumber;
 use ranks::daughters::Three;
 use ranks::daughters::larger;
@@ -193,21 +192,13 @@ fn put(t: &mut [u64; TABLE], at: usize, cells: [u64; CELLS])
     }
 }
 
-// How many rules the table holds: all of them, in a file that the reader accepts.
-fn held(file: &[u8]) -> usize
-    ensures { λ n. ⌜ (n ≤ 256) × (rulesOf (now (file .entry)) ≤ 256 → n ≡ rulesOf (now (file .entry))) ⌝ }
-{
-    let n = rules(file) as usize;
-    if n <= MOST_RULES { n } else { MOST_RULES }
-}
-
 // The table of the file's rules.
 pub fn compile(file: &[u8]) -> [u64; TABLE]
     ensures { λ t. ⌜ (grammarRefusal (now (file .entry)) ≡ none → Compiled (grammarOf (now (file .entry))) t) ⌝ }
 {
     let mut t = [0u64; TABLE];
     let d = dimensions(file);
-    let n = held(file);
+    let n = rules_held(file) as usize;
     let mut r: usize = 0;
     while r < n {
         let e = record_of(file, RuleNumber(r as u16));

@@ -4,20 +4,18 @@ use mathlib.Core.Path.{_≡_, refl, sym, ap, ap₂, subst, subst⁻¹, _∙_}
 use mathlib.Core.Bool.{Bool, true, false}
 use mathlib.Core.Option.{Option, none, some}
 use mathlib.Core.List.{List, [], _∷_, map}
-use Prim.Native.Nat.{ℕ, zero, suc, _+_, _-_, _*_, _<_, _≤_}
+use Prim.Native.Nat.{ℕ, suc, _+_, _-_, _*_, _<_, _≤_}
 use native.Mathlib.Omega.{arith}
 use borrow.Author.Tests.{eq-eqb, ne-eqb, ltb-true, ltb-false}
 use lib.Dec.{eqb, ltb}
-use lib.ListN.{length, getD, getElem?, take, drop, length-map, drop-of-length-le}
+use lib.ListN.{length, getD, drop, length-map, drop-of-length-le}
 use lib.Seq.{slice, drop-cons}
 use Rattle.model.specs.Base.{if_then_else_}
 use Rattle.model.specs.Grammar.{Rule, Grammar, emptyWord, ruleAt, isLexical}
-use Rattle.model.specs.GrammarFile.{rulesOf, grammarOf}
 use Rattle.model.specs.Step.{wordFits}
 use Rattle.model.proofs.Apart.{Every}
-use Rattle.model.proofs.WellFormed.{rules-length}
-use Rattle.ranking.specs.Recognizer.{Moved, stops, goes}
-use Rattle.ranking.specs.Ranks.{Ranked, RankedState, rerank, lowered, scanRanked, readRanked, withoutFront, predictRanked, applyRanked, stepRanked}
+use Rattle.ranking.specs.Recognizer.{stops, goes}
+use Rattle.ranking.specs.Ranks.{Ranked, rerank, lowered, scanRanked, readRanked, withoutFront, predictRanked, applyRanked, stepRanked}
 use Rattle.ranking.specs.Numbered.{madeAt, numberAt}
 use Rattle.ranking.proofs.Limits.{predict-length}
 use Rattle.ranking.proofs.Numbered.{Below}
@@ -34,8 +32,8 @@ use Rattle.steps.specs.declared.Standing.{Standing}
 use Rattle.steps.specs.declared.Heard.{Heard}
 use Rattle.steps.specs.declared.Heard.the-variants.{Next, Other}
 use Rattle.steps.specs.declared.Stepped.the-variants.{Halts, Long, Leads}
-use Rattle.steps.specs.Steps.{stateIn, Ready, Fronted, heardBy, taken, readBy, aheadWith, ahead, Advances, LeadsTo, StepSays}
-use Rattle.steps.proofs.Onward.{state, pending, leads-there, stands-there, rule, x, R, split, right, reached-front, fit-front, others-length, scans, predicts}
+use Rattle.steps.specs.Steps.{stateIn, Ready, Fronted, heardBy, taken, readBy, aheadWith, Advances, StepSays}
+use Rattle.steps.proofs.Onward.{state, pending, leads-there, stands-there, rule, x, R, right, reached-front, fit-front, others-length, scans, predicts}
 
 -- a word is heard: so many words are then read, and the recognizer goes there; another word halts it
 pub record Reads (word read n : ℕ) (sentence : List ℕ) : Type 0 where
@@ -260,15 +258,6 @@ module _ (g : Grammar) (t sentence w : List ℕ) (at : Standing) (ready : Ready 
         next-length fits (ready .known) w′
         (subst (λ (n : ℕ). NextQueue (map numberOf (predictRanked (numberAt (at .steps)) g (front .rule) (x g t sentence w at ready r front) (R g t sentence w at ready r front))) w w′ (at .to) (at .to + (at .to - at .from - 1 + n))) (sym (cells .daughters))
         (subst (λ (n : ℕ). NextQueue (map numberOf (expandedQueue g (front .rule) n w (at .from) (at .to))) w w′ (at .to) (at .to + (at .to - at .from - 1 + length (front .rule .daughters)))) mark-is next))
-
--- rule numbers of a file
-past-end : {A : Type 0} (l : List A) (r : ℕ) → length l ≤ r → getElem? l r ≡ none
-past-end [] r h = refl
-past-end (x ∷ l) zero h = absurd (omega arith)
-past-end (x ∷ l) (suc r) h = past-end l r (omega arith)
-
-pub rule-none : (file : List ℕ) (r : ℕ) → rulesOf file ≤ r → ruleAt (grammarOf file) r ≡ none
-rule-none file r h = past-end (grammarOf file .rules) r (omega (arith, rules-length file))
 
 -- a rule number that does not apply: there is no such rule, no prediction, or a rule of another category
 module _ (g : Grammar) (t sentence w : List ℕ) (at : Standing) (ready : Ready g t sentence w at) (r : ℕ) where

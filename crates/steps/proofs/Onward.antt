@@ -1,24 +1,24 @@
 -- One step: what it leads to by the definition, and that the recognizer stands there.
 -- Assumes nothing.
-use mathlib.Core.Path.{_≡_, refl, sym, ap, ap₂, subst, subst⁻¹, _∙_}
+use mathlib.Core.Path.{_≡_, sym, ap, ap₂, subst, subst⁻¹, _∙_}
 use mathlib.Core.Bool.{Bool, true, false}
-use mathlib.Core.Option.{Option, some}
-use mathlib.Core.List.{List, [], _∷_, map}
+use mathlib.Core.Option.{Option}
+use mathlib.Core.List.{List, _∷_, map}
 use Prim.Native.Nat.{ℕ, suc, _+_, _-_, _*_, _<_, _≤_}
 use native.Mathlib.Omega.{arith}
 use borrow.Author.Tests.{eq-eqb}
-use lib.ListN.{length, getD, take, drop}
+use lib.ListN.{length, getD, drop}
 use lib.Seq.{slice}
 use Rattle.model.specs.Base.{if_then_else_}
-use Rattle.model.specs.Grammar.{Rule, Grammar, emptyWord, ruleAt, isLexical}
+use Rattle.model.specs.Grammar.{Rule, Grammar, isLexical}
 use Rattle.model.specs.WellFormed.{RightRule}
 use Rattle.model.proofs.Apart.{Every, every-to}
-use Rattle.ranking.specs.Recognizer.{Moved, stops, goes}
+use Rattle.ranking.specs.Recognizer.{stops, goes}
 use Rattle.ranking.specs.Ranks.{Ranked, RankedState, scanRanked, withoutFront, predictRanked, applyRanked, stepRanked}
 use Rattle.ranking.specs.Numbered.{madeAt, numberAt}
 use Rattle.ranking.proofs.Limits.{Reached, reached-step, Counts, step-counts}
 use Rattle.ranking.proofs.Numbered.{Below, below-step}
-use Rattle.ranks.specs.Held.{numberOf, predictionOf, queueIn, Fits, Held}
+use Rattle.ranks.specs.Held.{numberOf, predictionOf, queueIn, Fits}
 use Rattle.ranks.specs.Queue.{room}
 use Rattle.ranks.proofs.Fitting.{all-fit}
 use Rattle.ranks.proofs.Holding.{queue-is, held, queue-length, queue-first}

@@ -1,4 +1,4 @@
--- The path of a walk leads, by document 01's recognizer with ranks, from the start to where the walk stands; so what still comes are the live prefixes
+-- The path of a walk leads, by the recognizer with ranks, from the start to where the walk stands; so what still comes are the live prefixes
 -- after the path in dictionary order.
 -- Assumes nothing.
 use mathlib.Core.Path.{_≡_, refl, sym, ap, subst, _∙_}

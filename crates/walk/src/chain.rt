@@ -1,12 +1,12 @@
 // The rules of each category, found without looking at the others: a table made once for a call.
 ghost use mathlib.Core.Option.{none};
 ghost use mathlib.Core.Path.{_≡_};
-ghost use Prim.Native.Nat.{_+_, _<_, _≤_};
+ghost use Prim.Native.Nat.{_+_, _<_};
 ghost use lib.ListN.{getD};
-ghost use Rattle.model.specs.GrammarFile.{rulesOf, grammarRefusal, grammarOf};
+ghost use Rattle.model.specs.GrammarFile.{grammarRefusal, grammarOf};
 ghost use Rattle.walk.specs.Chain.{noRule, Chained};
 use grammar::category_of;
-use grammar::rules;
+use grammar::rules_held;
 use model::Category;
 use model::MOST_CATEGORIES;
 use model::MOST_RULES;
@@ -18,20 +18,12 @@ pub const NO_RULE: u16 = 256;
 // A cell for each category and one for each rule.
 pub const CHAIN: usize = MOST_CATEGORIES + MOST_RULES;
 
-// How many rules there are; the table holds the rules below NO_RULE.
-fn rule_count(file: &[u8]) -> u16
-    ensures { λ n. ⌜ (n ≤ 256) × (rulesOf (now (file .entry)) ≤ 256 → n ≡ rulesOf (now (file .entry))) ⌝ }
-{
-    let n = rules(file);
-    if n <= NO_RULE { n } else { NO_RULE }
-}
-
 // Cell a has the first rule of category a, cell MOST_CATEGORIES + r the next one of rule r's category; NO_RULE where there is none.
 pub fn chain_rules(file: &[u8]) -> [u16; CHAIN]
     ensures { λ c. ⌜ (grammarRefusal (now (file .entry)) ≡ none → Chained (grammarOf (now (file .entry))) c) ⌝ }
 {
     let mut chain = [NO_RULE; CHAIN];
-    let mut r = rule_count(file);
+    let mut r = rules_held(file);
     while 0 < r {
         r -= 1;
         let a = category_of(file, RuleNumber(r)).0 as usize;

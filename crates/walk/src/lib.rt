@@ -3,10 +3,7 @@ mod chain;
 mod prefixes;
 
 pub use chain::CHAIN;
-pub use chain::NO_RULE;
 pub use chain::chain_rules;
-pub use chain::first_rule;
-pub use chain::next_rule;
 pub use prefixes::Walked;
 pub use prefixes::at_end;
 pub use prefixes::next;

@@ -1,7 +1,7 @@
 -- `steps::apply` meets its contract.
 -- Assumes nothing.
 use mathlib.Core.Path.{_≡_, sym, ap, subst, _∙_}
-use Prim.Native.Nat.{ℕ, _+_, _-_, _*_, _≤_}
+use Prim.Native.Nat.{_+_, _-_, _*_, _≤_}
 use native.Mathlib.Omega.{arith}
 use Rattle.ranks.specs.Table.{daughtersIn}
 use Rattle.steps.specs.declared.Standing.{Standing}

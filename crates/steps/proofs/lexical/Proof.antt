@@ -1,7 +1,6 @@
 -- `steps::lexical` meets its contract.
 -- Assumes nothing.
 use mathlib.Core.Path.{sym, ap, subst, _∙_}
-use Prim.Native.Nat.{ℕ, _*_}
 use native.Mathlib.Omega.{arith}
 use Rattle.ranks.specs.Table.{wordIn}
 use Rattle.steps.specs.declared.Standing.{Standing}

@@ -1,11 +1,12 @@
 -- `steps::step` meets its contract.
 -- Assumes nothing.
-use mathlib.Core.Path.{_≡_, sym, ap, _∙_}
+use mathlib.Core.Path.{sym, ap, _∙_}
 use native.Mathlib.Omega.{arith}
 use Rattle.model.specs.GrammarFile.{grammarOf}
 use Rattle.model.proofs.FromFile.{ruleRead, rule-read}
 use Rattle.ranks.specs.Table.{categoryIn}
-use Rattle.steps.proofs.Applying.{rule-none, no-rule, no-prediction, other-category}
+use Rattle.grammar.proofs.OfGrammar.{rule-none}
+use Rattle.steps.proofs.Applying.{no-rule, no-prediction, other-category}
 use borrow.Author.Needs.{needs}
 use Rattle.steps.proofs.step.Statement.{statement}
 use Rattle.steps.proofs.step.Tie as tie

@@ -1,6 +1,6 @@
 -- `ranks::daughters::made_wide` meets its contract.
 -- Assumes nothing.
-use mathlib.Core.Path.{_≡_, sym, ap, ap₂, subst⁻¹, _∙_}
+use mathlib.Core.Path.{_≡_, ap, ap₂, subst⁻¹, _∙_}
 use Prim.Native.Nat.{ℕ, _+_, _/_, _%_, min}
 use lib.ListN.{getD}
 use borrow.Author.Needs.{needs}

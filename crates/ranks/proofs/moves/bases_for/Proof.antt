@@ -2,7 +2,6 @@
 -- Assumes nothing.
 use mathlib.Core.Path.{sym, ap, subst, _∙_}
 use mathlib.Core.Bool.{Bool}
-use borrow.Author.Needs.{needs}
 use Rattle.ranks.specs.Step.{BeginsFor, beginsFor}
 use Rattle.ranks.proofs.moves.bases_for.Statement.{statement}
 use Rattle.ranks.proofs.moves.bases_for.Tie as tie

@@ -1,13 +1,11 @@
 -- `ranks::prediction::shifted` meets its contract.
 -- Assumes nothing.
-use mathlib.Core.Path.{_≡_}
 use mathlib.Core.List.{[], _∷_}
-use Prim.Native.Nat.{ℕ, _+_, _*_}
+use Prim.Native.Nat.{_+_, _*_}
 use native.Mathlib.Omega.{arith}
 use borrow.Author.Needs.{needs}
-use Rattle.ranking.specs.Ranks.{above, shifted}
-use Rattle.ranks.specs.Prediction.{unpacked, packed, marks, remade}
-use Rattle.ranks.proofs.Lanes.{marked-flags, marked-spread}
+use Rattle.ranking.specs.Ranks.{shifted}
+use Rattle.ranks.specs.Prediction.{remade}
 use Rattle.ranks.proofs.Moved.{less, shifted-sum}
 use Rattle.ranks.proofs.prediction.shifted.Statement.{statement}
 use Rattle.ranks.proofs.prediction.shifted.Tie as tie

@@ -1,12 +1,12 @@
 -- `ranks::queue::shift` meets its contract.
 -- Assumes nothing.
-use mathlib.Core.Path.{_≡_, refl, sym, ap, subst}
+use mathlib.Core.Path.{_≡_, subst}
 use mathlib.Core.List.{[], _∷_}
 use Prim.Native.Nat.{ℕ, _+_, _-_, _<_, _≤_}
 use native.Mathlib.Omega.{arith}
 use borrow.Author.Needs.{needs}
 use Rattle.ranking.specs.Ranks.{shifted}
-use Rattle.ranks.specs.Prediction.{Short, Behind, Apart, remade}
+use Rattle.ranks.specs.Prediction.{Short, Behind, remade}
 use Rattle.ranks.specs.Queue.{Mapped}
 use Rattle.ranks.proofs.Copying.{mapped-none, every-read, mapped-more}
 use Rattle.ranks.proofs.queue.shift.Statement.{statement}

@@ -23,14 +23,17 @@ abbrev μ-loop : tie.MeasureT-loop
 dimensions-requires : tie.Need-dimensions-requires Inv-loop μ-loop
 dimensions-requires c κs = search needs
 
-held-requires : tie.Need-held-requires Inv-loop μ-loop
-held-requires c κs = search needs
+rules-held-requires : tie.Need-rules-held-requires Inv-loop μ-loop
+rules-held-requires c κs = search needs
+
+cast-n : tie.Need-cast-n Inv-loop μ-loop
+cast-n c = search needs
 
 loop-holds : tie.Need-loop-holds Inv-loop μ-loop
 loop-holds c = search needs
 
-cast-t8 : tie.Need-cast-t8 Inv-loop μ-loop
-cast-t8 c = search needs
+cast-t9 : tie.Need-cast-t9 Inv-loop μ-loop
+cast-t9 c = search needs
 
 record-of-requires : tie.Need-record-of-requires Inv-loop μ-loop
 record-of-requires c κs = search needs
@@ -65,7 +68,7 @@ returns c accepted =
     let i = c .before .loop in
     let f = c .before .before .before .before .before .args .file .now in
     compiled f (λ j. c .before .before .before .before .shared-slice-known .given j .fits) accepted (i .t) (i .inv .1)
-    (λ q h. i .inv .2 q (omega (arith, c .before .before .held .ensures .1 (rules-in f accepted .1))))
+    (λ q h. i .inv .2 q (omega (arith, c .before .before .rules-held .ensures .1 (rules-in f accepted .1))))
 
 pub compile-spec : {M : Type 1} → statement M
 compile-spec =
@@ -74,9 +77,10 @@ compile-spec =
     Inv-loop
     μ-loop
     dimensions-requires
-    held-requires
+    rules-held-requires
+    cast-n
     loop-holds
-    cast-t8
+    cast-t9
     record-of-requires
     mul-put
     cells-of-requires
