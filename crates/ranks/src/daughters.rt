@@ -23,7 +23,7 @@ use crate::table::places_cell;
 // A category has at most so many components.
 const COMPONENTS: u64 = 4;
 
-// Three numbers in rising order.
+// Three numbers, the lowest first.
 pub struct Three {
     pub low: u64,
     pub mid: u64,

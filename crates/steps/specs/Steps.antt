@@ -29,7 +29,7 @@ abbrev pub stateIn : Grammar → List ℕ → List ℕ → Standing → RankedSt
 stateIn g sentence w at = record { queue = queueIn g w (at .from) (at .to); words = drop (at .read) sentence }
 
 -- The recognizer stands there: the table is the grammar's; steps reach the state; predictions have numbers that steps before gave; each step added at most
--- 2 to the queue, which is no longer than the steps left, so that it has at most 64 predictions; and it ends where the queues of so many steps may end.
+-- 2 to the queue, which is no longer than the steps left, so that it has at most 64 predictions; and the queues so far, 64 cells for each, have room for it.
 pub record Ready (g : Grammar) (t sentence w : List ℕ) (at : Standing) : Type 0 where
   pub well : WellFormed g
   pub compiled : Compiled g t

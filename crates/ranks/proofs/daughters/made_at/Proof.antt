@@ -1,16 +1,13 @@
 -- `ranks::daughters::made_at` meets its contract.
 -- Assumes nothing.
-use mathlib.Core.Path.{_≡_, ap₂, subst⁻¹, _∙_}
+use mathlib.Core.Path.{_≡_, ap₂, _∙_}
 use Prim.Native.Nat.{ℕ, _%_}
 use borrow.Author.Needs.{needs}
 use Rattle.ranks.specs.Prediction.{Sized, packed}
 use Rattle.ranks.specs.Daughters.{daughter, Alone}
+use Rattle.ranks.proofs.Stepping.{read-as}
 use Rattle.ranks.proofs.daughters.made_at.Statement.{statement}
 use Rattle.ranks.proofs.daughters.made_at.Tie as tie
-
--- what holds of the cells holds of what is read
-cells-are : (P : ℕ → ℕ → Type 0) {x y u v : ℕ} → x ≡ u → y ≡ v → P u v → P x y
-cells-are P {x = x} {v = v} e f h = subst⁻¹ (λ (n : ℕ). P x n) f (subst⁻¹ (λ (n : ℕ). P n v) e h)
 
 daughter-cell-requires : tie.Need-daughter-cell-requires
 daughter-cell-requires c κs = search needs
@@ -25,7 +22,7 @@ made-requires c κs =
     let m = s .pre .3 (c .before .before .if1 .taken) in
     let x = c .before .daughter-cell in
     let y = c .places-cell in
-    (s .pre .2, cells-are (λ (u v : ℕ). Sized (daughter (a .b .now) u v (a .mark))) (x .ensures) (y .ensures) (m .sized), cells-are (λ (u v : ℕ). v % 8 ≡ 1 → Alone u v) (x .ensures) (y .ensures) (m .alone))
+    (s .pre .2, read-as (λ (u v : ℕ). Sized (daughter (a .b .now) u v (a .mark))) (x .ensures) (y .ensures) (m .sized), read-as (λ (u v : ℕ). v % 8 ≡ 1 → Alone u v) (x .ensures) (y .ensures) (m .alone))
 
 returns : tie.Need-returns
 returns c =

@@ -1,6 +1,6 @@
 -- `ranks::step::expand_wide` meets its contract.
 -- Assumes nothing.
-use mathlib.Core.Path.{_≡_, ap, ap₂, subst⁻¹, _∙_}
+use mathlib.Core.Path.{ap, ap₂, subst⁻¹, _∙_}
 use mathlib.Core.Bool.{Bool}
 use mathlib.Core.List.{List}
 use Prim.Native.Nat.{ℕ, _+_}
@@ -11,7 +11,7 @@ use Rattle.ranks.specs.Queue.{Every}
 use Rattle.ranks.specs.Moves.{movesRanks, movesLengths, Bounded}
 use Rattle.ranks.specs.Step.{Makes, isTwo, beginsFor, movesFor, BeginsFor}
 use Rattle.ranks.proofs.Two.{begins-four}
-use Rattle.ranks.proofs.Stepping.{next-as, wide-next}
+use Rattle.ranks.proofs.Stepping.{read-as, next-as, wide-next}
 use borrow.Author.Needs.{needs}
 use Rattle.ranks.proofs.step.expand_wide.Statement.{statement}
 use Rattle.ranks.proofs.step.expand_wide.Tie as tie
@@ -27,10 +27,6 @@ lengths-requires c κs = search needs
 
 is-two-requires : tie.Need-is-two-requires
 is-two-requires c κs = search needs
-
--- what holds of the cells holds of what is read of them
-read-as : (P : Bool → ℕ → Type 0) {b c : Bool} {n m : ℕ} → b ≡ c → n ≡ m → P c m → P b n
-read-as P {b = b} {m = m} e f h = subst⁻¹ (λ (n : ℕ). P b n) f (subst⁻¹ (λ (x : Bool). P x m) e h)
 
 bases-for-requires : tie.Need-bases-for-requires
 bases-for-requires c κs =
