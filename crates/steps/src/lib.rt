@@ -149,7 +149,7 @@ fn lexical(
 }
 
 // The step of rule r, which is of the front's category. The next queue is written from `at.to` on, and what stands before it is as it was. `expand` is called
-// in two places, since the compiler takes a function that is called in one into its caller, and the walk is quicker with `expand` outside.
+// in two places: the compiler takes a function that is called in one place alone into its caller, and the walk is quicker with `expand` outside.
 pub fn apply(
     t: &[u64; TABLE],
     sentence: &[u32],
