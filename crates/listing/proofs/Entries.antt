@@ -1,22 +1,27 @@
 -- From live prefix to live prefix up to the next entry: the entries after a list are the complete ones of the live prefixes after it.
 -- Assumes nothing.
-use mathlib.Core.Path.{_≡_, refl, sym, ap, _∙_}
+use mathlib.Core.Path.{_≡_, refl, sym, ap, subst, _∙_}
 use mathlib.Core.Bool.{Bool, true, false}
 use mathlib.Core.List.{List, [], _∷_}
 use Prim.Native.Nat.{ℕ, _<_}
-use native.Mathlib.Omega.{arith}
 use lib.ListN.{length, take}
 use Rattle.model.specs.Base.{if_then_else_, keep}
 use Rattle.model.specs.Grammar.{Grammar}
 use Rattle.model.specs.Step.{before}
+use Rattle.model.specs.Trace.{noNode}
 use Rattle.model.specs.Counting.{live, complete}
+use Rattle.ranking.specs.Ranks.{rankRecognizer, startRanked}
+use Rattle.ranking.specs.Numbered.{plain}
 use Rattle.steps.specs.declared.Standing.{Standing}
+use Rattle.steps.specs.Steps.{stateIn}
 use Rattle.walk.specs.declared.prefixes.Walked.the-variants.{Came, Ended}
 use Rattle.walk.specs.Rest.{liveAfter}
 use Rattle.walk.specs.Walking.{Walking, stepsOf, atEnd}
-use Rattle.walk.specs.Turns.{Walks, NextLive, NextFor, WalkedOn}
+use Rattle.walk.specs.Turns.{Walks, NextLive, WalkedOn}
+use Rattle.walk.proofs.Along.{along}
 use Rattle.walk.proofs.Ended.{complete-at}
-use Rattle.listing.specs.Stream.{entriesAfter, EntryFor}
+use Rattle.listing.specs.Stream.{entriesAfter, WalkedToEntry}
+use Rattle.listing.proofs.Places.{RuleList, leads-rules, listsLeft, fewer-left, first-passes}
 
 kept-by : (f : List ℕ → Bool) (x : List ℕ) (m : List (List ℕ)) (b : Bool) → f x ≡ b → keep f (x ∷ m) ≡ (if b then x ∷ keep f m else keep f m)
 kept-by f x m b e = ap (λ (z : Bool). if z then x ∷ keep f m else keep f m) e
@@ -46,75 +51,112 @@ module _ (g : Grammar) (sentence : List ℕ) (n : ℕ) where
       ∙ kept-by (complete g sentence) p (liveAfter g sentence n p) b e
       ∙ ap (λ (l : List (List ℕ)). if b then p ∷ l else l) (sym (complete-after p))
 
--- how many live prefixes come after the one where the walk stands
-abbrev pub stillLive : Grammar → List ℕ → List ℕ → Standing → ℕ
-stillLive g sentence path here = length (liveAfter g sentence (stepsOf here) (take (here .steps) path))
+-- how many lists of rule numbers, under the node limit, are left from the one where the walk stands on
+abbrev pub stillLeft : List ℕ → Standing → ℕ
+stillLeft path here = listsLeft (stepsOf here) (take (here .steps) path)
 
-module _ (g : Grammar) (t chain sentence w₀ path₀ : List ℕ) (at : Standing) where
-  -- the walk went from `at` to `here`, and passed no entry
+walked-rules : (g : Grammar) (t chain sentence w path : List ℕ) (at : Standing) → Walking g t chain sentence w path at → RuleList (stepsOf at) (take (at .steps) path)
+walked-rules g t chain sentence w path at walking =
+    leads-rules (rankRecognizer noNode g) (length (g .rules)) (walking .ready .well .rules-are .1) (stepsOf at) (startRanked g sentence) (take (at .steps) path) (at .left)
+    (plain (stateIn g sentence w at)) (along g t chain sentence w path at walking)
+
+-- fewer are left at the next live prefix
+next-fewer : (g : Grammar) (t chain sentence w path w′ path′ : List ℕ) (here next : Standing) → Walking g t chain sentence w path here
+    → NextLive g t chain sentence w′ path′ (take (here .steps) path) here next → stillLeft path′ next < stillLeft path here
+next-fewer g t chain sentence w path w′ path′ here next walking coming =
+    let n = stepsOf here in
+    let list = take (here .steps) path in
+    let p = take (next .steps) path′ in
+    subst (λ (k : ℕ). listsLeft k p < listsLeft n list) (sym (coming .same-steps))
+    (fewer-left n list p (walked-rules g t chain sentence w path here walking)
+    (subst (λ (k : ℕ). RuleList k p) (coming .same-steps) (walked-rules g t chain sentence w′ path′ next (coming .walking)))
+    (first-passes (before list) (live g sentence n) p (liveAfter g sentence n p) (coming .comes)))
+
+-- the walk of a grammar went from `at` to `here`, and passed no entry
+pub record NoneSoFarFor (g : Grammar) (t chain sentence w₀ path₀ : List ℕ) (at : Standing) (w path : List ℕ) (here : Standing) : Type 0 where
+  pub walking : Walking g t chain sentence w path here
+  pub kept : length w ≡ length w₀
+  pub path-kept : length path ≡ length path₀
+  pub same-steps : stepsOf here ≡ stepsOf at
+  pub passed : entriesAfter g sentence (stepsOf at) (take (at .steps) path₀) ≡ entriesAfter g sentence (stepsOf at) (take (here .steps) path)
+
+-- where the next live prefix comes, by its end test
+module _ (g : Grammar) (t chain sentence w₀ path₀ : List ℕ) (at : Standing) (w path : List ℕ) (here : Standing)
+    (so : NoneSoFarFor g t chain sentence w₀ path₀ at w path here) (w′ path′ : List ℕ) (next : Standing)
+    (coming : NextLive g t chain sentence w′ path′ (take (here .steps) path) here next) where
+  among : (b : Bool) → b ≡ atEnd sentence next
+      → entriesAfter g sentence (stepsOf at) (take (at .steps) path₀)
+      ≡ (if b then take (next .steps) path′ ∷ entriesAfter g sentence (stepsOf at) (take (next .steps) path′) else entriesAfter g sentence (stepsOf at) (take (next .steps) path′))
+  among b e =
+      so .passed
+      ∙ next-among g sentence (stepsOf at) (take (here .steps) path) (take (next .steps) path′) b
+      (complete-at g t chain sentence w′ path′ next (coming .walking) ∙ sym e)
+      (rw (so .same-steps) at (coming .comes))
+
+module _ (t chain sentence w₀ path₀ : List ℕ) (at : Standing) where
   pub record NoneSoFar (w path : List ℕ) (here : Standing) : Type 0 where
-    pub walking : Walking g t chain sentence w path here
-    pub kept : length w ≡ length w₀
-    pub path-kept : length path ≡ length path₀
-    pub same-steps : stepsOf here ≡ stepsOf at
-    pub passed : entriesAfter g sentence (stepsOf at) (take (at .steps) path₀) ≡ entriesAfter g sentence (stepsOf at) (take (here .steps) path)
+    pub of-grammar : (g : Grammar) → Walking g t chain sentence w₀ path₀ at → NoneSoFarFor g t chain sentence w₀ path₀ at w path here
 
-  pub none-begins : Walking g t chain sentence w₀ path₀ at → NoneSoFar w₀ path₀ at
-  none-begins walking = record { walking = walking; kept = refl; path-kept = refl; same-steps = refl; passed = refl }
+  pub none-begins : NoneSoFar w₀ path₀ at
+  none-begins = record { of-grammar = λ g walking. record { walking = walking; kept = refl; path-kept = refl; same-steps = refl; passed = refl } }
 
-  module _ (w path : List ℕ) (here : Standing) (so : NoneSoFar w path here) (w′ path′ : List ℕ) where
-    pub none-walks : Walks t chain sentence w path here
-    none-walks = record { grammar = g; walking = so .walking }
+  module _ (w path : List ℕ) (here : Standing) (so : NoneSoFar w path here) where
+    pub none-walks : Walks t chain sentence w₀ path₀ at → Walks t chain sentence w path here
+    none-walks walks = record { grammar = walks .grammar; walking = so .of-grammar (walks .grammar) (walks .walking) .walking }
 
-    pub none-ends : WalkedOn t chain sentence w path w′ path′ here Ended → EntryFor g t chain sentence w₀ path₀ w′ path′ at Ended
-    none-ends walked =
-        let f = walked .of-grammar g (so .walking) in
-        record {
-          kept = f .kept ∙ so .kept;
-          path-kept = f .path-kept ∙ so .path-kept;
-          says =
-              so .passed
-              ∙ ap (λ (n : ℕ). entriesAfter g sentence n (take (here .steps) path)) (sym (so .same-steps))
-              ∙ complete-after g sentence (stepsOf here) (take (here .steps) path)
-              ∙ ap (keep (complete g sentence)) (f .says);
-        }
-
-    module _ (next : Standing) (walked : WalkedOn t chain sentence w path w′ path′ here (Came next)) where
-      found : NextFor g t chain sentence w path w′ path′ here (Came next)
-      found = walked .of-grammar g (so .walking)
-
-      coming : NextLive g t chain sentence w′ path′ (take (here .steps) path) here next
-      coming = found .says
-
-      -- by the end test of the next live prefix
-      among : (b : Bool) → b ≡ atEnd sentence next
-          → entriesAfter g sentence (stepsOf at) (take (at .steps) path₀)
-          ≡ (if b then take (next .steps) path′ ∷ entriesAfter g sentence (stepsOf at) (take (next .steps) path′) else entriesAfter g sentence (stepsOf at) (take (next .steps) path′))
-      among b e =
-          so .passed
-          ∙ next-among g sentence (stepsOf at) (take (here .steps) path) (take (next .steps) path′) b
-          (complete-at g t chain sentence w′ path′ next (coming .walking) ∙ sym e)
-          (rw (so .same-steps) at (coming .comes))
-
-      pub none-meets : true ≡ atEnd sentence next → EntryFor g t chain sentence w₀ path₀ w′ path′ at (Came next)
-      none-meets e =
+    module _ (w′ path′ : List ℕ) where
+      pub none-ends : WalkedOn t chain sentence w path w′ path′ here Ended → WalkedToEntry t chain sentence w₀ path₀ w′ path′ at Ended
+      none-ends walked =
           record {
-            kept = found .kept ∙ so .kept;
-            path-kept = found .path-kept ∙ so .path-kept;
-            says = record { walking = coming .walking; same-steps = coming .same-steps ∙ so .same-steps; comes = among true e };
+            of-grammar = λ g walking.
+                let h = so .of-grammar g walking in
+                let f = walked .of-grammar g (h .walking) in
+                record {
+                  kept = f .kept ∙ h .kept;
+                  path-kept = f .path-kept ∙ h .path-kept;
+                  says =
+                      h .passed
+                      ∙ ap (λ (n : ℕ). entriesAfter g sentence n (take (here .steps) path)) (sym (h .same-steps))
+                      ∙ complete-after g sentence (stepsOf here) (take (here .steps) path)
+                      ∙ ap (keep (complete g sentence)) (f .says);
+                };
           }
 
-      pub none-passes : false ≡ atEnd sentence next → NoneSoFar w′ path′ next
-      none-passes e =
-          record {
-            walking = coming .walking;
-            kept = found .kept ∙ so .kept;
-            path-kept = found .path-kept ∙ so .path-kept;
-            same-steps = coming .same-steps ∙ so .same-steps;
-            passed = among false e;
-          }
+      module _ (next : Standing) (walked : WalkedOn t chain sentence w path w′ path′ here (Came next)) where
+        pub none-meets : true ≡ atEnd sentence next → WalkedToEntry t chain sentence w₀ path₀ w′ path′ at (Came next)
+        none-meets e =
+            record {
+              of-grammar = λ g walking.
+                  let h = so .of-grammar g walking in
+                  let f = walked .of-grammar g (h .walking) in
+                  record {
+                    kept = f .kept ∙ h .kept;
+                    path-kept = f .path-kept ∙ h .path-kept;
+                    says =
+                        record {
+                          walking = f .says .walking;
+                          same-steps = f .says .same-steps ∙ h .same-steps;
+                          comes = among g t chain sentence w₀ path₀ at w path here h w′ path′ next (f .says) true e;
+                        };
+                  };
+            }
 
-      -- one live prefix less comes after it
-      pub fewer : stillLive g sentence path′ next < stillLive g sentence path here
-      fewer =
-          omega (arith, ap length (coming .comes), ap (λ (n : ℕ). length (liveAfter g sentence n (take (next .steps) path′))) (coming .same-steps))
+        pub none-passes : false ≡ atEnd sentence next → NoneSoFar w′ path′ next
+        none-passes e =
+            record {
+              of-grammar = λ g walking.
+                  let h = so .of-grammar g walking in
+                  let f = walked .of-grammar g (h .walking) in
+                  record {
+                    walking = f .says .walking;
+                    kept = f .kept ∙ h .kept;
+                    path-kept = f .path-kept ∙ h .path-kept;
+                    same-steps = f .says .same-steps ∙ h .same-steps;
+                    passed = among g t chain sentence w₀ path₀ at w path here h w′ path′ next (f .says) false e;
+                  };
+            }
+
+        pub fewer : Walks t chain sentence w₀ path₀ at → stillLeft path′ next < stillLeft path here
+        fewer walks =
+            let m = none-walks walks in
+            next-fewer (m .grammar) t chain sentence w path w′ path′ here next (m .walking) (walked .of-grammar (m .grammar) (m .walking) .says)

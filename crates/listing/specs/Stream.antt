@@ -35,6 +35,10 @@ pub record EntryFor (g : Grammar) (t chain sentence w path w′ path′ : List �
   pub path-kept : length path′ ≡ length path
   pub says : EntrySays g t chain sentence w′ path′ (take (at .steps) path) at answer
 
+-- what is so for every grammar whose walk stands there
+pub record WalkedToEntry (t chain sentence w path w′ path′ : List ℕ) (at : Standing) (answer : Walked) : Type 0 where
+  pub of-grammar : (g : Grammar) → Walking g t chain sentence w path at → EntryFor g t chain sentence w path w′ path′ at answer
+
 -- the entries one after the other from a standing on, to the last: each is the next entry after the one before
 abbrev pub Streams : Grammar → List ℕ → List ℕ → List ℕ → List ℕ → List ℕ → Standing → List (List ℕ) → Type 0
 Streams g t chain sentence w path at [] = (w′ : List ℕ) × (path′ : List ℕ) × EntryFor g t chain sentence w path w′ path′ at Ended

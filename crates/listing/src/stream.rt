@@ -1,7 +1,6 @@
 // The listing as a stream: the next entry, by the walk over the live prefixes.
-ghost use Rattle.model.specs.GrammarFile.{grammarOf};
-ghost use Rattle.walk.specs.Walking.{Walking};
-ghost use Rattle.listing.specs.Stream.{EntryFor};
+ghost use Rattle.walk.specs.Turns.{Walks};
+ghost use Rattle.listing.specs.Stream.{WalkedToEntry};
 use model::MOST_STEPS;
 use ranks::queue::ROOM;
 use ranks::table::TABLE;
@@ -12,9 +11,8 @@ use walk::at_end;
 use walk::next;
 
 // The next entry of the listing, in dictionary order, after the live prefix that path[0..at.steps] holds: of the live prefixes after it, the first that is
-// complete. The tables are those of the file's grammar.
+// complete.
 pub fn next_entry(
-    file: &[u8],
     t: &[u64; TABLE],
     chain: &[u16; CHAIN],
     sentence: &[u32],
@@ -22,8 +20,8 @@ pub fn next_entry(
     path: &mut [u16; MOST_STEPS],
     at: Standing,
 ) -> Walked
-    requires { ⌜ Walking (grammarOf (now file)) (now t) (now chain) (now sentence) (now w) (now path) at ⌝ }
-    ensures { λ s. ⌜ EntryFor (grammarOf (now (file .entry))) (now (t .entry)) (now (chain .entry)) (now (sentence .entry)) (now (w .entry)) (now (path .entry)) (now (w .exit)) (now (path .exit)) at s ⌝ }
+    requires { ⌜ Walks (now t) (now chain) (now sentence) (now w) (now path) at ⌝ }
+    ensures { λ s. ⌜ WalkedToEntry (now (t .entry)) (now (chain .entry)) (now (sentence .entry)) (now (w .entry)) (now (path .entry)) (now (w .exit)) (now (path .exit)) at s ⌝ }
 {
     let mut here = at;
     loop {

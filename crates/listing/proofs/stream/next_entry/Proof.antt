@@ -2,8 +2,7 @@
 -- Assumes nothing.
 use mathlib.Core.Path.{sym, _∙_}
 use borrow.Author.Needs.{needs}
-use Rattle.model.specs.GrammarFile.{grammarOf}
-use Rattle.listing.proofs.Entries.{stillLive, NoneSoFar, none-begins, none-walks, none-ends, none-meets, none-passes, fewer}
+use Rattle.listing.proofs.Entries.{stillLeft, NoneSoFar, none-begins, none-walks, none-ends, none-meets, none-passes, fewer}
 use Rattle.listing.proofs.stream.next_entry.Statement.{statement}
 use Rattle.listing.proofs.stream.next_entry.Tie as tie
 use Rattle.listing.proofs.stream.next_entry.Reads as reads
@@ -12,19 +11,20 @@ use Rattle.walk.proofs.at_end.Reads as at-end-reads
 use Rattle.walk.proofs.next.Reads as next-reads
 
 abbrev Inv-loop : tie.InvT-loop
-Inv-loop file t chain sentence w₀ path₀ here₀ w path here = NoneSoFar (grammarOf file) t chain sentence w₀ path₀ here₀ w path here
+Inv-loop t chain sentence w₀ path₀ here₀ w path here = NoneSoFar t chain sentence w₀ path₀ here₀ w path here
 
 abbrev μ-loop : tie.MeasureT-loop
-μ-loop file t chain sentence w₀ path₀ here₀ w path here = stillLive (grammarOf file) sentence path here
+μ-loop t chain sentence w₀ path₀ here₀ w path here = stillLeft path here
 
 loop-holds : tie.Need-loop-holds Inv-loop μ-loop
-loop-holds c = let a = c .before .before .args in none-begins (grammarOf (a .file .now)) (a .t .now) (a .chain .now) (a .sentence .now) (a .w .now) (a .path .now) (a .at) (c .before .before .pre)
+loop-holds c = let a = c .before .args in none-begins (a .t .now) (a .chain .now) (a .sentence .now) (a .w .now) (a .path .now) (a .at)
 
 next-requires : tie.Need-next-requires Inv-loop μ-loop
 next-requires c κs =
-    let a = c .before .before .before .before .before .args in
+    let s = c .before .before .before .before in
+    let a = s .args in
     let l = c .before .before .loop in
-    none-walks (grammarOf (a .file .now)) (a .t .now) (a .chain .now) (a .sentence .now) (a .w .now) (a .path .now) (a .at) (l .w) (l .path) (l .here) (l .inv) (l .w) (l .path)
+    none-walks (a .t .now) (a .chain .now) (a .sentence .now) (a .w .now) (a .path .now) (a .at) (l .w) (l .path) (l .here) (l .inv) (s .pre)
 
 enum-known-s : tie.Need-enum-known-s Inv-loop μ-loop
 enum-known-s c = search needs
@@ -34,30 +34,31 @@ at-end-requires c κs = search needs
 
 returns : tie.Need-returns Inv-loop μ-loop
 returns c =
-    let a = c .before .before .before .before .before .before .before .before .before .before .before .args in
+    let a = c .before .before .before .before .before .before .before .before .before .before .args in
     let l = c .before .before .before .before .before .before .before .before .loop in
-    none-meets (grammarOf (a .file .now)) (a .t .now) (a .chain .now) (a .sentence .now) (a .w .now) (a .path .now) (a .at) (l .w) (l .path) (l .here) (l .inv) _ _ _ (rw (c .before .before .before .s .given .1) at (c .before .before .before .before .before .next .ensures)) (sym (c .if1 .taken) ∙ c .before .at-end .ensures)
+    none-meets (a .t .now) (a .chain .now) (a .sentence .now) (a .w .now) (a .path .now) (a .at) (l .w) (l .path) (l .here) (l .inv) _ _ _ (rw (c .before .before .before .s .given .1) at (c .before .before .before .before .before .next .ensures)) (sym (c .if1 .taken) ∙ c .before .at-end .ensures)
 
 loop-less : tie.Need-loop-less Inv-loop μ-loop
 loop-less c =
-    let a = c .before .before .before .before .before .before .before .before .before .before .before .args in
+    let s = c .before .before .before .before .before .before .before .before .before .before in
+    let a = s .args in
     let l = c .before .before .before .before .before .before .before .before .loop in
-    fewer (grammarOf (a .file .now)) (a .t .now) (a .chain .now) (a .sentence .now) (a .w .now) (a .path .now) (a .at) (l .w) (l .path) (l .here) (l .inv) _ _ _ (rw (c .before .before .before .s .given .1) at (c .before .before .before .before .before .next .ensures))
+    fewer (a .t .now) (a .chain .now) (a .sentence .now) (a .w .now) (a .path .now) (a .at) (l .w) (l .path) (l .here) (l .inv) _ _ _ (rw (c .before .before .before .s .given .1) at (c .before .before .before .before .before .next .ensures)) (s .pre)
 
 loop-again : tie.Need-loop-again Inv-loop μ-loop
 loop-again c =
-    let a = c .before .before .before .before .before .before .before .before .before .before .before .args in
+    let a = c .before .before .before .before .before .before .before .before .before .before .args in
     let l = c .before .before .before .before .before .before .before .before .loop in
-    none-passes (grammarOf (a .file .now)) (a .t .now) (a .chain .now) (a .sentence .now) (a .w .now) (a .path .now) (a .at) (l .w) (l .path) (l .here) (l .inv) _ _ _ (rw (c .before .before .before .s .given .1) at (c .before .before .before .before .before .next .ensures)) (sym (c .if1 .left) ∙ c .before .at-end .ensures)
+    none-passes (a .t .now) (a .chain .now) (a .sentence .now) (a .w .now) (a .path .now) (a .at) (l .w) (l .path) (l .here) (l .inv) _ _ _ (rw (c .before .before .before .s .given .1) at (c .before .before .before .before .before .next .ensures)) (sym (c .if1 .left) ∙ c .before .at-end .ensures)
 
 enum-told : tie.Need-enum-told Inv-loop μ-loop
 enum-told c = search needs
 
 returns-2 : tie.Need-returns-2 Inv-loop μ-loop
 returns-2 c =
-    let a = c .before .before .before .before .before .before .before .before .args in
+    let a = c .before .before .before .before .before .before .before .args in
     let l = c .before .before .before .before .before .loop in
-    none-ends (grammarOf (a .file .now)) (a .t .now) (a .chain .now) (a .sentence .now) (a .w .now) (a .path .now) (a .at) (l .w) (l .path) (l .here) (l .inv) _ _ (rw (c .enum-told .given .1) at (c .before .before .next .ensures))
+    none-ends (a .t .now) (a .chain .now) (a .sentence .now) (a .w .now) (a .path .now) (a .at) (l .w) (l .path) (l .here) (l .inv) _ _ (rw (c .enum-told .given .1) at (c .before .before .next .ensures))
 
 pub next-entry-spec : {M : Type 1} → statement M
 next-entry-spec =
