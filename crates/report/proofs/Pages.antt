@@ -11,77 +11,114 @@ use Rattle.model.specs.Program.{decimal, line, blank, newline}
 use Rattle.steps.specs.declared.Standing.{Standing}
 use Rattle.walk.specs.declared.prefixes.Walked.the-variants.{Came, Ended}
 use Rattle.walk.specs.Walking.{Walking, stepsOf}
-use Rattle.listing.specs.Stream.{EntryFor}
+use Rattle.walk.specs.Turns.{Walks}
+use Rattle.listing.specs.Stream.{WalkedToEntry}
 use Rattle.report.specs.declared.page.Pen.{Pen}
 use Rattle.report.specs.declared.page.Line.{Line}
 use Rattle.report.specs.declared.page.Page.{Page}
 use Rattle.report.specs.Text.{Put}
-use Rattle.report.specs.Page.{linesAfter, FilledTo, LineSays, PageSays}
+use Rattle.report.specs.Page.{linesAfter, WroteLine, FilledTo, PageSays, FilledPage}
 use Rattle.report.proofs.Placed.{put-none, put-join, put-long}
 
 -- the next entry, as a line
-module _ (g : Grammar) (t chain sentence w path w′ path′ : List ℕ) (pen : Pen) where
-  pub next-fits : (next : Standing) → EntryFor g t chain sentence w path w′ path′ (pen .at) (Came next) → (room : ℕ) → pen .place + 576 < room
-      → (length path′ ≡ 96) × (next .steps ≤ 96) × (pen .place + 6 * next .steps < room)
-  next-fits next h room r =
-      let few : next .steps ≤ 96 = omega (arith, h .says .walking .ready .few) in
-      (h .says .walking .long, few, omega arith)
+module _ (t chain sentence w path w′ path′ : List ℕ) (pen : Pen) where
+  pub next-fits : (next : Standing) → WalkedToEntry t chain sentence w path w′ path′ (pen .at) (Came next) → Walks t chain sentence w path (pen .at)
+      → (room : ℕ) → pen .place + 576 < room → (length path′ ≡ 96) × (next .steps ≤ 96) × (pen .place + 6 * next .steps < room)
+  next-fits next walked walks room r =
+      let h = walked .of-grammar (walks .grammar) (walks .walking) .says .walking in
+      let few : next .steps ≤ 96 = omega (arith, h .ready .few) in
+      (h .long, few, omega arith)
 
-  pub says-next : (next : Standing) → EntryFor g t chain sentence w path w′ path′ (pen .at) (Came next) → {before after : List ℕ} {p : ℕ}
+  pub says-next : (next : Standing) → WalkedToEntry t chain sentence w path w′ path′ (pen .at) (Came next) → {before after : List ℕ} {p : ℕ}
       → Put before after (pen .place) (line (take (next .steps) path′)) p
-      → LineSays g t chain sentence (take (pen .at .steps) path) before pen w′ path′ after (Line.Put (record { at = next; place = p }))
-  says-next next h put = record { walking = h .says .walking; same-steps = h .says .same-steps; put = put; lines = ap (each line) (h .says .comes) }
+      → WroteLine t chain sentence w path before pen w′ path′ after (Line.Put (record { at = next; place = p }))
+  says-next next walked put =
+      record {
+        of-grammar = λ g walking.
+            let h = walked .of-grammar g walking .says in
+            record { walking = h .walking; same-steps = h .same-steps; put = put; lines = ap (each line) (h .comes) };
+      }
 
-  pub says-last : EntryFor g t chain sentence w path w′ path′ (pen .at) Ended → (before : List ℕ)
-      → LineSays g t chain sentence (take (pen .at .steps) path) before pen w′ path′ before Line.Last
-  says-last h before = (refl, ap (each line) (h .says))
+  pub says-last : WalkedToEntry t chain sentence w path w′ path′ (pen .at) Ended → (before : List ℕ)
+      → WroteLine t chain sentence w path before pen w′ path′ before Line.Last
+  says-last walked before = record { of-grammar = λ g walking. (refl, ap (each line) (walked .of-grammar g walking .says)) }
 
 line-some : (xs : List ℕ) → 0 < length (line xs)
 line-some [] = omega arith
 line-some (n ∷ []) = omega (arith, length-append (decimal n) (newline ∷ []))
 line-some (n ∷ m ∷ ms) = omega (arith, length-append (decimal n) (blank ∷ line (m ∷ ms)))
 
-pub filled-none : (g : Grammar) (t chain sentence w path before : List ℕ) (pen : Pen) → Walking g t chain sentence w path (pen .at) → pen .place ≤ length before
-    → FilledTo g t chain sentence (take (pen .at .steps) path) before pen w path before pen
-filled-none g t chain sentence w path before pen walking r =
-    record { walking = walking; same-steps = refl; text = []; put = put-none before (pen .place) r; lines = refl }
+-- lines are written so far, for every grammar whose walk stood where the pen was
+module _ (t chain sentence w₀ path₀ before : List ℕ) (pen : Pen) where
+  pub record FilledSoFar (w path after : List ℕ) (here : Pen) : Type 0 where
+    pub of-grammar : (g : Grammar) → Walking g t chain sentence w₀ path₀ (pen .at) → FilledTo g t chain sentence (take (pen .at .steps) path₀) before pen w path after here
 
-module _ (g : Grammar) (t chain sentence list before : List ℕ) (pen : Pen) (w path after : List ℕ) (here : Pen) (so : FilledTo g t chain sentence list before pen w path after here) where
-  pub filled-long : length after ≡ length before
-  filled-long = put-long (so .put)
+  pub filled-none : pen .place ≤ length before → FilledSoFar w₀ path₀ before pen
+  filled-none r =
+      record {
+        of-grammar = λ g walking. record { walking = walking; same-steps = refl; text = []; put = put-none before (pen .place) r; lines = refl };
+      }
 
-  -- a line more
-  module _ (w′ path′ after′ : List ℕ) where
-    abbrev list-here : List ℕ
-    list-here = take (here .at .steps) path
+  module _ (w path after : List ℕ) (here : Pen) (so : FilledSoFar w path after here) where
+    pub filled-full : length after ≤ here .place + 576 → FilledPage t chain sentence w₀ path₀ before pen w path after (Page.More here)
+    filled-full full = record { of-grammar = λ g walking. (so .of-grammar g walking, full) }
 
-    pub filled-more : (next : Pen) → LineSays g t chain sentence list-here after here w′ path′ after′ (Line.Put next)
-        → FilledTo g t chain sentence list before pen w′ path′ after′ next
-    filled-more next v =
-        let entry = take (next .at .steps) path′ in
-        record {
-          walking = v .walking;
-          same-steps = v .same-steps ∙ so .same-steps;
-          text = so .text ++ line entry;
-          put = put-join (so .put) (v .put);
-          lines =
-              so .lines
-              ∙ ap (λ (l : List ℕ). so .text ++ l) (rw (so .same-steps) at (v .lines))
-              ∙ sym (append-assoc (so .text) (line entry) (linesAfter g sentence (stepsOf (pen .at)) entry));
-        }
+    -- a line more
+    module _ (w′ path′ after′ : List ℕ) where
+      pub filled-more : (next : Pen) → WroteLine t chain sentence w path after here w′ path′ after′ (Line.Put next) → FilledSoFar w′ path′ after′ next
+      filled-more next wrote =
+          record {
+            of-grammar = λ g walking.
+                let h = so .of-grammar g walking in
+                let v = wrote .of-grammar g (h .walking) in
+                let entry = take (next .at .steps) path′ in
+                record {
+                  walking = v .walking;
+                  same-steps = v .same-steps ∙ h .same-steps;
+                  text = h .text ++ line entry;
+                  put = put-join (h .put) (v .put);
+                  lines =
+                      h .lines
+                      ∙ ap (λ (l : List ℕ). h .text ++ l) (rw (h .same-steps) at (v .lines))
+                      ∙ sym (append-assoc (h .text) (line entry) (linesAfter g sentence (stepsOf (pen .at)) entry));
+                };
+          }
 
-    pub filled-less : (next : Pen) → LineSays g t chain sentence list-here after here w′ path′ after′ (Line.Put next) → length after′ - next .place < length after - here .place
-    filled-less next v = omega (arith, v .put .place, v .put .within, line-some (take (next .at .steps) path′), put-long (v .put))
+      pub filled-last : WroteLine t chain sentence w path after here w′ path′ after′ Line.Last
+          → FilledPage t chain sentence w₀ path₀ before pen w′ path′ after′ (Page.Last (here .place))
+      filled-last wrote =
+          record {
+            of-grammar = λ g walking.
+                let h = so .of-grammar g walking in
+                let v = wrote .of-grammar g (h .walking) in (
+                  h .text,
+                  subst (λ (x : List ℕ). Put before x (pen .place) (h .text) (here .place)) (sym (v .0)) (h .put),
+                  h .lines ∙ ap (λ (l : List ℕ). h .text ++ l) (rw (h .same-steps) at (v .1)) ∙ append-nil (h .text),
+                );
+          }
 
-    pub filled-last : LineSays g t chain sentence list-here after here w′ path′ after′ Line.Last → PageSays g t chain sentence list before pen w′ path′ after′ (Page.Last (here .place))
-    filled-last v = (
-      so .text,
-      subst (λ (x : List ℕ). Put before x (pen .place) (so .text) (here .place)) (sym (v .0)) (so .put),
-      so .lines ∙ ap (λ (l : List ℕ). so .text ++ l) (rw (so .same-steps) at (v .1)) ∙ append-nil (so .text),
-    )
+    -- the walk of some grammar stood where the pen was
+    module _ (walks : Walks t chain sentence w₀ path₀ (pen .at)) where
+      abbrev filled : FilledTo (walks .grammar) t chain sentence (take (pen .at .steps) path₀) before pen w path after here
+      filled = so .of-grammar (walks .grammar) (walks .walking)
 
-    pub last-long : LineSays g t chain sentence list-here after here w′ path′ after′ Line.Last → length after′ ≡ length before
-    last-long v = ap length (v .0) ∙ filled-long
+      pub filled-walks : Walks t chain sentence w path (here .at)
+      filled-walks = record { grammar = walks .grammar; walking = filled .walking }
+
+      pub filled-within : here .place ≤ length after
+      filled-within = filled .put .within
+
+      pub filled-long : length after ≡ length before
+      filled-long = put-long (filled .put)
+
+      module _ (w′ path′ after′ : List ℕ) where
+        pub filled-less : (next : Pen) → WroteLine t chain sentence w path after here w′ path′ after′ (Line.Put next) → length after′ - next .place < length after - here .place
+        filled-less next wrote =
+            let v = wrote .of-grammar (walks .grammar) (filled .walking) in
+            omega (arith, v .put .place, v .put .within, line-some (take (next .at .steps) path′), put-long (v .put))
+
+        pub last-long : WroteLine t chain sentence w path after here w′ path′ after′ Line.Last → length after′ ≡ length before
+        last-long wrote = ap length (wrote .of-grammar (walks .grammar) (filled .walking) .0) ∙ filled-long
 
 -- a page with room for a line lists something: less text is left after it
 pub page-lists : {g : Grammar} {t chain sentence list before : List ℕ} {pen : Pen} {w path after : List ℕ} {next : Pen}

@@ -33,6 +33,10 @@ abbrev pub LineSays : Grammar → List ℕ → List ℕ → List ℕ → List �
 LineSays g t chain sentence list before pen w path after (LinePut next) = LinePutTo g t chain sentence list before pen w path after next
 LineSays g t chain sentence list before pen w path after LineLast = (after ≡ before) × (linesAfter g sentence (stepsOf (pen .at)) list ≡ [])
 
+-- what is so for every grammar whose walk stands there; the list is the one on the path
+pub record WroteLine (t chain sentence w path before : List ℕ) (pen : Pen) (w′ path′ after : List ℕ) (answer : Line) : Type 0 where
+  pub of-grammar : (g : Grammar) → Walking g t chain sentence w path (pen .at) → LineSays g t chain sentence (take (pen .at .steps) path) before pen w′ path′ after answer
+
 -- lines are written from the pen's place on to that of `next`, and the last entry written is on the path, where the walk stands: the lines after the list are
 -- those written and those after that entry
 pub record FilledTo (g : Grammar) (t chain sentence list before : List ℕ) (pen : Pen) (w path after : List ℕ) (next : Pen) : Type 0 where
@@ -46,6 +50,9 @@ pub record FilledTo (g : Grammar) (t chain sentence list before : List ℕ) (pen
 abbrev pub PageSays : Grammar → List ℕ → List ℕ → List ℕ → List ℕ → List ℕ → Pen → List ℕ → List ℕ → List ℕ → Page → Type 0
 PageSays g t chain sentence list before pen w path after (More next) = FilledTo g t chain sentence list before pen w path after next × (length after ≤ next .place + 576)
 PageSays g t chain sentence list before pen w path after (Last p) = (l : List ℕ) × Put before after (pen .place) l p × (linesAfter g sentence (stepsOf (pen .at)) list ≡ l)
+
+pub record FilledPage (t chain sentence w path before : List ℕ) (pen : Pen) (w′ path′ after : List ℕ) (answer : Page) : Type 0 where
+  pub of-grammar : (g : Grammar) → Walking g t chain sentence w path (pen .at) → PageSays g t chain sentence (take (pen .at .steps) path) before pen w′ path′ after answer
 
 -- the texts of the pages that follow each other from the entries after a list on
 module _ (g : Grammar) (sentence : List ℕ) (n : ℕ) where

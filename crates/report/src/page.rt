@@ -1,9 +1,8 @@
 // The listing as lines of text, a page at a time.
 ghost use Prim.Native.Nat.{_+_, _<_, _≤_};
-ghost use lib.ListN.{length, take};
-ghost use Rattle.model.specs.GrammarFile.{grammarOf};
-ghost use Rattle.walk.specs.Walking.{Walking};
-ghost use Rattle.report.specs.Page.{LineSays, PageSays};
+ghost use lib.ListN.{length};
+ghost use Rattle.walk.specs.Turns.{Walks};
+ghost use Rattle.report.specs.Page.{WroteLine, FilledPage};
 use crate::text::put_line;
 use listing::next_entry;
 use model::MOST_STEPS;
@@ -36,7 +35,6 @@ pub enum Page {
 
 // Writes the next entry after the live prefix where the walk stands as a line. The path then begins with that entry.
 fn put_next(
-    file: &[u8],
     t: &[u64; TABLE],
     chain: &[u16; CHAIN],
     sentence: &[u32],
@@ -45,10 +43,10 @@ fn put_next(
     out: &mut [u8],
     pen: Pen,
 ) -> Line
-    requires { ⌜ Walking (grammarOf (now file)) (now t) (now chain) (now sentence) (now w) (now path) (pen .at) × (pen .place + 576 < length (now out)) ⌝ }
-    ensures { λ l. ⌜ LineSays (grammarOf (now (file .entry))) (now (t .entry)) (now (chain .entry)) (now (sentence .entry)) (take (pen .at .steps) (now (path .entry))) (now (out .entry)) pen (now (w .exit)) (now (path .exit)) (now (out .exit)) l ⌝ }
+    requires { ⌜ Walks (now t) (now chain) (now sentence) (now w) (now path) (pen .at) × (pen .place + 576 < length (now out)) ⌝ }
+    ensures { λ l. ⌜ WroteLine (now (t .entry)) (now (chain .entry)) (now (sentence .entry)) (now (w .entry)) (now (path .entry)) (now (out .entry)) pen (now (w .exit)) (now (path .exit)) (now (out .exit)) l ⌝ }
 {
-    let s = next_entry(file, t, chain, sentence, w, path, pen.at);
+    let s = next_entry(t, chain, sentence, w, path, pen.at);
     match s {
         Walked::Came(n) => {
             let k = n.steps;
@@ -60,9 +58,8 @@ fn put_next(
 }
 
 // Writes the entries after the live prefix where the walk stands as lines, from a place on, as long as there is room for a line of 96 numbers. The path then
-// begins with the last entry written. The tables t and chain are those of the file.
+// begins with the last entry written.
 pub fn fill(
-    file: &[u8],
     t: &[u64; TABLE],
     chain: &[u16; CHAIN],
     sentence: &[u32],
@@ -71,12 +68,12 @@ pub fn fill(
     out: &mut [u8],
     pen: Pen,
 ) -> Page
-    requires { ⌜ Walking (grammarOf (now file)) (now t) (now chain) (now sentence) (now w) (now path) (pen .at) × (pen .place ≤ length (now out)) ⌝ }
-    ensures { λ p. ⌜ PageSays (grammarOf (now (file .entry))) (now (t .entry)) (now (chain .entry)) (now (sentence .entry)) (take (pen .at .steps) (now (path .entry))) (now (out .entry)) pen (now (w .exit)) (now (path .exit)) (now (out .exit)) p ⌝ }
+    requires { ⌜ Walks (now t) (now chain) (now sentence) (now w) (now path) (pen .at) × (pen .place ≤ length (now out)) ⌝ }
+    ensures { λ p. ⌜ FilledPage (now (t .entry)) (now (chain .entry)) (now (sentence .entry)) (now (w .entry)) (now (path .entry)) (now (out .entry)) pen (now (w .exit)) (now (path .exit)) (now (out .exit)) p ⌝ }
 {
     let mut here = pen;
     while LINE_BYTES < out.len() - here.place {
-        let l = put_next(file, t, chain, sentence, w, path, out, here);
+        let l = put_next(t, chain, sentence, w, path, out, here);
         match l {
             Line::Put(n) => {
                 here = n;
