@@ -24,3 +24,7 @@ abbrev pub NextSays : Grammar → List ℕ → List ℕ → List ℕ → List �
 NextSays g t chain sentence list before pen w path after (After next) = GoesOn g t chain sentence list pen w path next
 NextSays g t chain sentence list before pen w path after Ended = (p : ℕ) × PageSays g t chain sentence list before pen w path after (Page.Last p)
 NextSays g t chain sentence list before pen w path after Broken = Unit {0}
+
+-- what is so for every grammar whose walk stands there; the list is the one on the path
+pub record PrintedPage (t chain sentence w path before : List ℕ) (pen : Pen) (w′ path′ after : List ℕ) (answer : Next) : Type 0 where
+  pub of-grammar : (g : Grammar) → Walking g t chain sentence w path (pen .at) → NextSays g t chain sentence (take (pen .at .steps) path) before pen w′ path′ after answer

@@ -3,11 +3,11 @@
 ghost use mathlib.Core.Option.{none};
 ghost use mathlib.Core.Path.{_≡_};
 ghost use Prim.Native.Nat.{_+_, _<_, _≤_, min};
-ghost use lib.ListN.{length, take};
-ghost use Rattle.model.specs.GrammarFile.{grammarRefusal, grammarOf};
-ghost use Rattle.walk.specs.Walking.{Walking};
+ghost use lib.ListN.{length};
+ghost use Rattle.model.specs.GrammarFile.{grammarRefusal};
+ghost use Rattle.walk.specs.Turns.{Walks};
 ghost use Rattle.io.specs.Counts.{Counts};
-ghost use Rattle.count_analyses.specs.Paths.{NextSays};
+ghost use Rattle.count_analyses.specs.Paths.{PrintedPage};
 ghost use Rattle.count_analyses.specs.Pieces.{PieceSays, Appended, TurnSays, WrittenSays};
 use grammar::start;
 use libc::STDOUT_FILENO;
@@ -271,7 +271,6 @@ enum Next {
 
 // Writes one page of the listing, after what stands before the pen's place in the buffer.
 fn print_page(
-    file: &[u8],
     t: &[u64; TABLE],
     chain: &[u16; CHAIN],
     sentence: &[u32],
@@ -280,10 +279,10 @@ fn print_page(
     out: &mut [u8],
     pen: Pen,
 ) -> Next
-    requires { ⌜ Walking (grammarOf (now file)) (now t) (now chain) (now sentence) (now w) (now path) (pen .at) × (pen .place + 576 < length (now out)) ⌝ }
-    ensures { λ r. ⌜ NextSays (grammarOf (now (file .entry))) (now (t .entry)) (now (chain .entry)) (now (sentence .entry)) (take (pen .at .steps) (now (path .entry))) (now (out .entry)) pen (now (w .exit)) (now (path .exit)) (now (out .exit)) r ⌝ }
+    requires { ⌜ Walks (now t) (now chain) (now sentence) (now w) (now path) (pen .at) × (pen .place + 576 < length (now out)) ⌝ }
+    ensures { λ r. ⌜ PrintedPage (now (t .entry)) (now (chain .entry)) (now (sentence .entry)) (now (w .entry)) (now (path .entry)) (now (out .entry)) pen (now (w .exit)) (now (path .exit)) (now (out .exit)) r ⌝ }
 {
-    let page = fill(file, t, chain, sentence, w, path, out, pen);
+    let page = fill(t, chain, sentence, w, path, out, pen);
     match page {
         Page::Last(end) => {
             if write_text(&out[0..end]) {
@@ -322,7 +321,7 @@ fn print_listing(file: &[u8], sentence: &[u32], n: usize, count: u64, effort: u6
             at: at,
             place: place,
         };
-        let next = print_page(file, &t, &chain, sentence, &mut w, &mut path, out, pen);
+        let next = print_page(&t, &chain, sentence, &mut w, &mut path, out, pen);
         let Next::After(s) = next else {
             return;
         };

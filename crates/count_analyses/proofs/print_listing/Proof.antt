@@ -7,6 +7,7 @@ use Prim.Native.Nat.{ℕ, _+_, _<_, _≤_}
 use native.Mathlib.Omega.{arith}
 use borrow.Author.Needs.{needs}
 use lib.ListN.{length, take}
+use Rattle.model.specs.Grammar.{Grammar}
 use Rattle.model.specs.GrammarFile.{startOf, grammarRefusal, grammarOf}
 use Rattle.model.proofs.FromFile.{start-in, categories-in}
 use Rattle.model.proofs.WellFormed.{accepted-well}
@@ -18,8 +19,11 @@ use Rattle.steps.proofs.Begin.{ready-begin}
 use Rattle.walk.specs.Chain.{Chained}
 use Rattle.walk.specs.Walking.{Walking, stepsOf}
 use Rattle.walk.proofs.Start.{walking-begin}
+use Rattle.report.specs.declared.page.Pen.{Pen}
 use Rattle.report.specs.Page.{linesAfter}
 use Rattle.report.proofs.Placed.{count-line-short}
+use Rattle.count_analyses.specs.declared.Next.{Next}
+use Rattle.count_analyses.specs.Paths.{PrintedPage}
 use Rattle.count_analyses.proofs.print_listing.Statement.{statement}
 use Rattle.count_analyses.proofs.print_listing.Tie as tie
 use Rattle.count_analyses.proofs.print_listing.Reads as reads
@@ -41,6 +45,12 @@ walk-begins file accepted t chain sentence w path n a at compiled chained e firs
     let q : FirstQueue (g .start) w = subst (λ (b : ℕ). FirstQueue b w) e first in
     let ready = ready-begin g (accepted-well file accepted) w q t sentence n compiled some few in
     subst (λ (s : Standing). Walking g t chain sentence w path s × (stepsOf s ≡ n)) (sym f) (walking-begin g t chain sentence w path n ready chained q long, omega arith)
+
+-- where the listing goes on, the next page begins at the buffer's start
+goes-again : {g : Grammar} {t chain sentence w path before : List ℕ} {pen : Pen} {w′ path′ after : List ℕ} {next : Standing} {n : ℕ}
+    → PrintedPage t chain sentence w path before pen w′ path′ after (Next.After next) → Walking g t chain sentence w path (pen .at) → stepsOf (pen .at) ≡ n → length after ≡ 65536
+    → Walking g t chain sentence w′ path′ next × (stepsOf next ≡ n) × (0 + 576 < length after) × (length after ≡ 65536)
+goes-again {g} printed walking e long = let v = printed .of-grammar g walking in (v .walking, v .same-steps ∙ e, omega (arith, long), long)
 
 abbrev Inv-loop : tie.InvT-loop
 Inv-loop file sentence n count effort t chain w₀ path₀ out₀ place₀ at₀ w path out place at = Walking (grammarOf file) t chain sentence w path at × (stepsOf at ≡ n) × (place + 576 < length out) × (length out ≡ 65536)
@@ -84,7 +94,7 @@ loop-holds c =
     (v .0, v .1, omega (arith, c .before .before .before .put-count .ensures .place, count-line-short (a .count) (a .effort)), search needs)
 
 print-page-requires : tie.Need-print-page-requires Inv-loop μ-loop
-print-page-requires c κs = let i = c .before .before .before .before .before .loop in (i .inv .0, i .inv .2)
+print-page-requires c κs = let i = c .before .before .before .before .before .loop in (record { grammar = _; walking = i .inv .0 }, i .inv .2)
 
 enum-known-next : tie.Need-enum-known-next Inv-loop μ-loop
 enum-known-next c = search needs
@@ -95,14 +105,13 @@ returns c = search needs
 loop-less : tie.Need-loop-less Inv-loop μ-loop
 loop-less c =
     let i = c .before .before .before .before .before .before .before .before .before .before .before .loop in
-    let v = rw (c .before .next .given .1) at (c .before .before .before .before .before .print-page .ensures) in
+    let v = (rw (c .before .next .given .1) at (c .before .before .before .before .before .print-page .ensures)) .of-grammar _ (i .inv .0) in
     rw (i .inv .1) at (v .less)
 
 loop-again : tie.Need-loop-again Inv-loop μ-loop
 loop-again c =
     let i = c .before .before .before .before .before .before .before .before .before .before .before .loop in
-    let v = rw (c .before .next .given .1) at (c .before .before .before .before .before .print-page .ensures) in
-    (v .walking, v .same-steps ∙ i .inv .1, omega arith, search needs)
+    goes-again (rw (c .before .next .given .1) at (c .before .before .before .before .before .print-page .ensures)) (i .inv .0) (i .inv .1) (search needs)
 
 pub print-listing-spec : {M : Type 1} → statement M
 print-listing-spec =
