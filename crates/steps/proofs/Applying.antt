@@ -6,7 +6,7 @@ use mathlib.Core.Option.{Option, none, some}
 use mathlib.Core.List.{List, [], _∷_, map}
 use Prim.Native.Nat.{ℕ, suc, _+_, _-_, _*_, _<_, _≤_}
 use native.Mathlib.Omega.{arith}
-use borrow.Author.Tests.{eq-eqb, ne-eqb, ltb-true, ltb-false}
+use borrow.Author.Tests.{eq-eqb, ne-eqb, lt-ltb, le-ltb, ltb-true, ltb-false}
 use lib.Dec.{eqb, ltb}
 use lib.ListN.{length, getD, drop, length-map, drop-of-length-le}
 use lib.Seq.{slice, drop-cons}
@@ -15,7 +15,7 @@ use Rattle.model.specs.Grammar.{Rule, Grammar, emptyWord, ruleAt, isLexical}
 use Rattle.model.specs.Step.{wordFits}
 use Rattle.model.proofs.Apart.{Every}
 use Rattle.ranking.specs.Recognizer.{stops, goes}
-use Rattle.ranking.specs.Ranks.{Ranked, rerank, lowered, scanRanked, readRanked, withoutFront, predictRanked, applyRanked, stepRanked}
+use Rattle.ranking.specs.Ranks.{Ranked, RankedState, rerank, lowered, scanRanked, readRanked, withoutFront, predictRanked, applyRanked, stepRanked}
 use Rattle.ranking.specs.Numbered.{madeAt, numberAt}
 use Rattle.ranking.proofs.Limits.{predict-length}
 use Rattle.ranking.proofs.Numbered.{Below}
@@ -29,81 +29,85 @@ use Rattle.ranks.proofs.Holding.{queue-first, others-numbers, each-held}
 use Rattle.ranks.proofs.Predicting.{others-short, others-behind}
 use Rattle.ranks.proofs.Scanning.{scanned-numbers}
 use Rattle.steps.specs.declared.Standing.{Standing}
-use Rattle.steps.specs.declared.Heard.{Heard}
-use Rattle.steps.specs.declared.Heard.the-variants.{Next, Other}
 use Rattle.steps.specs.declared.Stepped.the-variants.{Halts, Long, Leads}
-use Rattle.steps.specs.Steps.{stateIn, Ready, Fronted, heardBy, taken, readBy, aheadWith, Advances, StepSays}
+use Rattle.steps.specs.Steps.{stateIn, Ready, Fronted, hears, taken, readBy, ahead, opens, Advances, StepSays}
+use Rattle.steps.proofs.Behind.{reads-few}
 use Rattle.steps.proofs.Onward.{state, pending, leads-there, stands-there, rule, x, R, right, reached-front, fit-front, others-length, scans, predicts}
 
--- a word is heard: so many words are then read, and the recognizer goes there; another word halts it
-pub record Reads (word read n : ℕ) (sentence : List ℕ) : Type 0 where
-  pub words : n ≡ read + taken word
-  pub known : n ≤ length sentence
-  pub scan : (q : List (Ranked ℕ)) → scanRanked word q (drop read sentence) ≡ goes (record { queue = q; words = drop n sentence })
+-- a word may be read next: it is read, and the recognizer goes there; else it halts
+pub record Reads (word read : ℕ) (sentence : List ℕ) : Type 0 where
+  pub known : read + taken word ≤ length sentence
+  pub scan : (q : List (Ranked ℕ)) → scanRanked word q (drop read sentence) ≡ goes (record { queue = q; words = drop (read + taken word) sentence })
 
-next-one : {a b : ℕ} → Next a ≡ Next b → a ≡ b
-next-one e = cc
-
-never-other : {X : Type 0} {a : ℕ} → Other ≡ Next a → X
-never-other e = let z : _≡_ {A = ℕ} 0 1 = cc in absurd (omega arith)
-
-never-next : {X : Type 0} {a : ℕ} → Next a ≡ Other → X
-never-next e = let z : _≡_ {A = ℕ} 0 1 = cc in absurd (omega arith)
+never-true : {X : Type 0} → false ≡ true → X
+never-true e = let z : _≡_ {A = ℕ} 0 1 = cc in absurd (omega arith)
 
 module _ (word read : ℕ) (sentence : List ℕ) (within : read ≤ length sentence) where
-  pub heard-next : (n : ℕ) → heardBy word sentence read ≡ Next n → Reads word read n sentence
-  heard-next n e = go (eqb word emptyWord) refl e
+  abbrev state-of : List (Ranked ℕ) → ℕ → RankedState ℕ
+  state-of q k = record { queue = q; words = drop k sentence }
+
+  pub heard-next : hears word sentence read ≡ true → Reads word read sentence
+  heard-next e = go (eqb word emptyWord) refl e
     where
-      fits : (b : Bool) → wordFits word (getD sentence read 0) ≡ b → read < length sentence → eqb word emptyWord ≡ false → _≡_ {A = Heard} (if b then Next (read + 1) else Other) (Next n) → Reads word read n sentence
-      fits true f l z d =
-          let m : n ≡ read + 1 = sym (next-one d) in
-          let s : suc read ≡ n = omega arith in
+      fits : wordFits word (getD sentence read 0) ≡ true → read < length sentence → eqb word emptyWord ≡ false → Reads word read sentence
+      fits f l z =
+          let one : taken word ≡ 1 = ap (λ (b : Bool). if b then 0 else 1) z in
+          let s : suc read ≡ read + taken word = omega (arith, one) in
           record {
-            words = m ∙ ap (λ (b : Bool). read + (if b then 0 else 1)) (sym z);
-            known = omega arith;
+            known = omega (arith, one, l);
             scan = λ q.
-                ap (λ (b : Bool). if b then goes (record { queue = q; words = drop read sentence }) else readRanked word q (drop read sentence)) z
+                ap (λ (b : Bool). if b then goes (state-of q read) else readRanked word q (drop read sentence)) z
                 ∙ ap (readRanked word q) (drop-cons sentence read 0 l)
-                ∙ ap (λ (b : Bool). if b then goes (record { queue = q; words = drop (suc read) sentence }) else stops 16) f
-                ∙ ap (λ (k : ℕ). goes (record { queue = q; words = drop k sentence })) s;
+                ∙ ap (λ (b : Bool). if b then goes (state-of q (suc read)) else stops 16) f
+                ∙ ap (λ (k : ℕ). goes (state-of q k)) s;
           }
-      fits false f l z d = never-other d
 
-      left : (b : Bool) → ltb read (length sentence) ≡ b → eqb word emptyWord ≡ false
-          → _≡_ {A = Heard} (if b then (if wordFits word (getD sentence read 0) then Next (read + 1) else Other) else Other) (Next n) → Reads word read n sentence
-      left true l z d = fits (wordFits word (getD sentence read 0)) refl (ltb-true read (length sentence) l) z d
-      left false l z d = never-other d
+      left : (b : Bool) → ltb read (length sentence) ≡ b → eqb word emptyWord ≡ false → (if b then wordFits word (getD sentence read 0) else false) ≡ true → Reads word read sentence
+      left true l z d = fits d (ltb-true read (length sentence) l) z
+      left false l z d = never-true d
 
-      go : (b : Bool) → eqb word emptyWord ≡ b
-          → _≡_ {A = Heard} (if b then Next read else if ltb read (length sentence) then (if wordFits word (getD sentence read 0) then Next (read + 1) else Other) else Other) (Next n) → Reads word read n sentence
+      go : (b : Bool) → eqb word emptyWord ≡ b → (if b then true else if ltb read (length sentence) then wordFits word (getD sentence read 0) else false) ≡ true → Reads word read sentence
       go true z d =
-          let m : n ≡ read = sym (next-one d) in
+          let none-taken : taken word ≡ 0 = ap (λ (b : Bool). if b then 0 else 1) z in
+          let s : read ≡ read + taken word = omega (arith, none-taken) in
           record {
-            words = m ∙ (let y : read ≡ read + 0 = omega arith in y) ∙ ap (λ (b : Bool). read + (if b then 0 else 1)) (sym z);
-            known = omega (arith, m);
-            scan = λ q.
-                ap (λ (b : Bool). if b then goes (record { queue = q; words = drop read sentence }) else readRanked word q (drop read sentence)) z
-                ∙ ap (λ (k : ℕ). goes (record { queue = q; words = drop k sentence })) (sym m);
+            known = omega (arith, none-taken, within);
+            scan = λ q. ap (λ (b : Bool). if b then goes (state-of q read) else readRanked word q (drop read sentence)) z ∙ ap (λ (k : ℕ). goes (state-of q k)) s;
           }
       go false z d = left (ltb read (length sentence)) refl z d
 
-  pub heard-other : heardBy word sentence read ≡ Other → (q : List (Ranked ℕ)) → scanRanked word q (drop read sentence) ≡ stops 16
+  pub heard-other : hears word sentence read ≡ false → (q : List (Ranked ℕ)) → scanRanked word q (drop read sentence) ≡ stops 16
   heard-other e q = go (eqb word emptyWord) refl e
     where
-      fits : (b : Bool) → wordFits word (getD sentence read 0) ≡ b → read < length sentence → _≡_ {A = Heard} (if b then Next (read + 1) else Other) Other → readRanked word q (drop read sentence) ≡ stops 16
-      fits true f l d = never-next d
-      fits false f l d = ap (readRanked word q) (drop-cons sentence read 0 l) ∙ ap (λ (b : Bool). if b then goes (record { queue = q; words = drop (suc read) sentence }) else stops 16) f
-
-      left : (b : Bool) → ltb read (length sentence) ≡ b → _≡_ {A = Heard} (if b then (if wordFits word (getD sentence read 0) then Next (read + 1) else Other) else Other) Other
-          → readRanked word q (drop read sentence) ≡ stops 16
-      left true l d = fits (wordFits word (getD sentence read 0)) refl (ltb-true read (length sentence) l) d
+      left : (b : Bool) → ltb read (length sentence) ≡ b → (if b then wordFits word (getD sentence read 0) else false) ≡ false → readRanked word q (drop read sentence) ≡ stops 16
+      left true l d = ap (readRanked word q) (drop-cons sentence read 0 (ltb-true read (length sentence) l)) ∙ ap (λ (b : Bool). if b then goes (state-of q (suc read)) else stops 16) d
       left false l d = ap (readRanked word q) (drop-of-length-le sentence {i = read} (ltb-false read (length sentence) l))
 
-      go : (b : Bool) → eqb word emptyWord ≡ b
-          → _≡_ {A = Heard} (if b then Next read else if ltb read (length sentence) then (if wordFits word (getD sentence read 0) then Next (read + 1) else Other) else Other) Other
-          → (if b then goes (record { queue = q; words = drop read sentence }) else readRanked word q (drop read sentence)) ≡ stops 16
-      go true z d = never-next d
+      go : (b : Bool) → eqb word emptyWord ≡ b → (if b then true else if ltb read (length sentence) then wordFits word (getD sentence read 0) else false) ≡ false
+          → (if b then goes (state-of q read) else readRanked word q (drop read sentence)) ≡ stops 16
+      go true z d = never-true (sym d)
       go false z d = left (ltb read (length sentence)) refl d
+
+-- what the code reads in the table tells whether the step of rule r leads on
+module _ (t sentence : List ℕ) (at : Standing) (r cell d : ℕ) (place : cell ≡ 8 * r) (read : d ≡ daughtersIn t cell) where
+  same : daughtersIn t (8 * r) ≡ d
+  same = sym (read ∙ ap (daughtersIn t) place)
+
+  abbrev by : Bool → Bool → Bool
+  by lexical long = if lexical then hears (wordIn t (8 * r)) sentence (at .read) else if long then false else true
+
+  pub opens-lexical : d ≡ 0 → (word : ℕ) → word ≡ wordIn t cell → (b : Bool) → b ≡ hears word sentence (at .read) → b ≡ opens t sentence at r
+  opens-lexical z word e b h =
+      h ∙ ap (λ (v : ℕ). hears v sentence (at .read)) (e ∙ ap (wordIn t) place) ∙ sym (ap (λ (l : Bool). by l (ltb (at .left) (at .to - at .from + daughtersIn t (8 * r)))) (eq-eqb (daughtersIn t (8 * r)) 0 (same ∙ z)))
+
+  opens-by : (d ≡ 0 → ⊥) → (long : Bool) → ltb (at .left) (at .to - at .from + daughtersIn t (8 * r)) ≡ long → opens t sentence at r ≡ by false long
+  opens-by h long e = ap₂ by (ne-eqb (daughtersIn t (8 * r)) 0 (λ z. h (sym same ∙ z))) e
+
+  pub opens-long : (d ≡ 0 → ⊥) → at .left < at .to - at .from + d → false ≡ opens t sentence at r
+  opens-long h l = sym (opens-by h true (lt-ltb (at .left) (at .to - at .from + daughtersIn t (8 * r)) (omega (arith, same))))
+
+  pub opens-fits : (d ≡ 0 → ⊥) → at .to - at .from + d ≤ at .left → true ≡ opens t sentence at r
+  opens-fits h l = sym (opens-by h false (le-ltb (at .left) (at .to - at .from + daughtersIn t (8 * r)) (omega (arith, same))))
 
 -- a rule of the front's category
 module _ (g : Grammar) (t sentence w : List ℕ) (at : Standing) (ready : Ready g t sentence w at) (r : ℕ) (front : Fronted g w at r) where
@@ -114,29 +118,30 @@ module _ (g : Grammar) (t sentence w : List ℕ) (at : Standing) (ready : Ready 
   rule-small = omega (arith, cells .room)
 
   pub advances : Advances at
-  advances = record { predicted = front .predicted; left = omega (arith, front .predicted, ready .fits); small = (omega (arith, ready .room, ready .few, ready .fits, front .predicted), omega (arith, ready .few)) }
+  advances = record { predicted = front .predicted; left = omega (arith, front .predicted, ready .fits); small = (omega (arith, ready .room, ready .few, ready .fits, front .predicted), omega (arith, ready .few)); heard = omega (arith, ready .heard, ready .few) }
 
-  -- where a step leads, by the length of its queue
-  ahead-is : (n m : ℕ) → m ≡ at .to - at .from - 1 + daughtersIn t (8 * r)
-      → _≡_ {A = Standing} (record { from = at .to; to = at .to + m; read = n; steps = at .steps + 1; left = at .left - 1 }) (aheadWith t at r n)
-  ahead-is n m e = ap (λ (k : ℕ). record { from = at .to; to = at .to + k; read = n; steps = at .steps + 1; left = at .left - 1 }) e
+  -- where a step leads, by the length of its queue and the words then read
+  ahead-is : (n m : ℕ) → n ≡ at .read + readBy t r → m ≡ at .to - at .from - 1 + daughtersIn t (8 * r)
+      → _≡_ {A = Standing} (record { from = at .to; to = at .to + m; read = n; steps = at .steps + 1; left = at .left - 1 }) (ahead t at r)
+  ahead-is n m d e = ap₂ (λ (l k : ℕ). record { from = at .to; to = at .to + k; read = l; steps = at .steps + 1; left = at .left - 1 }) d e
 
   -- a step to the queue q, whose numbers are written behind
   leads-to : (read : ℕ) (q : List (Ranked ℕ)) → stepRanked (numberAt (at .steps)) g (state g t sentence w at ready) r ≡ goes (record { queue = q; words = drop read sentence })
       → read ≡ at .read + readBy t r → length q ≡ at .to - at .from - 1 + daughtersIn t (8 * r) → at .to - at .from + daughtersIn t (8 * r) ≤ at .left → read ≤ length sentence
       → (w′ : List ℕ) → NextQueue (map numberOf q) w w′ (at .to) (at .to + (at .to - at .from - 1 + daughtersIn t (8 * r)))
-      → StepSays g t sentence w w′ at r (Leads (aheadWith t at r read))
+      → StepSays g t sentence w w′ at r (Leads (ahead t at r))
   leads-to read q leads words long fits known w′ next =
       let numbers : slice (at .to) (at .to + length q) w′ ≡ map numberOf q = ap (λ (n : ℕ). slice (at .to) (at .to + n) w′) long ∙ next .written in
       let few : length q + 1 ≤ at .left = omega (arith, long, fits, front .predicted) in
-      let e = ahead-is read (length q) long in
+      let heard : read ≤ at .read + 1 = omega (arith, words, reads-few t r) in
+      let e = ahead-is read (length q) words long in
       record {
         kept = next .kept;
         below = next .below;
         says = record {
-          place = ap (aheadWith t at r) words;
-          leads-to = subst (λ (s : Standing). stepRanked (numberAt (at .steps)) g (state g t sentence w at ready) r ≡ goes (stateIn g sentence w′ s)) e (leads-there g t sentence w at ready r read q leads few known w′ (next .kept) numbers);
-          ready = subst (Ready g t sentence w′) e (stands-there g t sentence w at ready r read q leads few known w′ (next .kept) numbers);
+          place = refl;
+          leads-to = subst (λ (s : Standing). stepRanked (numberAt (at .steps)) g (state g t sentence w at ready) r ≡ goes (stateIn g sentence w′ s)) e (leads-there g t sentence w at ready r read q leads few known heard w′ (next .kept) numbers);
+          ready = subst (Ready g t sentence w′) e (stands-there g t sentence w at ready r read q leads few known heard w′ (next .kept) numbers);
         };
       }
 
@@ -172,15 +177,20 @@ module _ (g : Grammar) (t sentence w : List ℕ) (at : Standing) (ready : Ready 
     reads-one : readBy t r ≡ taken (wordIn t (8 * r))
     reads-one = ap (λ (b : Bool). if b then taken (wordIn t (8 * r)) else 0) (eq-eqb (daughtersIn t (8 * r)) 0 no-daughters)
 
-    pub scan-says : (word n : ℕ) → word ≡ wordIn t (8 * r) → heardBy word sentence (at .read) ≡ Next n → (w′ : List ℕ) → Mapped (remade (λ k. k - 1)) w w′ (at .from + 1) (at .to) (at .to)
-        → StepSays g t sentence w w′ at r (Leads (aheadWith t at r n))
-    scan-says word n e heard w′ m =
+    heard-word : (b : Bool) → opens t sentence at r ≡ b → hears (wordIn t (8 * r)) sentence (at .read) ≡ b
+    heard-word b o =
+        sym (ap (λ (c : Bool). if c then hears (wordIn t (8 * r)) sentence (at .read) else if ltb (at .left) (at .to - at .from + daughtersIn t (8 * r)) then false else true) (eq-eqb (daughtersIn t (8 * r)) 0 no-daughters))
+        ∙ o
+
+    pub scan-says : opens t sentence at r ≡ true → (w′ : List ℕ) → Mapped (remade (λ k. k - 1)) w w′ (at .from + 1) (at .to) (at .to) → StepSays g t sentence w w′ at r (Leads (ahead t at r))
+    scan-says o w′ m =
+        let word = wordIn t (8 * r) in
         let q = withoutFront (x g t sentence w at ready r front) (R g t sentence w at ready r front) in
-        let k = heard-next word (at .read) sentence (ready .known) n heard in
+        let k = heard-next word (at .read) sentence (ready .known) (heard-word true o) in
         let long : length q ≡ at .to - at .from - 1 + daughtersIn t (8 * r)
         = length-map (R g t sentence w at ready r front) (rerank (lowered (x g t sentence w at ready r front .ranks))) ∙ others-length g t sentence w at ready r front ∙ (let y : at .to - at .from - 1 ≡ at .to - at .from - 1 + daughtersIn t (8 * r) = omega (arith, no-daughters) in y) in
-        leads-to n q (scans g t sentence w at ready r front lex ∙ ap (λ (v : ℕ). scanRanked v q (drop (at .read) sentence)) (sym (cells .word) ∙ sym e) ∙ k .scan q)
-        (k .words ∙ ap (λ (v : ℕ). at .read + taken v) e ∙ ap (λ (v : ℕ). at .read + v) (sym reads-one)) long (omega (arith, no-daughters, ready .fits, front .predicted)) (k .known) w′
+        leads-to (at .read + taken word) q (scans g t sentence w at ready r front lex ∙ ap (λ (v : ℕ). scanRanked v q (drop (at .read) sentence)) (sym (cells .word)) ∙ k .scan q)
+        (ap (λ (v : ℕ). at .read + v) (sym reads-one)) long (omega (arith, no-daughters, ready .fits, front .predicted)) (k .known) w′
         (record {
           kept = m .kept;
           below = m .below;
@@ -191,13 +201,13 @@ module _ (g : Grammar) (t sentence w : List ℕ) (at : Standing) (ready : Ready 
               ∙ scanned-numbers g (front .rule) (right g t sentence w at ready r front) lex (x g t sentence w at ready r front) (R g t sentence w at ready r front) (drop (at .read) sentence) (reached-front g t sentence w at ready r front) (fit-front g t sentence w at ready r front) (front .of-front);
         })
 
-    pub other-says : (word : ℕ) → word ≡ wordIn t (8 * r) → heardBy word sentence (at .read) ≡ Other → StepSays g t sentence w w at r (Halts 16)
-    other-says word e heard =
+    pub other-says : opens t sentence at r ≡ false → StepSays g t sentence w w at r (Halts 16)
+    other-says o =
         record {
           kept = refl;
           below = refl;
-          says = scans g t sentence w at ready r front lex ∙ ap (λ (v : ℕ). scanRanked v (withoutFront (x g t sentence w at ready r front) (R g t sentence w at ready r front)) (drop (at .read) sentence)) (sym (cells .word) ∙ sym e)
-              ∙ heard-other word (at .read) sentence (ready .known) heard (withoutFront (x g t sentence w at ready r front) (R g t sentence w at ready r front));
+          says = scans g t sentence w at ready r front lex ∙ ap (λ (v : ℕ). scanRanked v (withoutFront (x g t sentence w at ready r front) (R g t sentence w at ready r front)) (drop (at .read) sentence)) (sym (cells .word))
+              ∙ heard-other (wordIn t (8 * r)) (at .read) sentence (ready .known) (heard-word false o) (withoutFront (x g t sentence w at ready r front) (R g t sentence w at ready r front));
         }
 
   -- a nonlexical rule
@@ -212,17 +222,36 @@ module _ (g : Grammar) (t sentence w : List ℕ) (at : Standing) (ready : Ready 
     next-length : length (predictRanked (numberAt (at .steps)) g (front .rule) (x g t sentence w at ready r front) (R g t sentence w at ready r front)) ≡ at .to - at .from - 1 + daughtersIn t (8 * r)
     next-length = omega (arith, predict-length (numberAt (at .steps)) g (front .rule) (x g t sentence w at ready r front) (R g t sentence w at ready r front), others-length g t sentence w at ready r front, cells .daughters)
 
-    pub long-says : (d : ℕ) → d ≡ daughtersIn t (8 * r) → at .left < at .to - at .from + d → StepSays g t sentence w w at r Long
-    long-says d e l =
+    fits-left : (b : Bool) → opens t sentence at r ≡ b → (if ltb (at .left) (at .to - at .from + daughtersIn t (8 * r)) then false else true) ≡ b
+    fits-left b o =
+        sym (ap (λ (c : Bool). if c then hears (wordIn t (8 * r)) sentence (at .read) else if ltb (at .left) (at .to - at .from + daughtersIn t (8 * r)) then false else true) (ne-eqb (daughtersIn t (8 * r)) 0 daughters))
+        ∙ o
+
+    pub open-fits : opens t sentence at r ≡ true → at .to - at .from + daughtersIn t (8 * r) ≤ at .left
+    open-fits o = go (ltb (at .left) (at .to - at .from + daughtersIn t (8 * r))) refl (fits-left true o)
+      where
+        go : (b : Bool) → ltb (at .left) (at .to - at .from + daughtersIn t (8 * r)) ≡ b → (if b then false else true) ≡ true → at .to - at .from + daughtersIn t (8 * r) ≤ at .left
+        go true e d = never-true d
+        go false e d = ltb-false (at .left) (at .to - at .from + daughtersIn t (8 * r)) e
+
+    pub long-says : opens t sentence at r ≡ false → StepSays g t sentence w w at r Long
+    long-says o =
         record {
           kept = refl;
           below = refl;
           says = (
             record { queue = predictRanked (numberAt (at .steps)) g (front .rule) (x g t sentence w at ready r front) (R g t sentence w at ready r front); words = drop (at .read) sentence },
             predicts g t sentence w at ready r front nonlexical,
-            omega (arith, next-length, front .predicted),
+            omega (arith, next-length, front .predicted, too-long),
           );
         }
+      where
+        too-long : at .left < at .to - at .from + daughtersIn t (8 * r)
+        too-long = go (ltb (at .left) (at .to - at .from + daughtersIn t (8 * r))) refl (fits-left false o)
+          where
+            go : (b : Bool) → ltb (at .left) (at .to - at .from + daughtersIn t (8 * r)) ≡ b → (if b then false else true) ≡ false → at .left < at .to - at .from + daughtersIn t (8 * r)
+            go true e d = ltb-true (at .left) (at .to - at .from + daughtersIn t (8 * r)) e
+            go false e d = never-true (sym d)
 
     pub mark-is : 4 * (at .steps + 1) ≡ madeAt (at .steps)
     mark-is = omega arith
@@ -251,7 +280,7 @@ module _ (g : Grammar) (t sentence w : List ℕ) (at : Standing) (ready : Ready 
 
     pub expand-says : (fits : at .to - at .from + daughtersIn t (8 * r) ≤ at .left) (w′ : List ℕ)
         → NextQueue (map numberOf (expandedQueue g (front .rule) (4 * (at .steps + 1)) w (at .from) (at .to))) w w′ (at .to) (at .to + (at .to - at .from - 1 + length (front .rule .daughters)))
-        → StepSays g t sentence w w′ at r (Leads (aheadWith t at r (at .read)))
+        → StepSays g t sentence w w′ at r (Leads (ahead t at r))
     expand-says fits w′ next =
         leads-to (at .read) (predictRanked (numberAt (at .steps)) g (front .rule) (x g t sentence w at ready r front) (R g t sentence w at ready r front)) (predicts g t sentence w at ready r front nonlexical)
         ((let y : at .read ≡ at .read + 0 = omega arith in y) ∙ ap (λ (b : Bool). at .read + (if b then taken (wordIn t (8 * r)) else 0)) (sym (ne-eqb (daughtersIn t (8 * r)) 0 daughters)))

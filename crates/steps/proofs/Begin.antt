@@ -56,6 +56,7 @@ module _ (g : Grammar) (well : WellFormed g) where
           compiled = compiled;
           held = held g w 0 1 (root ∷ []) (root-fits, tt) first-numbers (first .long) (omega arith) (omega arith);
           known = omega arith;
+          heard = omega arith;
           reached = subst (Reached g) (sym (state-begin sentence n)) (reached-begin (numberAt 0) g (well .right) 0 sentence);
           numbered = subst (Below (madeAt 0)) (sym first-queue) (omega arith, tt);
           grown = omega arith;

@@ -1,9 +1,9 @@
--- A step taken back: how many words it had read, and where the recognizer stood before it.
+-- How many words a step reads, and where the recognizer stood before it.
 -- Assumes nothing.
-use mathlib.Core.Path.{_≡_, sym, ap, ap₂, _∙_}
-use mathlib.Core.Bool.{Bool}
+use mathlib.Core.Path.{_≡_, sym, ap, _∙_}
+use mathlib.Core.Bool.{Bool, true, false}
 use mathlib.Core.List.{List}
-use Prim.Native.Nat.{ℕ, _+_, _-_, _*_, _<_, _≤_}
+use Prim.Native.Nat.{ℕ, _*_, _<_, _≤_}
 use native.Mathlib.Omega.{arith}
 use borrow.Author.Tests.{eq-eqb, ne-eqb}
 use lib.Dec.{eqb}
@@ -11,7 +11,7 @@ use Rattle.model.specs.Base.{if_then_else_}
 use Rattle.model.specs.Grammar.{emptyWord}
 use Rattle.ranks.specs.Table.{daughtersIn, wordIn}
 use Rattle.steps.specs.declared.Standing.{Standing}
-use Rattle.steps.specs.Steps.{readBy, ahead, behind, TakenBack}
+use Rattle.steps.specs.Steps.{readBy, ahead, behind}
 
 -- what the code reads in the table tells how many words the step reads
 module _ (t : List ℕ) (r cell d : ℕ) (place : cell ≡ 8 * r) (read : d ≡ daughtersIn t cell) where
@@ -33,23 +33,16 @@ module _ (t : List ℕ) (r cell d : ℕ) (place : cell ≡ 8 * r) (read : d ≡ 
       let z : w ≡ wordIn t (8 * r) = e ∙ ap (wordIn t) place in
       sym (tested _ (eq-eqb d 0 h) ∙ ap (λ (b : Bool). if b then 0 else 1) (ne-eqb (wordIn t (8 * r)) emptyWord (λ q. i (z ∙ q))))
 
-  -- and what it had to keep above 0
-  module _ (at : Standing) (taken : TakenBack t at r) where
-    same : d ≡ daughtersIn t (8 * r)
-    same = read ∙ ap (daughtersIn t) place
+-- at least none and at most one
+pub reads-few : (t : List ℕ) (r : ℕ) → readBy t r ≤ 1
+reads-few t r = go (eqb (daughtersIn t (8 * r)) 0) (eqb (wordIn t (8 * r)) emptyWord)
+  where
+    go : (b c : Bool) → (if b then (if c then 0 else 1) else 0) ≤ 1
+    go true true = omega arith
+    go true false = omega arith
+    go false c = omega arith
 
-    pub daughters-within : d ≤ at .to - at .from + 1
-    daughters-within = omega (arith, same, taken .daughters)
-
-    pub queue-within : at .to - at .from + 1 - d ≤ at .from
-    queue-within = omega (arith, same, taken .below)
-
-    pub made-behind : (n : ℕ) → n ≡ readBy t r
-        → record { from = at .from - (at .to - at .from + 1 - d); to = at .from; read = at .read - n; steps = at .steps - 1; left = at .left + 1 } ≡ behind t at r
-    made-behind n e =
-        ap₂ (λ (x y : ℕ). record { from = at .from - (at .to - at .from + 1 - x); to = at .from; read = at .read - y; steps = at .steps - 1; left = at .left + 1 }) same e
-
--- the step of rule r, taken back
+-- before the step of rule r
 module _ (t : List ℕ) (at : Standing) (r : ℕ) (predicted : at .from < at .to) (left : 1 ≤ at .left) where
   abbrev d : ℕ
   d = daughtersIn t (8 * r)
@@ -59,14 +52,3 @@ module _ (t : List ℕ) (at : Standing) (r : ℕ) (predicted : at .from < at .to
 
   pub behind-ahead : behind t (ahead t at r) r ≡ at
   behind-ahead = standing-is (behind t (ahead t at r) r) at (omega arith) (omega arith) (omega arith) (omega arith) (omega arith)
-
-  pub taken-back : at .to + (at .to - at .from - 1 + d) ≤ 6272 → at .left ≤ 97 → TakenBack t (ahead t at r) r
-  taken-back room few =
-      record {
-        ordered = omega arith;
-        daughters = omega arith;
-        below = omega arith;
-        words = omega arith;
-        made = omega arith;
-        small = (omega arith, omega arith);
-      }

@@ -37,7 +37,7 @@ module _ (g : Grammar) (t sentence w : List ℕ) (at : Standing) (ready : Ready 
     counts : Counts 3 state (record { queue = q; words = drop read sentence })
     counts = step-counts (numberAt (at .steps)) g (ready .well) state (record { queue = q; words = drop read sentence }) r leads
 
-    module _ (fits : length q + 1 ≤ at .left) (known : read ≤ length sentence) (w′ : List ℕ) (kept : length w′ ≡ length w) (numbers : slice (at .to) (at .to + length q) w′ ≡ map numberOf q) where
+    module _ (fits : length q + 1 ≤ at .left) (known : read ≤ length sentence) (heard : read ≤ at .read + 1) (w′ : List ℕ) (kept : length w′ ≡ length w) (numbers : slice (at .to) (at .to + length q) w′ ≡ map numberOf q) where
       abbrev pub next : Standing
       next = record { from = at .to; to = at .to + length q; read = read; steps = at .steps + 1; left = at .left - 1 }
 
@@ -71,6 +71,7 @@ module _ (g : Grammar) (t sentence w : List ℕ) (at : Standing) (ready : Ready 
             compiled = ready .compiled;
             held = held g w′ (at .to) (at .to + length q) q all-fits numbers (kept ∙ ready .held .long) (omega arith) (omega (arith, ready .room, grown, fits, ready .few));
             known = known;
+            heard = omega (arith, heard, ready .heard);
             reached = subst⁻¹ (Reached g) state-is reached;
             numbered = let z : suc (at .steps) ≡ at .steps + 1 = omega arith in subst (λ (n : ℕ). Below (madeAt n) (queueIn g w′ (at .to) (at .to + length q))) z (subst⁻¹ (Below (madeAt (suc (at .steps)))) queue below);
             grown = omega (arith, grown);

@@ -1,6 +1,7 @@
 -- One step of the recognizer in code, against the step of predictions that hold ranks (ranking/specs/Ranks).
 -- Assumes nothing.
 use mathlib.Core.Path.{_≡_}
+use mathlib.Core.Bool.{Bool, true, false}
 use mathlib.Core.Option.{some}
 use mathlib.Core.List.{List}
 use Prim.Native.Nat.{ℕ, _+_, _-_, _*_, _<_, _≤_}
@@ -19,8 +20,6 @@ use Rattle.ranks.specs.Prediction.{unpacked}
 use Rattle.ranks.specs.Held.{queueIn, Held}
 use Rattle.ranks.specs.Table.{Compiled, daughtersIn, wordIn}
 use Rattle.steps.specs.declared.Standing.{Standing}
-use Rattle.steps.specs.declared.Heard.{Heard}
-use Rattle.steps.specs.declared.Heard.the-variants.{Next, Other}
 use Rattle.steps.specs.declared.Stepped.{Stepped}
 use Rattle.steps.specs.declared.Stepped.the-variants.{Halts, Long, Leads}
 
@@ -29,12 +28,14 @@ abbrev pub stateIn : Grammar → List ℕ → List ℕ → Standing → RankedSt
 stateIn g sentence w at = record { queue = queueIn g w (at .from) (at .to); words = drop (at .read) sentence }
 
 -- The recognizer stands there: the table is the grammar's; steps reach the state; predictions have numbers that steps before gave; each step added at most
--- 2 to the queue, which is no longer than the steps left, so that it has at most 64 predictions; and the queues so far, 64 cells for each, have room for it.
+-- 2 to the queue, which is no longer than the steps left, so that it has at most 64 predictions, and read at most one word; and the queues so far, 64 cells for
+-- each, have room for it.
 pub record Ready (g : Grammar) (t sentence w : List ℕ) (at : Standing) : Type 0 where
   pub well : WellFormed g
   pub compiled : Compiled g t
   pub held : Held g w (at .from) (at .to)
   pub known : at .read ≤ length sentence
+  pub heard : at .read ≤ at .steps
   pub reached : Reached g (stateIn g sentence w at)
   pub numbered : Below (madeAt (at .steps)) (queueIn g w (at .from) (at .to))
   pub grown : at .to ≤ at .from + 1 + 2 * at .steps
@@ -53,12 +54,9 @@ pub record Fronted (g : Grammar) (w : List ℕ) (at : Standing) (r : ℕ) : Type
   pub rule-is : ruleAt g r ≡ some rule
   pub of-front : rule .category ≡ unpacked (getD w (at .from) 0) .category
 
--- how many words are read after the word of a lexical rule, which must be the next one: it is where it fits the next place; the empty word takes none
-abbrev pub heardBy : ℕ → List ℕ → ℕ → Heard
-heardBy word sentence read =
-    if eqb word emptyWord then Next read
-    else if ltb read (length sentence) then (if wordFits word (getD sentence read 0) then Next (read + 1) else Other)
-    else Other
+-- whether a word may be read next: it is the empty word, which takes none, or it fits the next place
+abbrev pub hears : ℕ → List ℕ → ℕ → Bool
+hears word sentence read = if eqb word emptyWord then true else if ltb read (length sentence) then wordFits word (getD sentence read 0) else false
 
 -- how many words a word takes, and the step of rule r
 abbrev pub taken : ℕ → ℕ
@@ -68,11 +66,9 @@ abbrev pub readBy : List ℕ → ℕ → ℕ
 readBy t r = if eqb (daughtersIn t (8 * r)) 0 then taken (wordIn t (8 * r)) else 0
 
 -- where the step of rule r leads, and where the recognizer stood before it
-abbrev pub aheadWith : List ℕ → Standing → ℕ → ℕ → Standing
-aheadWith t at r read = record { from = at .to; to = at .to + (at .to - at .from - 1 + daughtersIn t (8 * r)); read = read; steps = at .steps + 1; left = at .left - 1 }
-
 abbrev pub ahead : List ℕ → Standing → ℕ → Standing
-ahead t at r = aheadWith t at r (at .read + readBy t r)
+ahead t at r =
+    record { from = at .to; to = at .to + (at .to - at .from - 1 + daughtersIn t (8 * r)); read = at .read + readBy t r; steps = at .steps + 1; left = at .left - 1 }
 
 abbrev pub behind : List ℕ → Standing → ℕ → Standing
 behind t at r =
@@ -84,20 +80,20 @@ behind t at r =
       left = at .left + 1;
     }
 
+-- whether the step of rule r, which is of the front's category, leads on: the word of a lexical rule may be read next; the queue that another rule leads to is
+-- no longer than the steps then left
+abbrev pub opens : List ℕ → List ℕ → Standing → ℕ → Bool
+opens t sentence at r =
+    if eqb (daughtersIn t (8 * r)) 0 then hears (wordIn t (8 * r)) sentence (at .read)
+    else if ltb (at .left) (at .to - at .from + daughtersIn t (8 * r)) then false
+    else true
+
 -- a step can be made from `at`, and its numbers are small
 pub record Advances (at : Standing) : Type 0 where
   pub predicted : at .from < at .to
   pub left : 1 ≤ at .left
   pub small : (at .to ≤ 6272) × (at .steps ≤ 96)
-
--- a step led to `at`: there was a prediction before it, and the numbers of the standing before it are none below 0
-pub record TakenBack (t : List ℕ) (at : Standing) (r : ℕ) : Type 0 where
-  pub ordered : at .from ≤ at .to
-  pub daughters : daughtersIn t (8 * r) ≤ at .to - at .from + 1
-  pub below : at .to - at .from + 1 - daughtersIn t (8 * r) ≤ at .from
-  pub words : readBy t r ≤ at .read
-  pub made : 1 ≤ at .steps
-  pub small : (at .to ≤ 6272) × (at .left ≤ 96)
+  pub heard : at .read ≤ 96
 
 -- the step leads there, and the recognizer stands there
 pub record LeadsTo (g : Grammar) (t sentence w w′ : List ℕ) (at : Standing) (r : ℕ) (next : Standing) : Type 0 where
@@ -126,3 +122,15 @@ pub record Applies (t sentence w : List ℕ) (at : Standing) (r : ℕ) : Type 0 
 -- what is so for every such grammar
 pub record Applied (t sentence w w′ : List ℕ) (at : Standing) (r : ℕ) (answer : Stepped) : Type 0 where
   pub of-grammar : (g : Grammar) → Ready g t sentence w at → Fronted g w at r → StepSays g t sentence w w′ at r answer
+
+-- the table is that of some grammar for which the recognizer stands there before some sentence, and rule r is one of the front's category that leads on
+pub record Opening (t w : List ℕ) (at : Standing) (r : ℕ) : Type 0 where
+  pub grammar : Grammar
+  pub sentence : List ℕ
+  pub ready : Ready grammar t sentence w at
+  pub fronted : Fronted grammar w at r
+  pub leads-on : opens t sentence at r ≡ true
+
+-- its step leads to `next`, for every such grammar and sentence
+pub record Makes (t w w′ : List ℕ) (at : Standing) (r : ℕ) (next : Standing) : Type 0 where
+  pub of-grammar : (g : Grammar) (sentence : List ℕ) → Ready g t sentence w at → Fronted g w at r → opens t sentence at r ≡ true → StepSays g t sentence w w′ at r (Leads next)

@@ -1,10 +1,9 @@
 // One step of the recognizer, whose predictions hold ranks: a rule number applied to the front prediction (document 01, "One step"; document 02, paper 7).
 ghost use mathlib.Core.Path.{_≡_};
-ghost use Prim.Native.Nat.{_*_, _<_};
+ghost use Prim.Native.Nat.{_<_, _≤_};
 ghost use Rattle.model.specs.GrammarFile.{grammarOf};
 ghost use Rattle.ranking.specs.Numbered.{madeAt};
-ghost use Rattle.ranks.specs.Table.{daughtersIn};
-ghost use Rattle.steps.specs.Steps.{begin, Ready, Applies, Applied, StepSays, TakenBack, heardBy, readBy, Advances, aheadWith, behind};
+ghost use Rattle.steps.specs.Steps.{begin, Ready, Applies, Applied, StepSays, hears, readBy, opens, ahead, Advances, Opening, Makes};
 use grammar::rules;
 use model::EMPTY_WORD;
 use model::RuleNumber;
@@ -64,7 +63,7 @@ pub fn first_daughter(k: usize) -> usize
 // How many words the step of rule r reads: of a lexical rule one, if its word is not the empty word.
 fn read_by(t: &[u64; TABLE], r: RuleNumber) -> usize
     requires { ⌜ r .0 < 256 ⌝ }
-    ensures { λ n. ⌜ n ≡ readBy (now (t .entry)) (r .0) ⌝ }
+    ensures { λ n. ⌜ (n ≡ readBy (now (t .entry)) (r .0)) × (n ≤ 1) ⌝ }
 {
     let cell = place_of(RuleNumber(r.0));
     if daughters(t, cell) == 0 {
@@ -76,81 +75,74 @@ fn read_by(t: &[u64; TABLE], r: RuleNumber) -> usize
     0
 }
 
-// Where the recognizer stood before the step of rule r, which led to `at`.
-pub fn back(t: &[u64; TABLE], at: Standing, r: RuleNumber) -> Standing
-    requires { ⌜ (r .0 < 256) × TakenBack (now t) at (r .0) ⌝ }
-    ensures { λ s. ⌜ s ≡ behind (now (t .entry)) at (r .0) ⌝ }
+// Whether a word may be read next: it is the empty word, which takes none, or it fits the next place.
+fn hears(word: Word, sentence: &[u32], read: usize) -> bool
+    ensures { λ b. ⌜ b ≡ hears (word .0) (now (sentence .entry)) read ⌝ }
+{
+    if word.0 == EMPTY_WORD {
+        return true;
+    }
+    if sentence.len() <= read {
+        return false;
+    }
+    fits(word, sentence[read])
+}
+
+// Whether the step of rule r, which is of the front's category, leads on: the word of a lexical rule may be read next; the queue that another rule leads to is
+// no longer than the steps then left.
+pub fn opens(t: &[u64; TABLE], sentence: &[u32], at: Standing, r: RuleNumber) -> bool
+    requires { ⌜ (r .0 < 256) × Advances at ⌝ }
+    ensures { λ b. ⌜ b ≡ opens (now (t .entry)) (now (sentence .entry)) at (r .0) ⌝ }
+{
+    let cell = place_of(r);
+    let d = daughters(t, cell);
+    if d == 0 {
+        return hears(word(t, cell), sentence, at.read);
+    }
+    if at.left < at.to - at.from + d {
+        return false;
+    }
+    true
+}
+
+// Where the step of rule r leads.
+fn ahead(t: &[u64; TABLE], at: Standing, r: RuleNumber) -> Standing
+    requires { ⌜ (r .0 < 256) × Advances at ⌝ }
+    ensures { λ s. ⌜ s ≡ ahead (now (t .entry)) at (r .0) ⌝ }
 {
     let d = daughters(t, place_of(RuleNumber(r.0)));
     let n = read_by(t, r);
     Standing {
-        from: at.from - (at.to - at.from + 1 - d),
-        to: at.from,
-        read: at.read - n,
-        steps: at.steps - 1,
-        left: at.left + 1,
-    }
-}
-
-// How many words are read after a word; or it is another word than the next one.
-enum Heard {
-    Next(usize),
-    Other,
-}
-
-// The word of a lexical rule must be the next one, which it is where it fits the next place; the empty word takes none.
-fn hear(word: Word, sentence: &[u32], read: usize) -> Heard
-    ensures { λ h. ⌜ h ≡ heardBy (word .0) (now (sentence .entry)) read ⌝ }
-{
-    if word.0 == EMPTY_WORD {
-        return Heard::Next(read);
-    }
-    if sentence.len() <= read {
-        return Heard::Other;
-    }
-    if fits(word, sentence[read]) {
-        return Heard::Next(read + 1);
-    }
-    Heard::Other
-}
-
-// Where the step of rule r leads, with so many words read.
-fn ahead(t: &[u64; TABLE], at: Standing, r: RuleNumber, read: usize) -> Standing
-    requires { ⌜ (r .0 < 256) × Advances at ⌝ }
-    ensures { λ s. ⌜ s ≡ aheadWith (now (t .entry)) at (r .0) read ⌝ }
-{
-    let d = daughters(t, place_of(r));
-    Standing {
         from: at.to,
         to: at.to + (at.to - at.from - 1 + d),
-        read,
+        read: at.read + n,
         steps: at.steps + 1,
         left: at.left - 1,
     }
 }
 
-// The step of lexical rule r, which is of the front's category: where its word is the next one, the front goes.
-fn lexical(
-    t: &[u64; TABLE],
-    sentence: &[u32],
-    w: &mut [u64; ROOM],
-    at: Standing,
-    r: RuleNumber,
-) -> Stepped
-    requires { ⌜ Applies (now t) (now sentence) (now w) at (r .0) × (daughtersIn (now t) (8 * r .0) ≡ 0) ⌝ }
-    ensures { λ s. ⌜ Applied (now (t .entry)) (now (sentence .entry)) (now (w .entry)) (now (w .exit)) at (r .0) s ⌝ }
+// Makes the step of rule r, which leads on: the next queue is written from `at.to` on, and what stands before it is as it was. `expand` is called in two
+// places: the compiler takes a function that is called in one place alone into its caller, and the walk is quicker with `expand` outside.
+pub fn make(t: &[u64; TABLE], w: &mut [u64; ROOM], at: Standing, r: RuleNumber) -> Standing
+    requires { ⌜ Opening (now t) (now w) at (r .0) ⌝ }
+    ensures { λ s. ⌜ Makes (now (t .entry)) (now (w .entry)) (now (w .exit)) at (r .0) s ⌝ }
 {
-    let heard = hear(word(t, place_of(RuleNumber(r.0))), sentence, at.read);
-    let Heard::Next(read) = heard else {
-        return Stepped::Halts(16);
-    };
-    scan(w, at.from, at.to);
-    Stepped::Leads(ahead(t, at, r, read))
+    let d = daughters(t, place_of(RuleNumber(r.0)));
+    if d == 0 {
+        scan(w, at.from, at.to);
+        return ahead(t, at, r);
+    }
+    let mark = 4 * (at.steps as u64 + 1);
+    if d == 1 {
+        expand(t, w, at.from, at.to, RuleNumber(r.0), mark);
+        return ahead(t, at, r);
+    }
+    expand(t, w, at.from, at.to, RuleNumber(r.0), mark);
+    ahead(t, at, r)
 }
 
-// The step of rule r, which is of the front's category. The next queue is written from `at.to` on, and what stands before it is as it was. `expand` is called
-// in two places: the compiler takes a function that is called in one place alone into its caller, and the walk is quicker with `expand` outside.
-pub fn apply(
+// The step of rule r, which is of the front's category.
+fn apply(
     t: &[u64; TABLE],
     sentence: &[u32],
     w: &mut [u64; ROOM],
@@ -160,20 +152,13 @@ pub fn apply(
     requires { ⌜ Applies (now t) (now sentence) (now w) at (r .0) ⌝ }
     ensures { λ s. ⌜ Applied (now (t .entry)) (now (sentence .entry)) (now (w .entry)) (now (w .exit)) at (r .0) s ⌝ }
 {
-    let d = daughters(t, place_of(RuleNumber(r.0)));
-    if d == 0 {
-        return lexical(t, sentence, w, at, r);
+    if opens(t, sentence, at, RuleNumber(r.0)) {
+        return Stepped::Leads(make(t, w, at, r));
     }
-    if at.left < at.to - at.from + d {
-        return Stepped::Long;
+    if daughters(t, place_of(r)) == 0 {
+        return Stepped::Halts(16);
     }
-    let mark = 4 * (at.steps as u64 + 1);
-    if d == 1 {
-        expand(t, w, at.from, at.to, RuleNumber(r.0), mark);
-        return Stepped::Leads(ahead(t, at, r, at.read));
-    }
-    expand(t, w, at.from, at.to, RuleNumber(r.0), mark);
-    Stepped::Leads(ahead(t, at, r, at.read))
+    Stepped::Long
 }
 
 // The step of rule number r: refusals 13, 14 and 15, and what the step of a rule of the front's category does.

@@ -17,7 +17,7 @@ use Rattle.ranks.specs.Prediction.{unpacked}
 use Rattle.ranks.specs.Held.{predictionOf, numberOf, Fits}
 use Rattle.steps.specs.declared.Standing.{Standing}
 use Rattle.steps.specs.Steps.{stateIn, Ready, Fronted, behind}
-use Rattle.walk.specs.Walking.{Made, Trail, Walking}
+use Rattle.walk.specs.Walking.{Made, Trail, Trailed}
 
 -- two lists that begin alike begin alike up to each place before
 pub take-less : (a b : ℕ) (l m : List ℕ) → take a l ≡ take a m → b ≤ a → take b l ≡ take b m
@@ -51,6 +51,7 @@ module _ (g : Grammar) (t sentence w w′ : List ℕ) (long : length w′ ≡ le
                 numbers = subst (λ (l : List ℕ). map numberOf (map (predictionOf g) l) ≡ l) slices (h .held .numbers);
               };
           known = h .known;
+          heard = h .heard;
           reached = subst (λ (l : List ℕ). Reached g (stateOf l)) slices (h .reached);
           numbered = subst (λ (l : List ℕ). Below (madeAt (at .steps)) (map (predictionOf g) l)) slices (h .numbered);
           grown = h .grown;
@@ -93,8 +94,8 @@ module _ (g : Grammar) (t sentence w w′ : List ℕ) (long : length w′ ≡ le
       (made-kept k prev (getD path k 0) at below e (h .0), trail-kept path path′ k prev below (take-less (suc k) k path′ path f (omega arith)) (h .1))
 
   -- the walk stands where it stood
-  pub walking-kept : (chain path : List ℕ) (at : Standing) → take (at .to) w′ ≡ take (at .to) w → Walking g t chain sentence w path at → Walking g t chain sentence w′ path at
-  walking-kept chain path at e h =
+  pub trailed-kept : (chain path : List ℕ) (at : Standing) → take (at .to) w′ ≡ take (at .to) w → Trailed g t chain sentence w path at → Trailed g t chain sentence w′ path at
+  trailed-kept chain path at e h =
       record {
         ready = ready-kept at e (h .ready);
         chained = h .chained;

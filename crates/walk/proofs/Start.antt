@@ -17,6 +17,7 @@ use Rattle.ranks.specs.Held.{predictionOf, numberOf, FirstQueue}
 use Rattle.steps.specs.Steps.{stateIn, begin, Ready}
 use Rattle.walk.specs.Chain.{Chained}
 use Rattle.walk.specs.Rest.{liveAfter}
+use Rattle.walk.specs.Resumes.{NoTurns}
 use Rattle.walk.specs.Walking.{Walking}
 use Rattle.walk.proofs.InOrder.{after-in-order}
 
@@ -49,14 +50,19 @@ module _ (g : Grammar) (well : WellFormed g) where
       ∙ ap (λ (p : Ranked ℕ). record { queue = p ∷ []; words = sentence }) root-is
 
 -- the walk stands at the start
-pub walking-begin : (g : Grammar) (t chain sentence w path : List ℕ) (n : ℕ) → Ready g t sentence w (begin n) → Chained g chain → FirstQueue (g .start) w → length path ≡ 96
-    → Walking g t chain sentence w path (begin n)
-walking-begin g t chain sentence w path n ready chained first long =
+pub walking-begin : (g : Grammar) (t chain sentence w path turns : List ℕ) (n : ℕ) → Ready g t sentence w (begin n) → Chained g chain → FirstQueue (g .start) w → length path ≡ 96 → NoTurns turns
+    → Walking g t chain sentence w path turns (begin n)
+walking-begin g t chain sentence w path turns n ready chained first long turnless =
     record {
-      ready = ready;
-      chained = chained;
-      long = long;
-      trail = record { place = refl; state = first-state g (ready .well) sentence w n first };
+      trailed =
+          record {
+            ready = ready;
+            chained = chained;
+            long = long;
+            trail = record { place = refl; state = first-state g (ready .well) sentence w n first };
+          };
+      turns-long = turnless .long;
+      resumes = turnless .none-before;
     }
 
 -- the empty list comes first

@@ -1,4 +1,5 @@
 pub mod Chain
 pub mod Rest
+pub mod Resumes
 pub mod Walking
 pub mod Turns

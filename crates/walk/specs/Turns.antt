@@ -1,106 +1,121 @@
--- What the functions of the walk require, and what they say: one turn, turns up to the next live prefix, and the next live prefix.
+-- What the functions of the walk require, and what they say: the rule to go on with, the step to make, the step made, and the next live prefix.
 -- Assumes nothing.
 use mathlib.Core.Path.{_≡_}
+use mathlib.Core.Bool.{true}
 use mathlib.Core.List.{List, [], _∷_}
-use Prim.Native.Nat.{ℕ, _+_, _-_, _*_, _<_}
+use Prim.Native.Nat.{ℕ}
 use lib.ListN.{length, take}
 use Rattle.model.specs.Grammar.{Grammar}
 use Rattle.steps.specs.declared.Standing.{Standing}
-use Rattle.steps.specs.Steps.{Fronted}
-use Rattle.walk.specs.declared.prefixes.Turn.{Turn}
-use Rattle.walk.specs.declared.prefixes.Turn.the-variants.{Comes, Ends, Goes}
+use Rattle.steps.specs.Steps.{Ready, Fronted, opens}
+use Rattle.walk.specs.declared.prefixes.Choice.{Choice}
+use Rattle.walk.specs.declared.prefixes.Choice.the-variants.{Step, Nothing}
 use Rattle.walk.specs.declared.prefixes.Walked.{Walked}
 use Rattle.walk.specs.declared.prefixes.Walked.the-variants.{Came, Ended}
-use Rattle.walk.specs.Chain.{noRule}
+use Rattle.walk.specs.Chain.{noRule, Chained}
 use Rattle.walk.specs.Rest.{liveAfter}
-use Rattle.walk.specs.Walking.{Walking, stepsOf, remaining, ToTry}
+use Rattle.walk.specs.Walking.{Trailed, Walking, stepsOf, remaining, ToTry}
 
--- how many turns are left at most: each turn takes a step back, or comes to a later rule
-abbrev pub turnsLeft : Standing → ℕ → ℕ
-turnsLeft at r = 300 * at .steps + (noRule - r)
+-- the recognizer of some grammar stands there, whatever the array is, and rule r is one to try
+pub record MayFind (t chain sentence : List ℕ) (at : Standing) (r : ℕ) : Type 0 where
+  pub grammar : Grammar
+  pub array : List ℕ
+  pub ready : Ready grammar t sentence array at
+  pub chained : Chained grammar chain
+  pub to-try : ToTry grammar array at r
+
+pub record StandsAt (t chain sentence w : List ℕ) (at : Standing) : Type 0 where
+  pub grammar : Grammar
+  pub ready : Ready grammar t sentence w at
+  pub chained : Chained grammar chain
+
+-- what is to come from rule r on comes from rule x on, whose step leads on; or there is no such rule
+pub record OpenFrom (g : Grammar) (t sentence w path : List ℕ) (at : Standing) (r x : ℕ) : Type 0 where
+  pub to-try : ToTry g w at x
+  pub leads-on : (x ≡ noRule → ⊥) → opens t sentence at x ≡ true
+  pub comes : remaining g sentence w path at r ≡ remaining g sentence w path at x
+
+-- what is so for every grammar and every path that led there
+pub record FirstOpen (t chain sentence w : List ℕ) (at : Standing) (x : ℕ) : Type 0 where
+  pub of-grammar : (g : Grammar) (path : List ℕ) → Trailed g t chain sentence w path at → OpenFrom g t sentence w path at 0 x
+
+-- the step to make is that of rule r from standing `from`, where the walk stands too; `coming` is what is to come
+pub record StepFrom (g : Grammar) (t chain sentence w path turns : List ℕ) (at : Standing) (coming : List (List ℕ)) (from : Standing) (r : ℕ) : Type 0 where
+  pub walking : Walking g t chain sentence w path turns from
+  pub fronted : Fronted g w from r
+  pub leads-on : opens t sentence from r ≡ true
+  pub same-steps : stepsOf from ≡ stepsOf at
+  pub comes : coming ≡ remaining g sentence w path from r
+
+abbrev pub ChoiceSays : Grammar → List ℕ → List ℕ → List ℕ → List ℕ → List ℕ → List ℕ → Standing → List (List ℕ) → Choice → Type 0
+ChoiceSays g t chain sentence w path turns at coming (Step from r) = StepFrom g t chain sentence w path turns at coming from (r .0)
+ChoiceSays g t chain sentence w path turns at coming Nothing = coming ≡ []
+
+-- where no rule leads on from `at`
+pub record MayResume (turns : List ℕ) (at : Standing) : Type 0 where
+  pub grammar : Grammar
+  pub t : List ℕ
+  pub chain : List ℕ
+  pub sentence : List ℕ
+  pub array : List ℕ
+  pub path : List ℕ
+  pub walking : Walking grammar t chain sentence array path turns at
+
+pub record Resumed (turns : List ℕ) (at : Standing) (answer : Choice) : Type 0 where
+  pub of-grammar : (g : Grammar) (t chain sentence w path : List ℕ) → Walking g t chain sentence w path turns at
+      → ChoiceSays g t chain sentence w path turns at (remaining g sentence w path at noRule) answer
+
+-- the step after the live prefix where the walk stands
+pub record MayChoose (t chain sentence w turns : List ℕ) (at : Standing) : Type 0 where
+  pub grammar : Grammar
+  pub path : List ℕ
+  pub walking : Walking grammar t chain sentence w path turns at
+
+pub record Chosen (t chain sentence w turns : List ℕ) (at : Standing) (answer : Choice) : Type 0 where
+  pub of-grammar : (g : Grammar) (path : List ℕ) → Walking g t chain sentence w path turns at → ChoiceSays g t chain sentence w path turns at (remaining g sentence w path at 0) answer
+
+-- the step of rule r, which leads on from `at`
+pub record MayExtend (t chain sentence w path turns : List ℕ) (at : Standing) (r : ℕ) : Type 0 where
+  pub grammar : Grammar
+  pub walking : Walking grammar t chain sentence w path turns at
+  pub fronted : Fronted grammar w at r
+  pub leads-on : opens t sentence at r ≡ true
 
 -- what was to come began with the list where the walk now stands
-pub record ComesTo (g : Grammar) (t chain sentence w′ path′ : List ℕ) (at next : Standing) (coming : List (List ℕ)) : Type 0 where
-  pub walking : Walking g t chain sentence w′ path′ next
+pub record ComesTo (g : Grammar) (t chain sentence w′ path′ turns′ : List ℕ) (at next : Standing) (coming : List (List ℕ)) : Type 0 where
+  pub walking : Walking g t chain sentence w′ path′ turns′ next
   pub same-steps : stepsOf next ≡ stepsOf at
   pub comes : coming ≡ take (next .steps) path′ ∷ remaining g sentence w′ path′ next 0
 
--- what was to come is what comes when the walk goes on with rule x at another standing, which is a turn less
-pub record GoesOn (g : Grammar) (t chain sentence w′ path′ : List ℕ) (at : Standing) (r : ℕ) (next : Standing) (x : ℕ) (coming : List (List ℕ)) : Type 0 where
-  pub walking : Walking g t chain sentence w′ path′ next
-  pub to-try : ToTry g w′ next x
-  pub same-steps : stepsOf next ≡ stepsOf at
-  pub comes : coming ≡ remaining g sentence w′ path′ next x
-  pub less : turnsLeft next x < turnsLeft at r
-
--- what a turn says; `coming` is what is to come
-abbrev pub TurnSays : Grammar → List ℕ → List ℕ → List ℕ → List ℕ → List ℕ → Standing → ℕ → List (List ℕ) → Turn → Type 0
-TurnSays g t chain sentence w′ path′ at r coming (Comes next) = ComesTo g t chain sentence w′ path′ at next coming
-TurnSays g t chain sentence w′ path′ at r coming Ends = coming ≡ []
-TurnSays g t chain sentence w′ path′ at r coming (Goes next x) = GoesOn g t chain sentence w′ path′ at r next (x .0) coming
-
--- and the arrays are as long as they were
-pub record TurnFor (g : Grammar) (t chain sentence w path w′ path′ : List ℕ) (at : Standing) (r : ℕ) (answer : Turn) : Type 0 where
+-- the arrays are as long as they were
+pub record SameLengths (w path turns w′ path′ turns′ : List ℕ) : Type 0 where
   pub kept : length w′ ≡ length w
   pub path-kept : length path′ ≡ length path
-  pub says : TurnSays g t chain sentence w′ path′ at r (remaining g sentence w path at r) answer
+  pub turns-kept : length turns′ ≡ length turns
 
--- the walk of some grammar stands there, and rule r is one of the front's category, or one to try, or there is none left to try
-pub record MayTry (t chain sentence w path : List ℕ) (at : Standing) (r : ℕ) : Type 0 where
-  pub grammar : Grammar
-  pub walking : Walking grammar t chain sentence w path at
-  pub fronted : Fronted grammar w at r
-
-pub record MayTurn (t chain sentence w path : List ℕ) (at : Standing) (r : ℕ) : Type 0 where
-  pub grammar : Grammar
-  pub walking : Walking grammar t chain sentence w path at
-  pub to-try : ToTry grammar w at r
-
-pub record MayGoBack (t chain path : List ℕ) (at : Standing) : Type 0 where
-  pub grammar : Grammar
-  pub sentence : List ℕ
-  pub array : List ℕ
-  pub walking : Walking grammar t chain sentence array path at
-
--- what is so for every grammar whose walk stands there
-pub record Turned (t chain sentence w path w′ path′ : List ℕ) (at : Standing) (r : ℕ) (answer : Turn) : Type 0 where
-  pub of-grammar : (g : Grammar) → Walking g t chain sentence w path at → ToTry g w at r → TurnFor g t chain sentence w path w′ path′ at r answer
-
-pub record TurnedBack (t chain path : List ℕ) (at : Standing) (answer : Turn) : Type 0 where
-  pub of-grammar : (g : Grammar) (sentence w : List ℕ) → Walking g t chain sentence w path at → TurnFor g t chain sentence w path w path at noRule answer
-
--- where turns up to the next live prefix come to
-abbrev pub OnwardSays : Grammar → List ℕ → List ℕ → List ℕ → List ℕ → List ℕ → Standing → List (List ℕ) → Walked → Type 0
-OnwardSays g t chain sentence w′ path′ at coming (Came next) = ComesTo g t chain sentence w′ path′ at next coming
-OnwardSays g t chain sentence w′ path′ at coming Ended = coming ≡ []
-
-pub record OnwardFor (g : Grammar) (t chain sentence w path w′ path′ : List ℕ) (at : Standing) (r : ℕ) (answer : Walked) : Type 0 where
-  pub kept : length w′ ≡ length w
-  pub path-kept : length path′ ≡ length path
-  pub says : OnwardSays g t chain sentence w′ path′ at (remaining g sentence w path at r) answer
-
-pub record WentOnward (t chain sentence w path w′ path′ : List ℕ) (at : Standing) (r : ℕ) (answer : Walked) : Type 0 where
-  pub of-grammar : (g : Grammar) → Walking g t chain sentence w path at → ToTry g w at r → OnwardFor g t chain sentence w path w′ path′ at r answer
+pub record Extended (t chain sentence w path turns w′ path′ turns′ : List ℕ) (at : Standing) (r : ℕ) (next : Standing) : Type 0 where
+  pub of-grammar : (g : Grammar) → Walking g t chain sentence w path turns at → Fronted g w at r → opens t sentence at r ≡ true
+      → SameLengths w path turns w′ path′ turns′ × ComesTo g t chain sentence w′ path′ turns′ at next (remaining g sentence w path at r)
 
 -- the walk of some grammar stands there
-pub record Walks (t chain sentence w path : List ℕ) (at : Standing) : Type 0 where
+pub record Walks (t chain sentence w path turns : List ℕ) (at : Standing) : Type 0 where
   pub grammar : Grammar
-  pub walking : Walking grammar t chain sentence w path at
+  pub walking : Walking grammar t chain sentence w path turns at
 
 -- The next live prefix in dictionary order after the path's, under the same node limit, is on the path, and the walk stands there.
-pub record NextLive (g : Grammar) (t chain sentence w′ path′ : List ℕ) (list : List ℕ) (at next : Standing) : Type 0 where
-  pub walking : Walking g t chain sentence w′ path′ next
+pub record NextLive (g : Grammar) (t chain sentence w′ path′ turns′ : List ℕ) (list : List ℕ) (at next : Standing) : Type 0 where
+  pub walking : Walking g t chain sentence w′ path′ turns′ next
   pub same-steps : stepsOf next ≡ stepsOf at
   pub comes : liveAfter g sentence (stepsOf at) list ≡ take (next .steps) path′ ∷ liveAfter g sentence (stepsOf at) (take (next .steps) path′)
 
-abbrev pub NextSays : Grammar → List ℕ → List ℕ → List ℕ → List ℕ → List ℕ → List ℕ → Standing → Walked → Type 0
-NextSays g t chain sentence w′ path′ list at (Came next) = NextLive g t chain sentence w′ path′ list at next
-NextSays g t chain sentence w′ path′ list at Ended = liveAfter g sentence (stepsOf at) list ≡ []
+abbrev pub NextSays : Grammar → List ℕ → List ℕ → List ℕ → List ℕ → List ℕ → List ℕ → List ℕ → Standing → Walked → Type 0
+NextSays g t chain sentence w′ path′ turns′ list at (Came next) = NextLive g t chain sentence w′ path′ turns′ list at next
+NextSays g t chain sentence w′ path′ turns′ list at Ended = liveAfter g sentence (stepsOf at) list ≡ []
 
-pub record NextFor (g : Grammar) (t chain sentence w path w′ path′ : List ℕ) (at : Standing) (answer : Walked) : Type 0 where
-  pub kept : length w′ ≡ length w
-  pub path-kept : length path′ ≡ length path
-  pub says : NextSays g t chain sentence w′ path′ (take (at .steps) path) at answer
+pub record NextFor (g : Grammar) (t chain sentence w path turns w′ path′ turns′ : List ℕ) (at : Standing) (answer : Walked) : Type 0 where
+  pub lengths : SameLengths w path turns w′ path′ turns′
+  pub says : NextSays g t chain sentence w′ path′ turns′ (take (at .steps) path) at answer
 
-pub record WalkedOn (t chain sentence w path w′ path′ : List ℕ) (at : Standing) (answer : Walked) : Type 0 where
-  pub of-grammar : (g : Grammar) → Walking g t chain sentence w path at → NextFor g t chain sentence w path w′ path′ at answer
+-- what is so for every grammar whose walk stands there
+pub record WalkedOn (t chain sentence w path turns w′ path′ turns′ : List ℕ) (at : Standing) (answer : Walked) : Type 0 where
+  pub of-grammar : (g : Grammar) → Walking g t chain sentence w path turns at → NextFor g t chain sentence w path turns w′ path′ turns′ at answer

@@ -17,6 +17,7 @@ use Rattle.steps.specs.declared.Standing.{Standing}
 use Rattle.steps.specs.Steps.{stateIn, begin, Ready, Fronted, ahead, behind}
 use Rattle.walk.specs.Chain.{noRule, Chained}
 use Rattle.walk.specs.Rest.{rest}
+use Rattle.walk.specs.Resumes.{Resumes}
 
 -- the recognizer stands at the start
 pub record First (g : Grammar) (sentence w : List ℕ) (at : Standing) : Type 0 where
@@ -37,12 +38,18 @@ Trail g t sentence w path zero at = First g sentence w at
 Trail g t sentence w path (suc k) at =
     Made g t sentence w k (behind t at (getD path k 0)) (getD path k 0) at × Trail g t sentence w path k (behind t at (getD path k 0))
 
--- the walk stands there: the tables are the grammar's, and the path has the rules that led there
-pub record Walking (g : Grammar) (t chain sentence w path : List ℕ) (at : Standing) : Type 0 where
+-- the recognizer stands there: the tables are the grammar's, and the path has the rules that led there
+pub record Trailed (g : Grammar) (t chain sentence w path : List ℕ) (at : Standing) : Type 0 where
   pub ready : Ready g t sentence w at
   pub chained : Chained g chain
   pub long : length path ≡ 96
   pub trail : Trail g t sentence w path (at .steps) at
+
+-- the walk stands there: and the turns tell where to go on
+pub record Walking (g : Grammar) (t chain sentence w path turns : List ℕ) (at : Standing) : Type 0 where
+  pub trailed : Trailed g t chain sentence w path at
+  pub turns-long : length turns ≡ 97
+  pub resumes : Resumes t chain sentence path turns (at .steps) at
 
 -- the steps that the walk may make in all
 abbrev pub stepsOf : Standing → ℕ
