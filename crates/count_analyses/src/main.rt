@@ -24,7 +24,9 @@ use rule_table::compile;
 use steps::Standing;
 use steps::first_standing;
 use walk::CHAIN;
+use walk::TURNS;
 use walk::chain_rules;
+use walk::no_turns;
 
 // What is read of the files: of a grammar one byte more than an accepted one can have, of a sentence N and one word more than an accepted one can have.
 const GRAMMAR_BYTES: usize = 7169;
@@ -276,13 +278,14 @@ fn print_page(
     sentence: &[u32],
     w: &mut [u64; ROOM],
     path: &mut [u16; MOST_STEPS],
+    turns: &mut [u64; TURNS],
     out: &mut [u8],
     pen: Pen,
 ) -> Next
-    requires { ⌜ Walks (now t) (now chain) (now sentence) (now w) (now path) (pen .at) × (pen .place + 576 < length (now out)) ⌝ }
-    ensures { λ r. ⌜ PrintedPage (now (t .entry)) (now (chain .entry)) (now (sentence .entry)) (now (w .entry)) (now (path .entry)) (now (out .entry)) pen (now (w .exit)) (now (path .exit)) (now (out .exit)) r ⌝ }
+    requires { ⌜ Walks (now t) (now chain) (now sentence) (now w) (now path) (now turns) (pen .at) × (pen .place + 576 < length (now out)) ⌝ }
+    ensures { λ r. ⌜ PrintedPage (now (t .entry)) (now (chain .entry)) (now (sentence .entry)) (now (w .entry)) (now (path .entry)) (now (turns .entry)) (now (out .entry)) pen (now (w .exit)) (now (path .exit)) (now (turns .exit)) (now (out .exit)) r ⌝ }
 {
-    let page = fill(t, chain, sentence, w, path, out, pen);
+    let page = fill(t, chain, sentence, w, path, turns, out, pen);
     match page {
         Page::Last(end) => {
             if write_text(&out[0..end]) {
@@ -312,6 +315,7 @@ fn print_listing(file: &[u8], sentence: &[u32], n: usize, count: u64, effort: u6
     let chain = chain_rules(file);
     let mut w = first_queue(start(file));
     let mut path = [0u16; MOST_STEPS];
+    let mut turns = no_turns();
     let mut space = io::large_buffer();
     let out: &mut [u8] = &mut space;
     let mut place = report::put_count(count, effort, out, 0);
@@ -321,7 +325,16 @@ fn print_listing(file: &[u8], sentence: &[u32], n: usize, count: u64, effort: u6
             at: at,
             place: place,
         };
-        let next = print_page(&t, &chain, sentence, &mut w, &mut path, out, pen);
+        let next = print_page(
+            &t,
+            &chain,
+            sentence,
+            &mut w,
+            &mut path,
+            &mut turns,
+            out,
+            pen,
+        );
         let Next::After(s) = next else {
             return;
         };

@@ -16,10 +16,11 @@ use Rattle.steps.specs.declared.Standing.{Standing}
 use Rattle.steps.specs.Steps.{stateIn}
 use Rattle.walk.specs.declared.prefixes.Walked.the-variants.{Came, Ended}
 use Rattle.walk.specs.Rest.{liveAfter}
-use Rattle.walk.specs.Walking.{Walking, stepsOf, atEnd}
-use Rattle.walk.specs.Turns.{Walks, NextLive, WalkedOn}
+use Rattle.walk.specs.Walking.{Trailed, Walking, stepsOf, atEnd}
+use Rattle.walk.specs.Turns.{SameLengths, Walks, NextLive, WalkedOn}
 use Rattle.walk.proofs.Along.{along}
 use Rattle.walk.proofs.Ended.{complete-at}
+use Rattle.walk.proofs.Kept.{lengths-then}
 use Rattle.listing.specs.Stream.{entriesAfter, WalkedToEntry}
 use Rattle.listing.proofs.Places.{RuleList, leads-rules, listsLeft, fewer-left, first-passes}
 
@@ -55,65 +56,63 @@ module _ (g : Grammar) (sentence : List ℕ) (n : ℕ) where
 abbrev pub stillLeft : List ℕ → Standing → ℕ
 stillLeft path here = listsLeft (stepsOf here) (take (here .steps) path)
 
-walked-rules : (g : Grammar) (t chain sentence w path : List ℕ) (at : Standing) → Walking g t chain sentence w path at → RuleList (stepsOf at) (take (at .steps) path)
-walked-rules g t chain sentence w path at walking =
-    leads-rules (rankRecognizer noNode g) (length (g .rules)) (walking .ready .well .rules-are .1) (stepsOf at) (startRanked g sentence) (take (at .steps) path) (at .left)
-    (plain (stateIn g sentence w at)) (along g t chain sentence w path at walking)
+walked-rules : (g : Grammar) (t chain sentence w path : List ℕ) (at : Standing) → Trailed g t chain sentence w path at → RuleList (stepsOf at) (take (at .steps) path)
+walked-rules g t chain sentence w path at trailed =
+    leads-rules (rankRecognizer noNode g) (length (g .rules)) (trailed .ready .well .rules-are .1) (stepsOf at) (startRanked g sentence) (take (at .steps) path) (at .left)
+    (plain (stateIn g sentence w at)) (along g t chain sentence w path at trailed)
 
 -- fewer are left at the next live prefix
-next-fewer : (g : Grammar) (t chain sentence w path w′ path′ : List ℕ) (here next : Standing) → Walking g t chain sentence w path here
-    → NextLive g t chain sentence w′ path′ (take (here .steps) path) here next → stillLeft path′ next < stillLeft path here
-next-fewer g t chain sentence w path w′ path′ here next walking coming =
+next-fewer : (g : Grammar) (t chain sentence w path turns w′ path′ turns′ : List ℕ) (here next : Standing) → Walking g t chain sentence w path turns here
+    → NextLive g t chain sentence w′ path′ turns′ (take (here .steps) path) here next → stillLeft path′ next < stillLeft path here
+next-fewer g t chain sentence w path turns w′ path′ turns′ here next walking coming =
     let n = stepsOf here in
     let list = take (here .steps) path in
     let p = take (next .steps) path′ in
     subst (λ (k : ℕ). listsLeft k p < listsLeft n list) (sym (coming .same-steps))
-    (fewer-left n list p (walked-rules g t chain sentence w path here walking)
-    (subst (λ (k : ℕ). RuleList k p) (coming .same-steps) (walked-rules g t chain sentence w′ path′ next (coming .walking)))
+    (fewer-left n list p (walked-rules g t chain sentence w path here (walking .trailed))
+    (subst (λ (k : ℕ). RuleList k p) (coming .same-steps) (walked-rules g t chain sentence w′ path′ next (coming .walking .trailed)))
     (first-passes (before list) (live g sentence n) p (liveAfter g sentence n p) (coming .comes)))
 
 -- the walk of a grammar went from `at` to `here`, and passed no entry
-pub record NoneSoFarFor (g : Grammar) (t chain sentence w₀ path₀ : List ℕ) (at : Standing) (w path : List ℕ) (here : Standing) : Type 0 where
-  pub walking : Walking g t chain sentence w path here
-  pub kept : length w ≡ length w₀
-  pub path-kept : length path ≡ length path₀
+pub record NoneSoFarFor (g : Grammar) (t chain sentence w₀ path₀ turns₀ : List ℕ) (at : Standing) (w path turns : List ℕ) (here : Standing) : Type 0 where
+  pub walking : Walking g t chain sentence w path turns here
+  pub lengths : SameLengths w₀ path₀ turns₀ w path turns
   pub same-steps : stepsOf here ≡ stepsOf at
   pub passed : entriesAfter g sentence (stepsOf at) (take (at .steps) path₀) ≡ entriesAfter g sentence (stepsOf at) (take (here .steps) path)
 
 -- where the next live prefix comes, by its end test
-module _ (g : Grammar) (t chain sentence w₀ path₀ : List ℕ) (at : Standing) (w path : List ℕ) (here : Standing)
-    (so : NoneSoFarFor g t chain sentence w₀ path₀ at w path here) (w′ path′ : List ℕ) (next : Standing)
-    (coming : NextLive g t chain sentence w′ path′ (take (here .steps) path) here next) where
+module _ (g : Grammar) (t chain sentence w₀ path₀ turns₀ : List ℕ) (at : Standing) (w path turns : List ℕ) (here : Standing)
+    (so : NoneSoFarFor g t chain sentence w₀ path₀ turns₀ at w path turns here) (w′ path′ turns′ : List ℕ) (next : Standing)
+    (coming : NextLive g t chain sentence w′ path′ turns′ (take (here .steps) path) here next) where
   among : (b : Bool) → b ≡ atEnd sentence next
       → entriesAfter g sentence (stepsOf at) (take (at .steps) path₀)
       ≡ (if b then take (next .steps) path′ ∷ entriesAfter g sentence (stepsOf at) (take (next .steps) path′) else entriesAfter g sentence (stepsOf at) (take (next .steps) path′))
   among b e =
       so .passed
       ∙ next-among g sentence (stepsOf at) (take (here .steps) path) (take (next .steps) path′) b
-      (complete-at g t chain sentence w′ path′ next (coming .walking) ∙ sym e)
+      (complete-at g t chain sentence w′ path′ next (coming .walking .trailed) ∙ sym e)
       (rw (so .same-steps) at (coming .comes))
 
-module _ (t chain sentence w₀ path₀ : List ℕ) (at : Standing) where
-  pub record NoneSoFar (w path : List ℕ) (here : Standing) : Type 0 where
-    pub of-grammar : (g : Grammar) → Walking g t chain sentence w₀ path₀ at → NoneSoFarFor g t chain sentence w₀ path₀ at w path here
+module _ (t chain sentence w₀ path₀ turns₀ : List ℕ) (at : Standing) where
+  pub record NoneSoFar (w path turns : List ℕ) (here : Standing) : Type 0 where
+    pub of-grammar : (g : Grammar) → Walking g t chain sentence w₀ path₀ turns₀ at → NoneSoFarFor g t chain sentence w₀ path₀ turns₀ at w path turns here
 
-  pub none-begins : NoneSoFar w₀ path₀ at
-  none-begins = record { of-grammar = λ g walking. record { walking = walking; kept = refl; path-kept = refl; same-steps = refl; passed = refl } }
+  pub none-begins : NoneSoFar w₀ path₀ turns₀ at
+  none-begins = record { of-grammar = λ g walking. record { walking = walking; lengths = record { kept = refl; path-kept = refl; turns-kept = refl }; same-steps = refl; passed = refl } }
 
-  module _ (w path : List ℕ) (here : Standing) (so : NoneSoFar w path here) where
-    pub none-walks : Walks t chain sentence w₀ path₀ at → Walks t chain sentence w path here
+  module _ (w path turns : List ℕ) (here : Standing) (so : NoneSoFar w path turns here) where
+    pub none-walks : Walks t chain sentence w₀ path₀ turns₀ at → Walks t chain sentence w path turns here
     none-walks walks = record { grammar = walks .grammar; walking = so .of-grammar (walks .grammar) (walks .walking) .walking }
 
-    module _ (w′ path′ : List ℕ) where
-      pub none-ends : WalkedOn t chain sentence w path w′ path′ here Ended → WalkedToEntry t chain sentence w₀ path₀ w′ path′ at Ended
+    module _ (w′ path′ turns′ : List ℕ) where
+      pub none-ends : WalkedOn t chain sentence w path turns w′ path′ turns′ here Ended → WalkedToEntry t chain sentence w₀ path₀ turns₀ w′ path′ turns′ at Ended
       none-ends walked =
           record {
             of-grammar = λ g walking.
                 let h = so .of-grammar g walking in
                 let f = walked .of-grammar g (h .walking) in
                 record {
-                  kept = f .kept ∙ h .kept;
-                  path-kept = f .path-kept ∙ h .path-kept;
+                  lengths = lengths-then w₀ path₀ turns₀ w path turns w′ path′ turns′ (h .lengths) (f .lengths);
                   says =
                       h .passed
                       ∙ ap (λ (n : ℕ). entriesAfter g sentence n (take (here .steps) path)) (sym (h .same-steps))
@@ -122,26 +121,25 @@ module _ (t chain sentence w₀ path₀ : List ℕ) (at : Standing) where
                 };
           }
 
-      module _ (next : Standing) (walked : WalkedOn t chain sentence w path w′ path′ here (Came next)) where
-        pub none-meets : true ≡ atEnd sentence next → WalkedToEntry t chain sentence w₀ path₀ w′ path′ at (Came next)
+      module _ (next : Standing) (walked : WalkedOn t chain sentence w path turns w′ path′ turns′ here (Came next)) where
+        pub none-meets : true ≡ atEnd sentence next → WalkedToEntry t chain sentence w₀ path₀ turns₀ w′ path′ turns′ at (Came next)
         none-meets e =
             record {
               of-grammar = λ g walking.
                   let h = so .of-grammar g walking in
                   let f = walked .of-grammar g (h .walking) in
                   record {
-                    kept = f .kept ∙ h .kept;
-                    path-kept = f .path-kept ∙ h .path-kept;
+                    lengths = lengths-then w₀ path₀ turns₀ w path turns w′ path′ turns′ (h .lengths) (f .lengths);
                     says =
                         record {
                           walking = f .says .walking;
                           same-steps = f .says .same-steps ∙ h .same-steps;
-                          comes = among g t chain sentence w₀ path₀ at w path here h w′ path′ next (f .says) true e;
+                          comes = among g t chain sentence w₀ path₀ turns₀ at w path turns here h w′ path′ turns′ next (f .says) true e;
                         };
                   };
             }
 
-        pub none-passes : false ≡ atEnd sentence next → NoneSoFar w′ path′ next
+        pub none-passes : false ≡ atEnd sentence next → NoneSoFar w′ path′ turns′ next
         none-passes e =
             record {
               of-grammar = λ g walking.
@@ -149,14 +147,13 @@ module _ (t chain sentence w₀ path₀ : List ℕ) (at : Standing) where
                   let f = walked .of-grammar g (h .walking) in
                   record {
                     walking = f .says .walking;
-                    kept = f .kept ∙ h .kept;
-                    path-kept = f .path-kept ∙ h .path-kept;
+                    lengths = lengths-then w₀ path₀ turns₀ w path turns w′ path′ turns′ (h .lengths) (f .lengths);
                     same-steps = f .says .same-steps ∙ h .same-steps;
-                    passed = among g t chain sentence w₀ path₀ at w path here h w′ path′ next (f .says) false e;
+                    passed = among g t chain sentence w₀ path₀ turns₀ at w path turns here h w′ path′ turns′ next (f .says) false e;
                   };
             }
 
-        pub fewer : Walks t chain sentence w₀ path₀ at → stillLeft path′ next < stillLeft path here
+        pub fewer : Walks t chain sentence w₀ path₀ turns₀ at → stillLeft path′ next < stillLeft path here
         fewer walks =
             let m = none-walks walks in
-            next-fewer (m .grammar) t chain sentence w path w′ path′ here next (m .walking) (walked .of-grammar (m .grammar) (m .walking) .says)
+            next-fewer (m .grammar) t chain sentence w path turns w′ path′ turns′ here next (m .walking) (walked .of-grammar (m .grammar) (m .walking) .says)

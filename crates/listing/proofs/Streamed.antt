@@ -26,18 +26,18 @@ after-nothing g sentence n = keep-whole (before []) (listing g sentence n) (λ p
 
 module _ (g : Grammar) (t chain sentence : List ℕ) where
   -- what comes one after the other is the entries after the list where the walk stands
-  streams-after : (w path : List ℕ) (at : Standing) (entries : List (List ℕ)) → Streams g t chain sentence w path at entries
+  streams-after : (w path turns : List ℕ) (at : Standing) (entries : List (List ℕ)) → Streams g t chain sentence w path turns at entries
       → entries ≡ entriesAfter g sentence (stepsOf at) (take (at .steps) path)
-  streams-after w path at [] h = sym (h .2 .says)
-  streams-after w path at (p ∷ entries) h =
-      let c = h .3 .says in
-      ap₂ (λ (q : List ℕ) (l : List (List ℕ)). q ∷ l) (sym (h .4))
-      (streams-after (h .0) (h .1) (h .2) entries (h .5) ∙ ap (λ (n : ℕ). entriesAfter g sentence n (take (h .2 .steps) (h .1))) (c .same-steps))
+  streams-after w path turns at [] h = sym (h .3 .says)
+  streams-after w path turns at (p ∷ entries) h =
+      let c = h .4 .says in
+      ap₂ (λ (q : List ℕ) (l : List (List ℕ)). q ∷ l) (sym (h .5))
+      (streams-after (h .0) (h .1) (h .2) (h .3) entries (h .6) ∙ ap (λ (n : ℕ). entriesAfter g sentence n (take (h .3 .steps) (h .1))) (c .same-steps))
       ∙ sym (c .comes)
 
   -- from the start on, what comes one after the other is the listing
-  pub stream-lists : (w path : List ℕ) (n : ℕ) (entries : List (List ℕ)) → Streams g t chain sentence w path (begin n) entries → entries ≡ listing g sentence n
-  stream-lists w path n entries h = streams-after w path (begin n) entries h ∙ ap (λ (k : ℕ). entriesAfter g sentence k []) zero-add ∙ after-nothing g sentence n
+  pub stream-lists : (w path turns : List ℕ) (n : ℕ) (entries : List (List ℕ)) → Streams g t chain sentence w path turns (begin n) entries → entries ≡ listing g sentence n
+  stream-lists w path turns n entries h = streams-after w path turns (begin n) entries h ∙ ap (λ (k : ℕ). entriesAfter g sentence k []) zero-add ∙ after-nothing g sentence n
     where
       zero-add : stepsOf (begin n) ≡ n
       zero-add = omega arith

@@ -6,6 +6,7 @@ use ranks::queue::ROOM;
 use ranks::table::TABLE;
 use steps::Standing;
 use walk::CHAIN;
+use walk::TURNS;
 use walk::Walked;
 use walk::at_end;
 use walk::next;
@@ -18,14 +19,15 @@ pub fn next_entry(
     sentence: &[u32],
     w: &mut [u64; ROOM],
     path: &mut [u16; MOST_STEPS],
+    turns: &mut [u64; TURNS],
     at: Standing,
 ) -> Walked
-    requires { ⌜ Walks (now t) (now chain) (now sentence) (now w) (now path) at ⌝ }
-    ensures { λ s. ⌜ WalkedToEntry (now (t .entry)) (now (chain .entry)) (now (sentence .entry)) (now (w .entry)) (now (path .entry)) (now (w .exit)) (now (path .exit)) at s ⌝ }
+    requires { ⌜ Walks (now t) (now chain) (now sentence) (now w) (now path) (now turns) at ⌝ }
+    ensures { λ s. ⌜ WalkedToEntry (now (t .entry)) (now (chain .entry)) (now (sentence .entry)) (now (w .entry)) (now (path .entry)) (now (turns .entry)) (now (w .exit)) (now (path .exit)) (now (turns .exit)) at s ⌝ }
 {
     let mut here = at;
     loop {
-        let s = next(t, chain, sentence, w, path, here);
+        let s = next(t, chain, sentence, w, path, turns, here);
         match s {
             Walked::Came(n) => {
                 if at_end(sentence, n) {

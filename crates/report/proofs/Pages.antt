@@ -21,17 +21,17 @@ use Rattle.report.specs.Page.{linesAfter, WroteLine, FilledTo, PageSays,
 use Rattle.report.proofs.Placed.{put-none, put-join, put-long}
 
 -- the next entry, as a line
-module _ (t chain sentence w path w′ path′ : List ℕ) (pen : Pen) where
-  pub next-fits : (next : Standing) → WalkedToEntry t chain sentence w path w′ path′ (pen .at) (Came next) → Walks t chain sentence w path (pen .at)
+module _ (t chain sentence w path turns w′ path′ turns′ : List ℕ) (pen : Pen) where
+  pub next-fits : (next : Standing) → WalkedToEntry t chain sentence w path turns w′ path′ turns′ (pen .at) (Came next) → Walks t chain sentence w path turns (pen .at)
       → (room : ℕ) → pen .place + 576 < room → (length path′ ≡ 96) × (next .steps ≤ 96) × (pen .place + 6 * next .steps < room)
   next-fits next walked walks room r =
       let h = walked .of-grammar (walks .grammar) (walks .walking) .says .walking in
-      let few : next .steps ≤ 96 = omega (arith, h .ready .few) in
-      (h .long, few, omega arith)
+      let few : next .steps ≤ 96 = omega (arith, h .trailed .ready .few) in
+      (h .trailed .long, few, omega arith)
 
-  pub says-next : (next : Standing) → WalkedToEntry t chain sentence w path w′ path′ (pen .at) (Came next) → {before after : List ℕ} {p : ℕ}
+  pub says-next : (next : Standing) → WalkedToEntry t chain sentence w path turns w′ path′ turns′ (pen .at) (Came next) → {before after : List ℕ} {p : ℕ}
       → Put before after (pen .place) (line (take (next .steps) path′)) p
-      → WroteLine t chain sentence w path before pen w′ path′ after (Line.Put (record { at = next; place = p }))
+      → WroteLine t chain sentence w path turns before pen w′ path′ turns′ after (Line.Put (record { at = next; place = p }))
   says-next next walked put =
       record {
         of-grammar = λ g walking.
@@ -39,8 +39,8 @@ module _ (t chain sentence w path w′ path′ : List ℕ) (pen : Pen) where
             record { walking = h .walking; same-steps = h .same-steps; put = put; lines = ap (each line) (h .comes) };
       }
 
-  pub says-last : WalkedToEntry t chain sentence w path w′ path′ (pen .at) Ended → (before : List ℕ)
-      → WroteLine t chain sentence w path before pen w′ path′ before Line.Last
+  pub says-last : WalkedToEntry t chain sentence w path turns w′ path′ turns′ (pen .at) Ended → (before : List ℕ)
+      → WroteLine t chain sentence w path turns before pen w′ path′ turns′ before Line.Last
   says-last walked before = record { of-grammar = λ g walking. (refl, ap (each line) (walked .of-grammar g walking .says)) }
 
 line-some : (xs : List ℕ) → 0 < length (line xs)
@@ -49,23 +49,23 @@ line-some (n ∷ []) = omega (arith, length-append (decimal n) (newline ∷ []))
 line-some (n ∷ m ∷ ms) = omega (arith, length-append (decimal n) (blank ∷ line (m ∷ ms)))
 
 -- lines are written so far, for every grammar whose walk stood where the pen was
-module _ (t chain sentence w₀ path₀ before : List ℕ) (pen : Pen) where
-  pub record FilledSoFar (w path after : List ℕ) (here : Pen) : Type 0 where
-    pub of-grammar : (g : Grammar) → Walking g t chain sentence w₀ path₀ (pen .at) → FilledTo g t chain sentence (take (pen .at .steps) path₀) before pen w path after here
+module _ (t chain sentence w₀ path₀ turns₀ before : List ℕ) (pen : Pen) where
+  pub record FilledSoFar (w path turns after : List ℕ) (here : Pen) : Type 0 where
+    pub of-grammar : (g : Grammar) → Walking g t chain sentence w₀ path₀ turns₀ (pen .at) → FilledTo g t chain sentence (take (pen .at .steps) path₀) before pen w path turns after here
 
-  pub filled-none : pen .place ≤ length before → FilledSoFar w₀ path₀ before pen
+  pub filled-none : pen .place ≤ length before → FilledSoFar w₀ path₀ turns₀ before pen
   filled-none r =
       record {
         of-grammar = λ g walking. record { walking = walking; same-steps = refl; text = []; put = put-none before (pen .place) r; lines = refl };
       }
 
-  module _ (w path after : List ℕ) (here : Pen) (so : FilledSoFar w path after here) where
-    pub filled-full : length after ≤ here .place + 576 → FilledPage t chain sentence w₀ path₀ before pen w path after (Page.More here)
+  module _ (w path turns after : List ℕ) (here : Pen) (so : FilledSoFar w path turns after here) where
+    pub filled-full : length after ≤ here .place + 576 → FilledPage t chain sentence w₀ path₀ turns₀ before pen w path turns after (Page.More here)
     filled-full full = record { of-grammar = λ g walking. (so .of-grammar g walking, full) }
 
     -- a line more
-    module _ (w′ path′ after′ : List ℕ) where
-      pub filled-more : (next : Pen) → WroteLine t chain sentence w path after here w′ path′ after′ (Line.Put next) → FilledSoFar w′ path′ after′ next
+    module _ (w′ path′ turns′ after′ : List ℕ) where
+      pub filled-more : (next : Pen) → WroteLine t chain sentence w path turns after here w′ path′ turns′ after′ (Line.Put next) → FilledSoFar w′ path′ turns′ after′ next
       filled-more next wrote =
           record {
             of-grammar = λ g walking.
@@ -84,8 +84,8 @@ module _ (t chain sentence w₀ path₀ before : List ℕ) (pen : Pen) where
                 };
           }
 
-      pub filled-last : WroteLine t chain sentence w path after here w′ path′ after′ Line.Last
-          → FilledPage t chain sentence w₀ path₀ before pen w′ path′ after′ (Page.Last (here .place))
+      pub filled-last : WroteLine t chain sentence w path turns after here w′ path′ turns′ after′ Line.Last
+          → FilledPage t chain sentence w₀ path₀ turns₀ before pen w′ path′ turns′ after′ (Page.Last (here .place))
       filled-last wrote =
           record {
             of-grammar = λ g walking.
@@ -98,11 +98,11 @@ module _ (t chain sentence w₀ path₀ before : List ℕ) (pen : Pen) where
           }
 
     -- the walk of some grammar stood where the pen was
-    module _ (walks : Walks t chain sentence w₀ path₀ (pen .at)) where
-      abbrev filled : FilledTo (walks .grammar) t chain sentence (take (pen .at .steps) path₀) before pen w path after here
+    module _ (walks : Walks t chain sentence w₀ path₀ turns₀ (pen .at)) where
+      abbrev filled : FilledTo (walks .grammar) t chain sentence (take (pen .at .steps) path₀) before pen w path turns after here
       filled = so .of-grammar (walks .grammar) (walks .walking)
 
-      pub filled-walks : Walks t chain sentence w path (here .at)
+      pub filled-walks : Walks t chain sentence w path turns (here .at)
       filled-walks = record { grammar = walks .grammar; walking = filled .walking }
 
       pub filled-within : here .place ≤ length after
@@ -111,18 +111,18 @@ module _ (t chain sentence w₀ path₀ before : List ℕ) (pen : Pen) where
       pub filled-long : length after ≡ length before
       filled-long = put-long (filled .put)
 
-      module _ (w′ path′ after′ : List ℕ) where
-        pub filled-less : (next : Pen) → WroteLine t chain sentence w path after here w′ path′ after′ (Line.Put next) → length after′ - next .place < length after - here .place
+      module _ (w′ path′ turns′ after′ : List ℕ) where
+        pub filled-less : (next : Pen) → WroteLine t chain sentence w path turns after here w′ path′ turns′ after′ (Line.Put next) → length after′ - next .place < length after - here .place
         filled-less next wrote =
             let v = wrote .of-grammar (walks .grammar) (filled .walking) in
             omega (arith, v .put .place, v .put .within, line-some (take (next .at .steps) path′), put-long (v .put))
 
-        pub last-long : WroteLine t chain sentence w path after here w′ path′ after′ Line.Last → length after′ ≡ length before
+        pub last-long : WroteLine t chain sentence w path turns after here w′ path′ turns′ after′ Line.Last → length after′ ≡ length before
         last-long wrote = ap length (wrote .of-grammar (walks .grammar) (filled .walking) .0) ∙ filled-long
 
 -- a page with room for a line lists something: less text is left after it
-pub page-lists : {g : Grammar} {t chain sentence list before : List ℕ} {pen : Pen} {w path after : List ℕ} {next : Pen}
-    → PageSays g t chain sentence list before pen w path after (Page.More next) → pen .place + 576 < length before
+pub page-lists : {g : Grammar} {t chain sentence list before : List ℕ} {pen : Pen} {w path turns after : List ℕ} {next : Pen}
+    → PageSays g t chain sentence list before pen w path turns after (Page.More next) → pen .place + 576 < length before
     → length (linesAfter g sentence (stepsOf (pen .at)) (take (next .at .steps) path)) < length (linesAfter g sentence (stepsOf (pen .at)) list)
 page-lists {g} {sentence = sentence} {pen = pen} {path = path} {next = next} (so, h) room =
     omega (arith, ap length (so .lines), length-append (so .text) (linesAfter g sentence (stepsOf (pen .at)) (take (next .at .steps) path)), so .put .place, put-long (so .put))

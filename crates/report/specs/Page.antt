@@ -22,37 +22,37 @@ linesAfter g sentence n list = each line (entriesAfter g sentence n list)
 
 -- the entry on the path is written as a line, and the walk stands there, under the same node limit: the lines after the list are that line and those after
 -- that entry
-pub record LinePutTo (g : Grammar) (t chain sentence list before : List ℕ) (pen : Pen) (w path after : List ℕ) (next : Pen) : Type 0 where
-  pub walking : Walking g t chain sentence w path (next .at)
+pub record LinePutTo (g : Grammar) (t chain sentence list before : List ℕ) (pen : Pen) (w path turns after : List ℕ) (next : Pen) : Type 0 where
+  pub walking : Walking g t chain sentence w path turns (next .at)
   pub same-steps : stepsOf (next .at) ≡ stepsOf (pen .at)
   pub put : Put before after (pen .place) (line (take (next .at .steps) path)) (next .place)
   pub lines : linesAfter g sentence (stepsOf (pen .at)) list ≡ line (take (next .at .steps) path) ++ linesAfter g sentence (stepsOf (pen .at)) (take (next .at .steps) path)
 
 -- one line is written, or there is none
-abbrev pub LineSays : Grammar → List ℕ → List ℕ → List ℕ → List ℕ → List ℕ → Pen → List ℕ → List ℕ → List ℕ → Line → Type 0
-LineSays g t chain sentence list before pen w path after (LinePut next) = LinePutTo g t chain sentence list before pen w path after next
-LineSays g t chain sentence list before pen w path after LineLast = (after ≡ before) × (linesAfter g sentence (stepsOf (pen .at)) list ≡ [])
+abbrev pub LineSays : Grammar → List ℕ → List ℕ → List ℕ → List ℕ → List ℕ → Pen → List ℕ → List ℕ → List ℕ → List ℕ → Line → Type 0
+LineSays g t chain sentence list before pen w path turns after (LinePut next) = LinePutTo g t chain sentence list before pen w path turns after next
+LineSays g t chain sentence list before pen w path turns after LineLast = (after ≡ before) × (linesAfter g sentence (stepsOf (pen .at)) list ≡ [])
 
 -- what is so for every grammar whose walk stands there; the list is the one on the path
-pub record WroteLine (t chain sentence w path before : List ℕ) (pen : Pen) (w′ path′ after : List ℕ) (answer : Line) : Type 0 where
-  pub of-grammar : (g : Grammar) → Walking g t chain sentence w path (pen .at) → LineSays g t chain sentence (take (pen .at .steps) path) before pen w′ path′ after answer
+pub record WroteLine (t chain sentence w path turns before : List ℕ) (pen : Pen) (w′ path′ turns′ after : List ℕ) (answer : Line) : Type 0 where
+  pub of-grammar : (g : Grammar) → Walking g t chain sentence w path turns (pen .at) → LineSays g t chain sentence (take (pen .at .steps) path) before pen w′ path′ turns′ after answer
 
 -- lines are written from the pen's place on to that of `next`, and the last entry written is on the path, where the walk stands: the lines after the list are
 -- those written and those after that entry
-pub record FilledTo (g : Grammar) (t chain sentence list before : List ℕ) (pen : Pen) (w path after : List ℕ) (next : Pen) : Type 0 where
-  pub walking : Walking g t chain sentence w path (next .at)
+pub record FilledTo (g : Grammar) (t chain sentence list before : List ℕ) (pen : Pen) (w path turns after : List ℕ) (next : Pen) : Type 0 where
+  pub walking : Walking g t chain sentence w path turns (next .at)
   pub same-steps : stepsOf (next .at) ≡ stepsOf (pen .at)
   pub text : List ℕ
   pub put : Put before after (pen .place) text (next .place)
   pub lines : linesAfter g sentence (stepsOf (pen .at)) list ≡ text ++ linesAfter g sentence (stepsOf (pen .at)) (take (next .at .steps) path)
 
 -- a page that is not the last goes on for as long as there is room for a line of 96 numbers, of at most 576 bytes; the last has all lines that are left
-abbrev pub PageSays : Grammar → List ℕ → List ℕ → List ℕ → List ℕ → List ℕ → Pen → List ℕ → List ℕ → List ℕ → Page → Type 0
-PageSays g t chain sentence list before pen w path after (More next) = FilledTo g t chain sentence list before pen w path after next × (length after ≤ next .place + 576)
-PageSays g t chain sentence list before pen w path after (Last p) = (l : List ℕ) × Put before after (pen .place) l p × (linesAfter g sentence (stepsOf (pen .at)) list ≡ l)
+abbrev pub PageSays : Grammar → List ℕ → List ℕ → List ℕ → List ℕ → List ℕ → Pen → List ℕ → List ℕ → List ℕ → List ℕ → Page → Type 0
+PageSays g t chain sentence list before pen w path turns after (More next) = FilledTo g t chain sentence list before pen w path turns after next × (length after ≤ next .place + 576)
+PageSays g t chain sentence list before pen w path turns after (Last p) = (l : List ℕ) × Put before after (pen .place) l p × (linesAfter g sentence (stepsOf (pen .at)) list ≡ l)
 
-pub record FilledPage (t chain sentence w path before : List ℕ) (pen : Pen) (w′ path′ after : List ℕ) (answer : Page) : Type 0 where
-  pub of-grammar : (g : Grammar) → Walking g t chain sentence w path (pen .at) → PageSays g t chain sentence (take (pen .at .steps) path) before pen w′ path′ after answer
+pub record FilledPage (t chain sentence w path turns before : List ℕ) (pen : Pen) (w′ path′ turns′ after : List ℕ) (answer : Page) : Type 0 where
+  pub of-grammar : (g : Grammar) → Walking g t chain sentence w path turns (pen .at) → PageSays g t chain sentence (take (pen .at .steps) path) before pen w′ path′ turns′ after answer
 
 -- the texts of the pages that follow each other from the entries after a list on
 module _ (g : Grammar) (sentence : List ℕ) (n : ℕ) where

@@ -10,6 +10,7 @@ use ranks::queue::ROOM;
 use ranks::table::TABLE;
 use steps::Standing;
 use walk::CHAIN;
+use walk::TURNS;
 use walk::Walked;
 
 // A line of 96 numbers has at most so many bytes: of each number five digits, and the blank or the newline after it.
@@ -40,13 +41,14 @@ fn put_next(
     sentence: &[u32],
     w: &mut [u64; ROOM],
     path: &mut [u16; MOST_STEPS],
+    turns: &mut [u64; TURNS],
     out: &mut [u8],
     pen: Pen,
 ) -> Line
-    requires { ⌜ Walks (now t) (now chain) (now sentence) (now w) (now path) (pen .at) × (pen .place + 576 < length (now out)) ⌝ }
-    ensures { λ l. ⌜ WroteLine (now (t .entry)) (now (chain .entry)) (now (sentence .entry)) (now (w .entry)) (now (path .entry)) (now (out .entry)) pen (now (w .exit)) (now (path .exit)) (now (out .exit)) l ⌝ }
+    requires { ⌜ Walks (now t) (now chain) (now sentence) (now w) (now path) (now turns) (pen .at) × (pen .place + 576 < length (now out)) ⌝ }
+    ensures { λ l. ⌜ WroteLine (now (t .entry)) (now (chain .entry)) (now (sentence .entry)) (now (w .entry)) (now (path .entry)) (now (turns .entry)) (now (out .entry)) pen (now (w .exit)) (now (path .exit)) (now (turns .exit)) (now (out .exit)) l ⌝ }
 {
-    let s = next_entry(t, chain, sentence, w, path, pen.at);
+    let s = next_entry(t, chain, sentence, w, path, turns, pen.at);
     match s {
         Walked::Came(n) => {
             let k = n.steps;
@@ -65,15 +67,16 @@ pub fn fill(
     sentence: &[u32],
     w: &mut [u64; ROOM],
     path: &mut [u16; MOST_STEPS],
+    turns: &mut [u64; TURNS],
     out: &mut [u8],
     pen: Pen,
 ) -> Page
-    requires { ⌜ Walks (now t) (now chain) (now sentence) (now w) (now path) (pen .at) × (pen .place ≤ length (now out)) ⌝ }
-    ensures { λ p. ⌜ FilledPage (now (t .entry)) (now (chain .entry)) (now (sentence .entry)) (now (w .entry)) (now (path .entry)) (now (out .entry)) pen (now (w .exit)) (now (path .exit)) (now (out .exit)) p ⌝ }
+    requires { ⌜ Walks (now t) (now chain) (now sentence) (now w) (now path) (now turns) (pen .at) × (pen .place ≤ length (now out)) ⌝ }
+    ensures { λ p. ⌜ FilledPage (now (t .entry)) (now (chain .entry)) (now (sentence .entry)) (now (w .entry)) (now (path .entry)) (now (turns .entry)) (now (out .entry)) pen (now (w .exit)) (now (path .exit)) (now (turns .exit)) (now (out .exit)) p ⌝ }
 {
     let mut here = pen;
     while LINE_BYTES < out.len() - here.place {
-        let l = put_next(t, chain, sentence, w, path, out, here);
+        let l = put_next(t, chain, sentence, w, path, turns, out, here);
         match l {
             Line::Put(n) => {
                 here = n;

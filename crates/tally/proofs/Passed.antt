@@ -18,6 +18,7 @@ use Rattle.steps.specs.declared.Standing.{Standing}
 use Rattle.steps.specs.Steps.{begin}
 use Rattle.walk.specs.declared.prefixes.Walked.the-variants.{Came, Ended}
 use Rattle.walk.specs.Rest.{liveAfter}
+use Rattle.walk.specs.Resumes.{NoTurns}
 use Rattle.walk.specs.Walking.{Walking, stepsOf, atEnd}
 use Rattle.walk.specs.Turns.{Walks, WalkedOn}
 use Rattle.walk.proofs.Start.{walking-begin, live-first}
@@ -73,8 +74,8 @@ module _ (g : Grammar) (sentence : List ℕ) (m : ℕ) (done : List (List ℕ)) 
       }
 
 -- where the walk stands, and the tally of the live prefixes before
-pub record SoFarFor (g : Grammar) (t chain sentence w : List ℕ) (n m : ℕ) (path held : List ℕ) (at : Standing) (so : Tally) : Type 0 where
-  pub walking : Walking g t chain sentence w path at
+pub record SoFarFor (g : Grammar) (t chain sentence w : List ℕ) (n m : ℕ) (path turns held : List ℕ) (at : Standing) (so : Tally) : Type 0 where
+  pub walking : Walking g t chain sentence w path turns at
   pub same-steps : stepsOf at ≡ n
   pub done : List (List ℕ)
   pub stands : live g sentence n ≡ done ++ (take (at .steps) path ∷ liveAfter g sentence n (take (at .steps) path))
@@ -82,18 +83,18 @@ pub record SoFarFor (g : Grammar) (t chain sentence w : List ℕ) (n m : ℕ) (p
 
 module _ (t chain sentence w₀ : List ℕ) (n limit m : ℕ) (held₀ : List ℕ) where
   -- for every grammar whose tables they are
-  pub record SoFar (w held path : List ℕ) (at : Standing) (so : Tally) : Type 0 where
-    pub of-grammar : (g : Grammar) → Starts g t chain sentence w₀ n → SoFarFor g t chain sentence w n m path held at so
+  pub record SoFar (w held path turns : List ℕ) (at : Standing) (so : Tally) : Type 0 where
+    pub of-grammar : (g : Grammar) → Starts g t chain sentence w₀ n → SoFarFor g t chain sentence w n m path turns held at so
     pub kept : length held ≡ length held₀
     pub spent : so .effort ≤ limit
 
-  pub so-begins : (path : List ℕ) → length path ≡ 96 → (at : Standing) → at ≡ begin n → SoFar w₀ held₀ path at (record { count = 0; effort = 0; steps = 0 })
-  so-begins path long at e =
-      subst (λ (s : Standing). SoFar w₀ held₀ path s (record { count = 0; effort = 0; steps = 0 })) (sym e)
+  pub so-begins : (path turns : List ℕ) → length path ≡ 96 → NoTurns turns → (at : Standing) → at ≡ begin n → SoFar w₀ held₀ path turns at (record { count = 0; effort = 0; steps = 0 })
+  so-begins path turns long turnless at e =
+      subst (λ (s : Standing). SoFar w₀ held₀ path turns s (record { count = 0; effort = 0; steps = 0 })) (sym e)
       (record {
         of-grammar = λ g h.
             record {
-              walking = walking-begin g t chain sentence w₀ path n (h .ready) (h .chained) (h .first) long;
+              walking = walking-begin g t chain sentence w₀ path turns n (h .ready) (h .chained) (h .first) long turnless;
               same-steps = omega arith;
               done = [];
               stands = live-first g sentence n (h .some-steps);
@@ -103,7 +104,7 @@ module _ (t chain sentence w₀ : List ℕ) (n limit m : ℕ) (held₀ : List �
         spent = omega arith;
       })
 
-  module _ (w held path : List ℕ) (at : Standing) (so : Tally) (far : SoFar w held path at so) where
+  module _ (w held path turns : List ℕ) (at : Standing) (so : Tally) (far : SoFar w held path turns at so) where
     -- the limit is spent, and here is one live prefix more
     pub so-over : so .effort ≡ limit → TalliedAll t chain sentence w₀ n limit m held₀ held Over
     so-over e =
@@ -119,28 +120,28 @@ module _ (t chain sentence w₀ : List ℕ) (n limit m : ℕ) (held₀ : List �
     so-notes may e =
         let f = far .of-grammar (may .grammar) (may .starts) in
         record {
-          long = f .walking .long;
-          within = omega (arith, f .walking .ready .few);
+          long = f .walking .trailed .long;
+          within = omega (arith, f .walking .trailed .ready .few);
           room = omega (arith, far .kept, may .room);
           fewer = omega (arith, f .tallies .spent, f .tallies .counted, keep-short (complete (may .grammar) sentence) (f .done));
           small = omega (arith, far .spent, may .limited);
           short = f .tallies .short;
         }
 
-    pub so-walks : MayTally t chain sentence w₀ n limit held₀ → Walks t chain sentence w path at
+    pub so-walks : MayTally t chain sentence w₀ n limit held₀ → Walks t chain sentence w path turns at
     so-walks may = record { grammar = may .grammar; walking = far .of-grammar (may .grammar) (may .starts) .walking }
 
     -- the prefix is noted
-    module _ (more : so .effort ≡ limit → ⊥) (held′ : List ℕ) (so′ : Tally) (noted : Noted sentence path at m held held′ so so′) (w′ path′ : List ℕ) where
+    module _ (more : so .effort ≡ limit → ⊥) (held′ : List ℕ) (so′ : Tally) (noted : Noted sentence path at m held held′ so so′) (w′ path′ turns′ : List ℕ) where
       spent′ : so′ .effort ≤ limit
       spent′ = omega (arith, noted .spent, far .spent)
 
-      module _ (g : Grammar) (f : SoFarFor g t chain sentence w n m path held at so) where
+      module _ (g : Grammar) (f : SoFarFor g t chain sentence w n m path turns held at so) where
         abbrev here : List ℕ
         here = take (at .steps) path
 
         noted-more : Tallies g sentence m (f .done ++ (here ∷ [])) held′ so′
-        noted-more = tallies-more g sentence m (f .done) path at held held′ so so′ (complete-at g t chain sentence w path at (f .walking)) (f .tallies) noted
+        noted-more = tallies-more g sentence m (f .done) path at held held′ so so′ (complete-at g t chain sentence w path at (f .walking .trailed)) (f .tallies) noted
 
         after : (l : List (List ℕ)) → liveAfter g sentence (stepsOf at) here ≡ l → live g sentence n ≡ (f .done ++ (here ∷ [])) ++ l
         after l e =
@@ -149,7 +150,7 @@ module _ (t chain sentence w₀ : List ℕ) (n limit m : ℕ) (held₀ : List �
             ∙ ap (λ (x : List (List ℕ)). f .done ++ (here ∷ x)) e
             ∙ sym (append-assoc (f .done) (here ∷ []) l)
 
-      pub so-comes : (next : Standing) → WalkedOn t chain sentence w path w′ path′ at (Came next) → SoFar w′ held′ path′ next so′
+      pub so-comes : (next : Standing) → WalkedOn t chain sentence w path turns w′ path′ turns′ at (Came next) → SoFar w′ held′ path′ turns′ next so′
       so-comes next walked =
           record {
             of-grammar = λ g h.
@@ -168,7 +169,7 @@ module _ (t chain sentence w₀ : List ℕ) (n limit m : ℕ) (held₀ : List �
             spent = spent′;
           }
 
-      pub so-ends : WalkedOn t chain sentence w path w′ path′ at Ended → TalliedAll t chain sentence w₀ n limit m held₀ held′ (All so′)
+      pub so-ends : WalkedOn t chain sentence w path turns w′ path′ turns′ at Ended → TalliedAll t chain sentence w₀ n limit m held₀ held′ (All so′)
       so-ends walked =
           record {
             kept = noted .kept ∙ far .kept;

@@ -18,6 +18,7 @@ use Rattle.ranks.specs.Held.{predictionOf, numberOf, Fits}
 use Rattle.steps.specs.declared.Standing.{Standing}
 use Rattle.steps.specs.Steps.{stateIn, Ready, Fronted, behind}
 use Rattle.walk.specs.Walking.{Made, Trail, Trailed}
+use Rattle.walk.specs.Turns.{SameLengths}
 
 -- two lists that begin alike begin alike up to each place before
 pub take-less : (a b : ℕ) (l m : List ℕ) → take a l ≡ take a m → b ≤ a → take b l ≡ take b m
@@ -25,6 +26,10 @@ take-less a b l m e h = sym (take-take b a l h) ∙ ap (take b) e ∙ take-take 
 
 pub getD-kept : (a i : ℕ) (l m : List ℕ) → take a l ≡ take a m → i < a → getD l i 0 ≡ getD m i 0
 getD-kept a i l m e h = sym (getD-take a l i 0 h) ∙ ap (λ (x : List ℕ). getD x i 0) e ∙ getD-take a m i 0 h
+
+-- the arrays are as long as they were, after one call and after another
+pub lengths-then : (w path turns w′ path′ turns′ w″ path″ turns″ : List ℕ) → SameLengths w path turns w′ path′ turns′ → SameLengths w′ path′ turns′ w″ path″ turns″ → SameLengths w path turns w″ path″ turns″
+lengths-then w path turns w′ path′ turns′ w″ path″ turns″ h k = record { kept = k .kept ∙ h .kept; path-kept = k .path-kept ∙ h .path-kept; turns-kept = k .turns-kept ∙ h .turns-kept }
 
 module _ (g : Grammar) (t sentence w w′ : List ℕ) (long : length w′ ≡ length w) where
   module _ (at : Standing) (kept : take (at .to) w′ ≡ take (at .to) w) where

@@ -19,20 +19,20 @@ use Rattle.count_analyses.proofs.write_text.Reads as write-text-reads
 use Rattle.report.proofs.fill.Reads as fill-reads
 
 -- what the answer of `fill` says of the answer here
-module _ {t chain sentence w path before : List ℕ} {pen : Pen} {w′ path′ after : List ℕ} where
+module _ {t chain sentence w path turns before : List ℕ} {pen : Pen} {w′ path′ turns′ after : List ℕ} where
   -- a page ends in the buffer
-  last-within : {p : ℕ} → FilledPage t chain sentence w path before pen w′ path′ after (Page.Last p) → Walks t chain sentence w path (pen .at) → p ≤ length after
+  last-within : {p : ℕ} → FilledPage t chain sentence w path turns before pen w′ path′ turns′ after (Page.Last p) → Walks t chain sentence w path turns (pen .at) → p ≤ length after
   last-within filled walks = filled .of-grammar (walks .grammar) (walks .walking) .1 .within
 
-  more-within : {next : Pen} → FilledPage t chain sentence w path before pen w′ path′ after (Page.More next) → Walks t chain sentence w path (pen .at) → next .place ≤ length after
+  more-within : {next : Pen} → FilledPage t chain sentence w path turns before pen w′ path′ turns′ after (Page.More next) → Walks t chain sentence w path turns (pen .at) → next .place ≤ length after
   more-within filled walks = filled .of-grammar (walks .grammar) (walks .walking) .0 .put .within
 
-  ends : {p : ℕ} → FilledPage t chain sentence w path before pen w′ path′ after (Page.Last p) → PrintedPage t chain sentence w path before pen w′ path′ after Next.Ended
+  ends : {p : ℕ} → FilledPage t chain sentence w path turns before pen w′ path′ turns′ after (Page.Last p) → PrintedPage t chain sentence w path turns before pen w′ path′ turns′ after Next.Ended
   ends {p} filled = record { of-grammar = λ g walking. (p, filled .of-grammar g walking) }
 
   -- after a page that is not the last, the listing goes on
-  goes-on : {next : Pen} → FilledPage t chain sentence w path before pen w′ path′ after (Page.More next) → pen .place + 576 < length before
-      → PrintedPage t chain sentence w path before pen w′ path′ after (Next.After (next .at))
+  goes-on : {next : Pen} → FilledPage t chain sentence w path turns before pen w′ path′ turns′ after (Page.More next) → pen .place + 576 < length before
+      → PrintedPage t chain sentence w path turns before pen w′ path′ turns′ after (Next.After (next .at))
   goes-on filled room =
       record {
         of-grammar = λ g walking.
@@ -40,7 +40,7 @@ module _ {t chain sentence w path before : List ℕ} {pen : Pen} {w′ path′ a
             record { walking = v .0 .walking; same-steps = v .0 .same-steps; less = page-lists v room };
       }
 
-  breaks : PrintedPage t chain sentence w path before pen w′ path′ after Next.Broken
+  breaks : PrintedPage t chain sentence w path turns before pen w′ path′ turns′ after Next.Broken
   breaks = record { of-grammar = λ g walking. tt }
 
 fill-requires : tie.Need-fill-requires
@@ -57,7 +57,7 @@ part-write-text-start c = search needs
 
 part-write-text-end : tie.Need-part-write-text-end
 part-write-text-end c =
-    let s = c .before .before .before .before .before .before .before .before .before .before .before .before in
+    let s = c .before .before .before .before .before .before .before .before .before .before .before .before .before in
     last-within (rw (c .before .before .page .given .1) at (c .before .before .before .before .before .before .fill .ensures)) (s .pre .0)
 
 write-text-requires : tie.Need-write-text-requires
@@ -74,7 +74,7 @@ part-write-text-start-2 c = search needs
 
 part-write-text-end-2 : tie.Need-part-write-text-end-2
 part-write-text-end-2 c =
-    let s = c .before .before .before .before .before .before .before .before .before .before .before .before .before in
+    let s = c .before .before .before .before .before .before .before .before .before .before .before .before .before .before in
     more-within (rw (c .before .before .before .page2 .given .1) at (c .before .before .before .before .before .before .before .fill .ensures)) (s .pre .0)
 
 write-text-requires-2 : tie.Need-write-text-requires-2
@@ -98,7 +98,7 @@ same-length-3 c = search needs
 returns-3 : tie.Need-returns-3
 returns-3 c =
     let v = rw (c .before .before .before .before .before .before .page2 .given .1) at (c .before .before .before .before .before .before .before .before .before .before .fill .ensures) in
-    let s = c .before .before .before .before .before .before .before .before .before .before .before .before .before .before .before .before in
+    let s = c .before .before .before .before .before .before .before .before .before .before .before .before .before .before .before .before .before in
     goes-on v (s .pre .1)
 
 same-length-4 : tie.Need-same-length-4
