@@ -5,7 +5,7 @@ ghost use mathlib.Core.Path.{_≡_};
 ghost use Prim.Native.Nat.{_+_, _<_, _≤_, min};
 ghost use lib.ListN.{length};
 ghost use Rattle.model.specs.GrammarFile.{grammarRefusal};
-ghost use Rattle.walk.specs.Turns.{Walks};
+ghost use Rattle.walk.specs.Prefixes.{Walks};
 ghost use Rattle.io.specs.Counts.{Counts};
 ghost use Rattle.count_analyses.specs.Paths.{PrintedPage};
 ghost use Rattle.count_analyses.specs.Pieces.{PieceSays, Appended, TurnSays, WrittenSays};

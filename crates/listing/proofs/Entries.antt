@@ -17,7 +17,7 @@ use Rattle.steps.specs.Steps.{stateIn}
 use Rattle.walk.specs.declared.prefixes.Walked.the-variants.{Came, Ended}
 use Rattle.walk.specs.Rest.{liveAfter}
 use Rattle.walk.specs.Walking.{Trailed, Walking, stepsOf, atEnd}
-use Rattle.walk.specs.Turns.{SameLengths, Walks, NextLive, WalkedOn}
+use Rattle.walk.specs.Prefixes.{SameLengths, Walks, NextLive, WalkedOn}
 use Rattle.walk.proofs.Along.{along}
 use Rattle.walk.proofs.Ended.{complete-at}
 use Rattle.walk.proofs.Kept.{lengths-then}

@@ -13,7 +13,7 @@ use Rattle.steps.specs.declared.Standing.{Standing}
 use Rattle.walk.specs.declared.prefixes.Walked.{Walked}
 use Rattle.walk.specs.declared.prefixes.Walked.the-variants.{Came, Ended}
 use Rattle.walk.specs.Walking.{Walking, stepsOf}
-use Rattle.walk.specs.Turns.{SameLengths}
+use Rattle.walk.specs.Prefixes.{SameLengths}
 
 -- the entries of the listing that come after a list
 abbrev pub entriesAfter : Grammar → List ℕ → ℕ → List ℕ → List (List ℕ)

@@ -1,5 +1,5 @@
 // The listing as a stream: the next entry, by the walk over the live prefixes.
-ghost use Rattle.walk.specs.Turns.{Walks};
+ghost use Rattle.walk.specs.Prefixes.{Walks};
 ghost use Rattle.listing.specs.Stream.{WalkedToEntry};
 use model::MOST_STEPS;
 use ranks::queue::ROOM;

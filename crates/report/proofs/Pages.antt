@@ -11,7 +11,7 @@ use Rattle.model.specs.Program.{decimal, line, blank, newline}
 use Rattle.steps.specs.declared.Standing.{Standing}
 use Rattle.walk.specs.declared.prefixes.Walked.the-variants.{Came, Ended}
 use Rattle.walk.specs.Walking.{Walking, stepsOf}
-use Rattle.walk.specs.Turns.{Walks}
+use Rattle.walk.specs.Prefixes.{Walks}
 use Rattle.listing.specs.Stream.{WalkedToEntry}
 use Rattle.report.specs.declared.page.Pen.{Pen}
 use Rattle.report.specs.declared.page.Line.{Line}

@@ -1,7 +1,7 @@
 // The listing as lines of text, a page at a time.
 ghost use Prim.Native.Nat.{_+_, _<_, _≤_};
 ghost use lib.ListN.{length};
-ghost use Rattle.walk.specs.Turns.{Walks};
+ghost use Rattle.walk.specs.Prefixes.{Walks};
 ghost use Rattle.report.specs.Page.{WroteLine, FilledPage};
 use crate::text::put_line;
 use listing::next_entry;

@@ -118,7 +118,7 @@ module _ (g : Grammar) (t sentence w : List ℕ) (at : Standing) (ready : Ready 
   rule-small = omega (arith, cells .room)
 
   pub advances : Advances at
-  advances = record { predicted = front .predicted; left = omega (arith, front .predicted, ready .fits); small = (omega (arith, ready .room, ready .few, ready .fits, front .predicted), omega (arith, ready .few)); heard = omega (arith, ready .heard, ready .few) }
+  advances = record { predicted = front .predicted; left = omega (arith, front .predicted, ready .fits); small = (omega (arith, ready .room, ready .few, ready .fits, front .predicted), omega (arith, ready .few)); few-read = omega (arith, ready .heard, ready .few) }
 
   -- where a step leads, by the length of its queue and the words then read
   ahead-is : (n m : ℕ) → n ≡ at .read + readBy t r → m ≡ at .to - at .from - 1 + daughtersIn t (8 * r)

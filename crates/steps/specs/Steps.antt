@@ -54,7 +54,7 @@ pub record Fronted (g : Grammar) (w : List ℕ) (at : Standing) (r : ℕ) : Type
   pub rule-is : ruleAt g r ≡ some rule
   pub of-front : rule .category ≡ unpacked (getD w (at .from) 0) .category
 
--- whether a word may be read next: it is the empty word, which takes none, or it fits the next place
+-- whether the step of a lexical rule with this word leads on: it is the empty word, which takes no place, or it fits the next place
 abbrev pub hears : ℕ → List ℕ → ℕ → Bool
 hears word sentence read = if eqb word emptyWord then true else if ltb read (length sentence) then wordFits word (getD sentence read 0) else false
 
@@ -80,8 +80,8 @@ behind t at r =
       left = at .left + 1;
     }
 
--- whether the step of rule r, which is of the front's category, leads on: the word of a lexical rule may be read next; the queue that another rule leads to is
--- no longer than the steps then left
+-- whether the step of rule r, which is of the front's category, leads on: of a lexical rule the word tells; the queue that another rule leads to is no
+-- longer than the steps then left
 abbrev pub opens : List ℕ → List ℕ → Standing → ℕ → Bool
 opens t sentence at r =
     if eqb (daughtersIn t (8 * r)) 0 then hears (wordIn t (8 * r)) sentence (at .read)
@@ -93,7 +93,7 @@ pub record Advances (at : Standing) : Type 0 where
   pub predicted : at .from < at .to
   pub left : 1 ≤ at .left
   pub small : (at .to ≤ 6272) × (at .steps ≤ 96)
-  pub heard : at .read ≤ 96
+  pub few-read : at .read ≤ 96
 
 -- the step leads there, and the recognizer stands there
 pub record LeadsTo (g : Grammar) (t sentence w w′ : List ℕ) (at : Standing) (r : ℕ) (next : Standing) : Type 0 where

@@ -75,21 +75,21 @@ fn read_by(t: &[u64; TABLE], r: RuleNumber) -> usize
     0
 }
 
-// Whether a word may be read next: it is the empty word, which takes none, or it fits the next place.
+// Whether the step of a lexical rule with this word leads on: it is the empty word, which takes no place, or it fits the next place.
 fn hears(word: Word, sentence: &[u32], read: usize) -> bool
     ensures { λ b. ⌜ b ≡ hears (word .0) (now (sentence .entry)) read ⌝ }
 {
     if word.0 == EMPTY_WORD {
         return true;
     }
-    if sentence.len() <= read {
-        return false;
+    if read < sentence.len() {
+        return fits(word, sentence[read]);
     }
-    fits(word, sentence[read])
+    false
 }
 
-// Whether the step of rule r, which is of the front's category, leads on: the word of a lexical rule may be read next; the queue that another rule leads to is
-// no longer than the steps then left.
+// Whether the step of rule r, which is of the front's category, leads on: of a lexical rule the word tells; the queue that another rule leads to is no
+// longer than the steps then left.
 pub fn opens(t: &[u64; TABLE], sentence: &[u32], at: Standing, r: RuleNumber) -> bool
     requires { ⌜ (r .0 < 256) × Advances at ⌝ }
     ensures { λ b. ⌜ b ≡ opens (now (t .entry)) (now (sentence .entry)) at (r .0) ⌝ }

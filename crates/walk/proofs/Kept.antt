@@ -18,7 +18,7 @@ use Rattle.ranks.specs.Held.{predictionOf, numberOf, Fits}
 use Rattle.steps.specs.declared.Standing.{Standing}
 use Rattle.steps.specs.Steps.{stateIn, Ready, Fronted, behind}
 use Rattle.walk.specs.Walking.{Made, Trail, Trailed}
-use Rattle.walk.specs.Turns.{SameLengths}
+use Rattle.walk.specs.Prefixes.{SameLengths}
 
 -- two lists that begin alike begin alike up to each place before
 pub take-less : (a b : ℕ) (l m : List ℕ) → take a l ≡ take a m → b ≤ a → take b l ≡ take b m

@@ -1,6 +1,6 @@
 -- Where the walk goes on when no rule leads on from where it stands.
 -- Assumes nothing.
-use mathlib.Core.Path.{_≡_, refl, sym, ap, ap₂, subst, _∙_}
+use mathlib.Core.Path.{_≡_, refl, sym, ap, subst, _∙_}
 use mathlib.Core.Logic.{_⊎_, inl, inr}
 use mathlib.Core.Bool.{Bool}
 use mathlib.Core.List.{List, []}
@@ -8,28 +8,28 @@ use Prim.Native.Nat.{ℕ, zero, suc, _+_, _-_, _/_, _%_, _<_, _≤_}
 use native.Mathlib.Omega.{arith}
 use native.Mathlib.Decide.{ℕ-discrete}
 use borrow.Author.Tests.{eq-eqb, ne-eqb}
-use lib.Dec.{eqb}
-use lib.ListN.{length, getD, take, set, length-set}
+use lib.ListN.{getD, take, set, length-set}
 use lib.Seq.{take-set-le, getD-set-same}
 use Rattle.model.specs.Base.{if_then_else_}
 use Rattle.model.specs.Grammar.{Grammar}
 use Rattle.steps.specs.declared.Standing.{Standing}
-use Rattle.steps.specs.Steps.{Ready, Fronted, behind, opens, StepSays}
+use Rattle.steps.specs.Steps.{Ready, Fronted, behind, StepSays}
 use Rattle.steps.specs.declared.Stepped.the-variants.{Leads}
+use Rattle.steps.proofs.Applying.{rule-small}
 use Rattle.walk.specs.Chain.{noRule}
-use Rattle.walk.specs.Resumes.{turnAt, ruleOf, standingOf, SmallTurn, turnOr, found, Resumes}
-use Rattle.walk.specs.Walking.{Trailed, Walking, stepsOf, remaining, ToTry}
-use Rattle.walk.specs.Turns.{OpenFrom, StepFrom, SameLengths, ComesTo}
+use Rattle.walk.specs.Turns.{turnAt, ruleOf, stepsIn, standingOf, SmallTurn, turnOr, found, Resumes}
+use Rattle.walk.specs.Walking.{Trailed, Walking, stepsOf, remaining}
+use Rattle.walk.specs.Prefixes.{OpenFrom, StepFrom, SameLengths, ComesTo}
 use Rattle.walk.proofs.Kept.{take-less, getD-kept}
 use Rattle.walk.proofs.OneStep.{next-to-try, next-passes, next-steps, back-is, leads-trailed, leads-steps, leads-comes, back-fronted, back-trailed, back-steps, back-comes, walk-ends}
-use Rattle.walk.proofs.Seeking.{tried-fronted, rule-small, tried-small, found-open}
+use Rattle.walk.proofs.Seeking.{tried-fronted, found-open}
 
 -- a turn tells its rule and its standing
 module _ (at : Standing) (r : ℕ) (small : SmallTurn at r) where
   pub turn-rule : ruleOf (turnAt at r) ≡ r
   turn-rule = omega (arith, small .rule)
 
-  pub turn-steps : turnAt at r / 512 % 128 ≡ at .steps
+  pub turn-steps : stepsIn (turnAt at r) ≡ at .steps
   turn-steps = omega (arith, small .rule, small .steps)
 
   pub turn-standing : standingOf (turnAt at r) (stepsOf at) ≡ at
@@ -37,7 +37,7 @@ module _ (at : Standing) (r : ℕ) (small : SmallTurn at r) where
       let f : turnAt at r / 65536 % 8192 ≡ at .from = omega (arith, small .rule, small .steps, small .queue .0) in
       let e : turnAt at r / 536870912 % 8192 ≡ at .to = omega (arith, small .rule, small .steps, small .queue .0, small .queue .1) in
       let n : turnAt at r / 4398046511104 ≡ at .read = omega (arith, small .rule, small .steps, small .queue .0, small .queue .1) in
-      let l : stepsOf at - turnAt at r / 512 % 128 ≡ at .left = omega (arith, turn-steps) in
+      let l : stepsOf at - stepsIn (turnAt at r) ≡ at .left = omega (arith, turn-steps) in
       λ i. record { from = f i; to = e i; read = n i; steps = turn-steps i; left = l i }
 
 pub small-turn : (g : Grammar) (t sentence w : List ℕ) (at : Standing) → Ready g t sentence w at → (r : ℕ) → r ≤ noRule → SmallTurn at r
@@ -184,7 +184,7 @@ module _ (g : Grammar) (t chain sentence w path turns : List ℕ) where
             (both .0 ∙ ap (λ (b : Bool). if b then getD turns k 0 else turnAt prev x) (eq-eqb x noRule z)) before
         go (no z) =
             let f = tried-fronted g w prev x z (opened .to-try) in
-            inr (prev, x, both .0 ∙ ap (λ (b : Bool). if b then getD turns k 0 else turnAt prev x) (ne-eqb x noRule z), rule-small g t chain sentence w prev (there .ready) (there .chained) x f, record { walking = walks; fronted = f; leads-on = opened .leads-on z; same-steps = same; comes = comes })
+            inr (prev, x, both .0 ∙ ap (λ (b : Bool). if b then getD turns k 0 else turnAt prev x) (ne-eqb x noRule z), rule-small g t sentence w prev (there .ready) x f, record { walking = walks; fronted = f; leads-on = opened .leads-on z; same-steps = same; comes = comes })
 
   -- what the turn for the steps made tells
   pub tells : (k : ℕ) (at : Standing) → at .steps ≡ k → Walking g t chain sentence w path turns at

@@ -1,4 +1,5 @@
-// The walk from one live prefix to the next, and the chain of the rules of a category (document 01, "Counting and listing").
+// The walk from one live prefix to the next, the chain of the rules of a category, and the turns, which tell where the walk goes on (document 01, "Counting and
+// listing").
 mod chain;
 mod prefixes;
 mod turns;

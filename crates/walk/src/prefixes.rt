@@ -1,8 +1,8 @@
 // The walk over the live prefixes in dictionary order: from each to the next (document 01, "Counting and listing").
 ghost use mathlib.Core.Path.{_≡_};
 ghost use Rattle.walk.specs.Walking.{atEnd};
-ghost use Rattle.walk.specs.Resumes.{found};
-ghost use Rattle.walk.specs.Turns.{MayFind, StandsAt, FirstOpen, MayResume, Resumed, MayChoose, Chosen, MayExtend, Extended, Walks, WalkedOn};
+ghost use Rattle.walk.specs.Turns.{found};
+ghost use Rattle.walk.specs.Prefixes.{MayFind, StandsAt, FirstOpen, MayResume, Resumed, MayChoose, Chosen, MayExtend, Extended, Walks, WalkedOn};
 use crate::chain::CHAIN;
 use crate::chain::NO_RULE;
 use crate::chain::first_rule;
@@ -71,8 +71,8 @@ fn first_open(
     find(t, chain, sentence, at, first_rule(chain, category(w[from])))
 }
 
-// The step to make where no rule leads on from `at`: the last of the steps that led there is taken back after which another rule leads on, and with it those
-// after it.
+// The step to make where no rule leads on from `at`. It takes the place of the last step that led there for which a later rule leads on from where that step
+// was made; the steps after that one are left.
 fn resume(turns: &[u64; TURNS], at: Standing) -> Choice
     requires { ⌜ MayResume (now turns) at ⌝ }
     ensures { λ c. ⌜ Resumed (now (turns .entry)) at c ⌝ }

@@ -17,7 +17,7 @@ use Rattle.steps.specs.declared.Standing.{Standing}
 use Rattle.steps.specs.Steps.{begin}
 use Rattle.steps.proofs.Begin.{ready-begin}
 use Rattle.walk.specs.Chain.{Chained}
-use Rattle.walk.specs.Resumes.{NoTurns}
+use Rattle.walk.specs.Turns.{NoTurns}
 use Rattle.walk.specs.Walking.{Walking, stepsOf}
 use Rattle.walk.proofs.Start.{walking-begin}
 use Rattle.report.specs.declared.page.Pen.{Pen}

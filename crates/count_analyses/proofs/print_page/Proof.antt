@@ -3,7 +3,7 @@
 use mathlib.Core.List.{List}
 use Prim.Native.Nat.{ℕ, _+_, _<_, _≤_}
 use lib.ListN.{length}
-use Rattle.walk.specs.Turns.{Walks}
+use Rattle.walk.specs.Prefixes.{Walks}
 use Rattle.report.specs.declared.page.Pen.{Pen}
 use Rattle.report.specs.declared.page.Page.{Page}
 use Rattle.report.specs.Page.{FilledPage}

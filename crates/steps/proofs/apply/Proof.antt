@@ -1,6 +1,6 @@
 -- `steps::apply` meets its contract.
 -- Assumes nothing.
-use mathlib.Core.Path.{_≡_, sym, ap, _∙_}
+use mathlib.Core.Path.{sym, ap, _∙_}
 use native.Mathlib.Omega.{arith}
 use Rattle.ranks.specs.Table.{daughtersIn}
 use Rattle.steps.proofs.Applying.{rule-small, advances, other-says, long-says}

@@ -3,9 +3,10 @@
 use mathlib.Core.Path.{ap, _∙_}
 use Prim.Native.Nat.{ℕ}
 use lib.ListN.{getD}
-use Rattle.walk.specs.Resumes.{turnOr, found}
+use Rattle.walk.specs.Turns.{turnOr, found}
+use Rattle.steps.proofs.Applying.{rule-small}
 use Rattle.walk.proofs.OneStep.{next-to-try}
-use Rattle.walk.proofs.Seeking.{rule-small, found-small}
+use Rattle.walk.proofs.Seeking.{found-small}
 use Rattle.walk.proofs.Resuming.{small-turn, extends}
 use borrow.Author.Needs.{needs}
 use Rattle.walk.proofs.prefixes.extend.Statement.{statement}
@@ -15,7 +16,7 @@ next-rule-requires : tie.Need-next-rule-requires
 next-rule-requires c κs =
     let a = c .before .args in
     let p = c .before .pre in
-    rule-small (p .grammar) (a .t .now) (a .chain .now) (a .sentence .now) (a .w .now) (a .at) (p .walking .trailed .ready) (p .walking .trailed .chained) (a .r .0) (p .fronted)
+    rule-small (p .grammar) (a .t .now) (a .sentence .now) (a .w .now) (a .at) (p .walking .trailed .ready) (a .r .0) (p .fronted)
 
 find-requires : tie.Need-find-requires
 find-requires c κs =
