@@ -20,6 +20,7 @@ RuleList n [] = Unit {0}
 RuleList zero (r ∷ p) = ⊥
 RuleList (suc n) (r ∷ p) = (r < 256) × RuleList n p
 
+-- a list that leads along has rule numbers of the grammar, and no more of them than steps
 pub leads-rules : {S A : Type 0} (m : Recognizer S A) (rules : ℕ) → rules ≤ 256 → (n : ℕ) (s : S) (p : List ℕ) (left : ℕ) (t : S) → LeadsAlong m rules n s p left t → RuleList n p
 leads-rules m rules few n s [] left t h = tt
 leads-rules m rules few zero s (r ∷ p) left t h = absurd h

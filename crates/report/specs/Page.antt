@@ -51,6 +51,7 @@ abbrev pub PageSays : Grammar → List ℕ → List ℕ → List ℕ → List �
 PageSays g t chain sentence list before pen w path turns after (More next) = FilledTo g t chain sentence list before pen w path turns after next × (length after ≤ next .place + 576)
 PageSays g t chain sentence list before pen w path turns after (Last p) = (l : List ℕ) × Put before after (pen .place) l p × (linesAfter g sentence (stepsOf (pen .at)) list ≡ l)
 
+-- and this for every grammar whose walk stands there
 pub record FilledPage (t chain sentence w path turns before : List ℕ) (pen : Pen) (w′ path′ turns′ after : List ℕ) (answer : Page) : Type 0 where
   pub of-grammar : (g : Grammar) → Walking g t chain sentence w path turns (pen .at) → PageSays g t chain sentence (take (pen .at .steps) path) before pen w′ path′ turns′ after answer
 

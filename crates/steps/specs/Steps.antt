@@ -80,8 +80,8 @@ behind t at r =
       left = at .left + 1;
     }
 
--- whether the step of rule r, which is of the front's category, leads on: of a lexical rule the word tells; the queue that another rule leads to is no
--- longer than the steps then left
+-- whether the step of rule r, which is of the front's category, leads on: a lexical one by its word; another where the queue that it leads to is no longer
+-- than the steps then left
 abbrev pub opens : List ℕ → List ℕ → Standing → ℕ → Bool
 opens t sentence at r =
     if eqb (daughtersIn t (8 * r)) 0 then hears (wordIn t (8 * r)) sentence (at .read)

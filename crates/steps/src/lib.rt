@@ -88,8 +88,8 @@ fn hears(word: Word, sentence: &[u32], read: usize) -> bool
     false
 }
 
-// Whether the step of rule r, which is of the front's category, leads on: of a lexical rule the word tells; the queue that another rule leads to is no
-// longer than the steps then left.
+// Whether the step of rule r, which is of the front's category, leads on: a lexical one by its word; another where the queue that it leads to is no longer
+// than the steps then left.
 pub fn opens(t: &[u64; TABLE], sentence: &[u32], at: Standing, r: RuleNumber) -> bool
     requires { ⌜ (r .0 < 256) × Advances at ⌝ }
     ensures { λ b. ⌜ b ≡ opens (now (t .entry)) (now (sentence .entry)) at (r .0) ⌝ }

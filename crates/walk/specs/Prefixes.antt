@@ -48,6 +48,7 @@ pub record StepFrom (g : Grammar) (t chain sentence w path turns : List ℕ) (at
   pub same-steps : stepsOf from ≡ stepsOf at
   pub comes : coming ≡ remaining g sentence w path from r
 
+-- what an answer says: the step to make, or that nothing is to come
 abbrev pub ChoiceSays : Grammar → List ℕ → List ℕ → List ℕ → List ℕ → List ℕ → List ℕ → Standing → List (List ℕ) → Choice → Type 0
 ChoiceSays g t chain sentence w path turns at coming (Step from r) = StepFrom g t chain sentence w path turns at coming from (r .0)
 ChoiceSays g t chain sentence w path turns at coming Nothing = coming ≡ []
@@ -96,6 +97,7 @@ pub record SameLengths (w path turns w′ path′ turns′ : List ℕ) : Type 0 
   pub path-kept : length path′ ≡ length path
   pub turns-kept : length turns′ ≡ length turns
 
+-- the step is made, for every such grammar
 pub record Extended (t chain sentence w path turns w′ path′ turns′ : List ℕ) (at : Standing) (r : ℕ) (next : Standing) : Type 0 where
   pub of-grammar : (g : Grammar) → Walking g t chain sentence w path turns at → Fronted g w at r → opens t sentence at r ≡ true
       → SameLengths w path turns w′ path′ turns′ × ComesTo g t chain sentence w′ path′ turns′ at next (remaining g sentence w path at r)
@@ -111,6 +113,7 @@ pub record NextLive (g : Grammar) (t chain sentence w′ path′ turns′ : List
   pub same-steps : stepsOf next ≡ stepsOf at
   pub comes : liveAfter g sentence (stepsOf at) list ≡ take (next .steps) path′ ∷ liveAfter g sentence (stepsOf at) (take (next .steps) path′)
 
+-- what an answer says: the next live prefix, or that there is none
 abbrev pub NextSays : Grammar → List ℕ → List ℕ → List ℕ → List ℕ → List ℕ → List ℕ → List ℕ → Standing → Walked → Type 0
 NextSays g t chain sentence w′ path′ turns′ list at (Came next) = NextLive g t chain sentence w′ path′ turns′ list at next
 NextSays g t chain sentence w′ path′ turns′ list at Ended = liveAfter g sentence (stepsOf at) list ≡ []
