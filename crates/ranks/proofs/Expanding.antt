@@ -7,7 +7,7 @@ use mathlib.Core.List.{List, [], _∷_, _++_, map}
 use Prim.Native.Nat.{ℕ, zero, suc, _+_, _-_, _*_, _/_, _%_, _<_, _≤_}
 use native.Mathlib.Omega.{arith}
 use native.Mathlib.Decide.{ℕ-discrete}
-use borrow.Author.Tests.{eq-eqb, lt-ltb, eqb-true}
+use borrow.Author.Tests.{eq-eqb, lt-ltb}
 use lib.ListN.{length, getD, take, length-map}
 use lib.Seq.{slice}
 use Rattle.model.specs.Base.{if_then_else_, numbersFrom}
@@ -26,8 +26,8 @@ use Rattle.ranks.specs.Daughters.{daughter}
 use Rattle.ranks.specs.declared.prediction.Moves.{Moves}
 use Rattle.ranks.specs.Moves.{movesRanks, movesLengths, gathered, lengthsOf, Bounded, begun, Begins}
 use Rattle.ranks.specs.Held.{inLanes, numberOf, predictionOf, queueIn, Fits}
-use Rattle.ranks.specs.Table.{ones, daughtersIn, dimensionIn, marked, readyMade, daughterOf, daughtersOf, RuleLengths, RuleCells, WideCells, NarrowCells}
-use Rattle.ranks.specs.Step.{daughterAt, Makes, twoMoves, twoBegins, TwoRanks, isTwo, expanded, WideStep, WideFor, expandedFor, Expands, expandedQueue}
+use Rattle.ranks.specs.Table.{ones, daughtersIn, dimensionIn, inPairs, marked, readyMade, daughterOf, daughtersOf, RuleLengths, RuleCells, WideCells, NarrowCells}
+use Rattle.ranks.specs.Step.{daughterAt, Makes, twoMoves, twoBegins, TwoRanks, expanded, WideStep, Widens, Doubles, doubled, Expands, expandedQueue}
 use Rattle.ranks.proofs.Fitting.{all-fit}
 use Rattle.ranks.proofs.Numbers.{sized, unpacked-number, put-perm}
 use Rattle.ranks.proofs.Moved.{above-zero}
@@ -35,6 +35,7 @@ use Rattle.ranks.proofs.Sorting.{insert-after}
 use Rattle.ranks.proofs.Pairs.{Pairwise, Unequal}
 use Rattle.ranks.proofs.Fronts.{front-least, front-takes, front-unequal}
 use Rattle.ranks.proofs.Two.{two-four, other-some, two-goes, two-begins, two-apart, two-bounded}
+use Rattle.ranks.proofs.InPairs.{in-pairs-two}
 use Rattle.ranks.proofs.Scanning as alone
 use Rattle.ranks.proofs.Holding.{queue-length, queue-first, front-number, others-numbers, each-held}
 use Rattle.ranks.proofs.Predicting.{each-lane, goesTo, daughters-are, others-short, others-behind, gathered-goes, gathered-fits, others-apart, begun-components, front-begins, daughters-fit, predicted-numbers}
@@ -230,6 +231,7 @@ module _ (g : Grammar) (t w : List ℕ) (r mark from to : ℕ) (h : Expands g t 
                 (numbered-fit g (daughterOf g rule (map (goesTo rule x) (x .ranks)) mark) (length (rule .daughters)) 0
                 (daughters-fit g rule right (h .nonlexical) x R (h .words) reached fit (h .of-front) (getD w from 0) (getD t (8 * r + 1) 0) front-is lens mark next-fits next-rising) j (omega arith) (omega arith)));
             alone = wide .alone j l;
+            paired = wide .paired j l;
           }
 
       pub step-of : WideStep t (8 * r) (length (rule .daughters)) mark bs m w from to
@@ -349,20 +351,15 @@ module _ (g : Grammar) (t w : List ℕ) (r mark from to : ℕ) (h : Expands g t 
       pub two-is : expanded t (8 * r) (length (rule .daughters)) mark (twoBegins (getD w from 0) (getD t (8 * r + 1) 0)) (twoMoves (getD w from 0) (getD t (8 * r + 1) 0)) w from to ≡ map numberOf next
       two-is = next-is (twoBegins front (getD t (8 * r + 1) 0)) (twoMoves front (getD t (8 * r + 1) 0)) (two-four front (getD t (8 * r + 1) 0)) begin-two goes-by-two bounded-two apart-two
 
-    -- by the one or the other
-    pub step-for : WideFor (isTwo t (8 * r)) t (8 * r) (length (rule .daughters)) mark w from to
-    step-for = go (isTwo t (8 * r)) refl
-      where
-        go : (two : Bool) → isTwo t (8 * r) ≡ two → WideFor two t (8 * r) (length (rule .daughters)) mark w from to
-        go true e = let k = eqb-true (dimensionIn t (8 * r)) 2 e in (two-step k, two-ranks k)
-        go false e = (wide-step, wide-begins)
+    -- by the one, for any rule, and by the other, for a rule in pairs
+    pub widens : Widens t (8 * r) (length (rule .daughters)) mark w from to
+    widens = (wide-step, wide-begins)
 
-    pub next-for : expandedFor (isTwo t (8 * r)) t (8 * r) (length (rule .daughters)) mark w from to ≡ map numberOf next
-    next-for = go (isTwo t (8 * r)) refl
-      where
-        go : (two : Bool) → isTwo t (8 * r) ≡ two → expandedFor two t (8 * r) (length (rule .daughters)) mark w from to ≡ map numberOf next
-        go true e = two-is (eqb-true (dimensionIn t (8 * r)) 2 e)
-        go false e = wide-is
+    pub doubles : inPairs t (8 * r) ≡ true → Doubles t (8 * r) (length (rule .daughters)) mark w from to
+    doubles e = let k = in-pairs-two t (8 * r) e in (two-step k, two-ranks k, e)
+
+    pub doubled-is : inPairs t (8 * r) ≡ true → doubled t (8 * r) (length (rule .daughters)) mark w from to ≡ map numberOf next
+    doubled-is e = two-is (in-pairs-two t (8 * r) e)
 
   -- a rule of dimension 1: its front has rank 0 alone, and every other rank moves by the same
   module _ (is-one : dimensionIn t (8 * r) ≡ 1) where

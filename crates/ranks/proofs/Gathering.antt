@@ -15,6 +15,10 @@ use Rattle.ranks.specs.Queue.{Every}
 use Rattle.ranks.specs.Moves.{movesRanks, movesLengths, withOther, withIf, withOne, gathered}
 use Rattle.ranks.proofs.Moved.{each-also}
 
+-- one behind the first
+pub first-one : (n0 f1 n1 : ℕ) → n1 ≡ 1 → (r : ℕ) → shifted (0 ∷ []) (n0 ∷ []) r ≡ shifted (0 ∷ (f1 ∷ [])) (n0 ∷ (n1 ∷ [])) r
+first-one n0 f1 n1 h1 r = let e : above f1 n1 r ≡ above f1 1 r = ap (λ (n : ℕ). above f1 n r) h1 in omega (arith, e)
+
 -- two and three behind the others
 module _ (n0 f1 n1 f2 n2 f3 n3 : ℕ) (h2 : n2 ≡ 1) (h3 : n3 ≡ 1) where
   abbrev four : List ℕ
@@ -31,9 +35,6 @@ module _ (n0 f1 n1 f2 n2 f3 n3 : ℕ) (h2 : n2 ≡ 1) (h3 : n3 ≡ 1) where
 
   pub first-two : (r : ℕ) → shifted (0 ∷ (f1 ∷ [])) (n0 ∷ (n1 ∷ [])) r ≡ shifted four lengths r
   first-two r = omega (arith, of-two r, of-three r)
-
-  pub first-one : n1 ≡ 1 → (r : ℕ) → shifted (0 ∷ []) (n0 ∷ []) r ≡ shifted four lengths r
-  first-one h1 r = let e : above f1 n1 r ≡ above f1 1 r = ap (λ (n : ℕ). above f1 n r) h1 in omega (arith, e, of-two r, of-three r)
 
   pub two-apart : (w : List ℕ) (from to : ℕ) → Every (Apart four lengths) w from to → Every (Apart (0 ∷ (f1 ∷ [])) (n0 ∷ (n1 ∷ []))) w from to
   two-apart w from to h i a b = each-also one (unpacked (getD w i 0)) (h i a b)

@@ -17,4 +17,7 @@ pub mod Holding
 pub mod Predicting
 pub mod Scanning
 pub mod Two
+pub mod Doubled
+pub mod InPairs
+pub mod PairStep
 pub mod Expanding

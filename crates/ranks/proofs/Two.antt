@@ -13,8 +13,8 @@ use Rattle.ranking.specs.Ranks.{above, passed, added, shifted, leastRank}
 use Rattle.ranks.specs.declared.prediction.Moves.{Moves}
 use Rattle.ranks.specs.Prediction.{packed, unpacked, lanes}
 use Rattle.ranks.specs.Moves.{movesRanks, movesLengths, Bounded}
-use Rattle.ranks.specs.Daughters.{daughter, Alone}
-use Rattle.ranks.specs.Step.{twoMoves, twoBegins, beginsFor}
+use Rattle.ranks.specs.Daughters.{daughter, Alone, twoBases}
+use Rattle.ranks.specs.Step.{twoMoves, twoBegins}
 use Rattle.ranks.proofs.Packing.{packed-unpacked}
 use Rattle.ranks.proofs.Moved.{above-zero}
 
@@ -24,14 +24,14 @@ pub alone-made : (bs : List ℕ) (cell places mark : ℕ) → Alone cell places
 alone-made bs cell places mark h =
     let b = getD bs (places / 8 % 4) 0 in
     let r = unpacked cell .rank0 in
-    sum cell b r (unpacked cell .number) (unpacked cell .category) mark (unpacked cell .rank1) (unpacked cell .rank2) (unpacked cell .rank3) (unpacked cell .least) (sym (packed-unpacked cell)) (h .rank1) (h .rank2) (h .rank3) (h .least)
-    ∙ (let l : b + r ≡ min (min (b + r) (b + unpacked cell .rank1)) (min (b + unpacked cell .rank2) (b + unpacked cell .rank3)) = omega (arith, h .rank1, h .rank2, h .rank3) in
+    sum cell b r (unpacked cell .number) (unpacked cell .category) mark (unpacked cell .rank1) (unpacked cell .rank2) (unpacked cell .rank3) (unpacked cell .least) (sym (packed-unpacked cell)) (h .rank1) (h .paired .rank2) (h .paired .rank3) (h .paired .least)
+    ∙ (let l : b + r ≡ min (min (b + r) (b + unpacked cell .rank1)) (min (b + unpacked cell .rank2) (b + unpacked cell .rank3)) = omega (arith, h .rank1, h .paired .rank2, h .paired .rank3) in
     let p1 = sym (ap (λ (i : ℕ). getD bs i 0) (h .place1)) in
-    let p2 = sym (ap (λ (i : ℕ). getD bs i 0) (h .place2)) in
-    let p3 = sym (ap (λ (i : ℕ). getD bs i 0) (h .place3)) in
+    let p2 = sym (ap (λ (i : ℕ). getD bs i 0) (h .paired .place2)) in
+    let p3 = sym (ap (λ (i : ℕ). getD bs i 0) (h .paired .place3)) in
     let q1 = sym (h .rank1) in
-    let q2 = sym (h .rank2) in
-    let q3 = sym (h .rank3) in
+    let q2 = sym (h .paired .rank2) in
+    let q3 = sym (h .paired .rank3) in
     ap (λ (x : ℕ). lanes (b + r) (b + r) (b + r) (b + r) ((mark + unpacked cell .number) * 64 + unpacked cell .category) x) l
     ∙ (λ i. lanes (b + r) (p1 i + q1 i) (p2 i + q2 i) (p3 i + q3 i) ((mark + unpacked cell .number) * 64 + unpacked cell .category) (min (min (b + r) (p1 i + unpacked cell .rank1)) (min (p2 i + unpacked cell .rank2) (p3 i + unpacked cell .rank3)))))
   where
@@ -48,7 +48,7 @@ twoMovesOf a b n m =
     if eqb a 0 then record { len0 = n; f1 = b; len1 = m; f2 = 255; len2 = 1; f3 = 255; len3 = 1 } else record { len0 = m; f1 = a; len1 = n; f2 = 255; len2 = 1; f3 = 255; len3 = 1 }
 
 abbrev pub twoBeginsOf : ℕ → ℕ → ℕ → ℕ → List ℕ
-twoBeginsOf a b n m = if eqb a 0 then 0 ∷ ((b + n - 1) ∷ (0 ∷ (0 ∷ []))) else (a + m - 1) ∷ (0 ∷ (0 ∷ (0 ∷ [])))
+twoBeginsOf a b n m = if eqb a 0 then twoBases 0 (b + n - 1) else twoBases 1 (a + m - 1)
 
 module _ (a b n m : ℕ) (zero : leastRank (a ∷ b ∷ []) ≡ 0) (unequal : a ≡ b → ⊥) where
   second-zero : (a ≡ 0 → ⊥) → b ≡ 0
@@ -92,7 +92,7 @@ module _ (a b n m : ℕ) (zero : leastRank (a ∷ b ∷ []) ≡ 0) (unequal : a 
       turned : (r : ℕ) → shifted (0 ∷ a ∷ []) (m ∷ n ∷ []) r ≡ shifted (a ∷ 0 ∷ []) (n ∷ m ∷ []) r
       turned r = omega arith
 
-      go : (t : Bool) → eqb a 0 ≡ t → take 2 (if t then 0 ∷ ((b + n - 1) ∷ (0 ∷ (0 ∷ []))) else (a + m - 1) ∷ (0 ∷ (0 ∷ (0 ∷ [])))) ≡ map (shifted (a ∷ b ∷ []) (n ∷ m ∷ [])) (a ∷ b ∷ [])
+      go : (t : Bool) → eqb a 0 ≡ t → take 2 (if t then twoBases 0 (b + n - 1) else twoBases 1 (a + m - 1)) ≡ map (shifted (a ∷ b ∷ []) (n ∷ m ∷ [])) (a ∷ b ∷ [])
       go true e =
           let z = sym (eqb-true a 0 e) in
           let p = sym (at-zero b n m) in
@@ -136,7 +136,7 @@ module _ (front lens : ℕ) where
   pub two-four : length (twoBegins front lens) ≡ 4
   two-four = go (eqb (unpacked front .rank0) 0)
     where
-      go : (t : Bool) → length {A = ℕ} (if t then 0 ∷ ((unpacked front .rank1 + lens % 65536 - 1) ∷ (0 ∷ (0 ∷ []))) else (unpacked front .rank0 + lens / 65536 % 65536 - 1) ∷ (0 ∷ (0 ∷ (0 ∷ [])))) ≡ 4
+      go : (t : Bool) → length {A = ℕ} (if t then twoBases 0 (unpacked front .rank1 + lens % 65536 - 1) else twoBases 1 (unpacked front .rank0 + lens / 65536 % 65536 - 1)) ≡ 4
       go true = refl
       go false = refl
 
@@ -152,17 +152,12 @@ module _ (front lens : ℕ) where
       ap (λ (k : ℕ). record { len0 = lens / 65536 % 65536; f1 = k; len1 = lens % 65536; f2 = 255; len2 = 1; f3 = 255; len3 = 1 }) e
       ∙ sym (ap (λ (t : Bool). if t then record { len0 = lens % 65536; f1 = unpacked front .rank1; len1 = lens / 65536 % 65536; f2 = 255; len2 = 1; f3 = 255; len3 = 1 } else record { len0 = lens / 65536 % 65536; f1 = unpacked front .rank0; len1 = lens % 65536; f2 = 255; len2 = 1; f3 = 255; len3 = 1 }) (ne-eqb (unpacked front .rank0) 0 (λ z. n (e ∙ z))))
 
-  pub begins-first : (f : ℕ) → unpacked front .rank0 ≡ 0 → f ≡ unpacked front .rank1 → _≡_ {A = List ℕ} (0 ∷ ((f + lens % 65536 - 1) ∷ (0 ∷ (0 ∷ [])))) (twoBegins front lens)
+  pub begins-first : (f : ℕ) → unpacked front .rank0 ≡ 0 → f ≡ unpacked front .rank1 → twoBases 0 (f + lens % 65536 - 1) ≡ twoBegins front lens
   begins-first f z e =
-      ap (λ (k : ℕ). 0 ∷ ((k + lens % 65536 - 1) ∷ (0 ∷ (0 ∷ [])))) e
-      ∙ sym (ap (λ (t : Bool). if t then 0 ∷ ((unpacked front .rank1 + lens % 65536 - 1) ∷ (0 ∷ (0 ∷ []))) else (unpacked front .rank0 + lens / 65536 % 65536 - 1) ∷ (0 ∷ (0 ∷ (0 ∷ [])))) (eq-eqb (unpacked front .rank0) 0 z))
+      ap (λ (k : ℕ). twoBases 0 (k + lens % 65536 - 1)) e
+      ∙ sym (ap (λ (t : Bool). if t then twoBases 0 (unpacked front .rank1 + lens % 65536 - 1) else twoBases 1 (unpacked front .rank0 + lens / 65536 % 65536 - 1)) (eq-eqb (unpacked front .rank0) 0 z))
 
-  pub begins-second : (f : ℕ) → f ≡ unpacked front .rank0 → (f ≡ 0 → ⊥) → _≡_ {A = List ℕ} ((f + lens / 65536 % 65536 - 1) ∷ (0 ∷ (0 ∷ (0 ∷ [])))) (twoBegins front lens)
+  pub begins-second : (f : ℕ) → f ≡ unpacked front .rank0 → (f ≡ 0 → ⊥) → twoBases 1 (f + lens / 65536 % 65536 - 1) ≡ twoBegins front lens
   begins-second f e n =
-      ap (λ (k : ℕ). (k + lens / 65536 % 65536 - 1) ∷ (0 ∷ (0 ∷ (0 ∷ [])))) e
-      ∙ sym (ap (λ (t : Bool). if t then 0 ∷ ((unpacked front .rank1 + lens % 65536 - 1) ∷ (0 ∷ (0 ∷ []))) else (unpacked front .rank0 + lens / 65536 % 65536 - 1) ∷ (0 ∷ (0 ∷ (0 ∷ [])))) (ne-eqb (unpacked front .rank0) 0 (λ z. n (e ∙ z))))
-
--- four ranks, whatever the dimension
-pub begins-four : (two : Bool) (front lens : ℕ) → length (beginsFor two front lens) ≡ 4
-begins-four true front lens = two-four front lens
-begins-four false front lens = refl
+      ap (λ (k : ℕ). twoBases 1 (k + lens / 65536 % 65536 - 1)) e
+      ∙ sym (ap (λ (t : Bool). if t then twoBases 0 (unpacked front .rank1 + lens % 65536 - 1) else twoBases 1 (unpacked front .rank0 + lens / 65536 % 65536 - 1)) (ne-eqb (unpacked front .rank0) 0 (λ z. n (e ∙ z))))

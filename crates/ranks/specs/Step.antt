@@ -1,7 +1,7 @@
 -- A nonlexical step on the queue: the rule's cells in the table of rules.
 -- Assumes nothing.
 use mathlib.Core.Path.{_≡_}
-use mathlib.Core.Bool.{Bool, true, false}
+use mathlib.Core.Bool.{true, false}
 use mathlib.Core.Option.{some}
 use mathlib.Core.List.{List, [], _∷_, map}
 use Prim.Native.Nat.{ℕ, _+_, _-_, _*_, _/_, _%_, _<_, _≤_}
@@ -17,10 +17,10 @@ use Rattle.ranking.proofs.Limits.{Reached}
 use Rattle.ranking.proofs.Numbered.{Below}
 use Rattle.ranks.specs.Prediction.{Short, Behind, Apart, Sized, ranks, packed, unpacked, remade}
 use Rattle.ranks.specs.Queue.{room, Every, Steps, Next, insertAll}
-use Rattle.ranks.specs.Daughters.{daughter, Alone}
+use Rattle.ranks.specs.Daughters.{daughter, Paired, Alone, twoBases}
 use Rattle.ranks.specs.Moves.{movesRanks, movesLengths, gathered, lengthsOf, Bounded, begun, Begins}
 use Rattle.ranks.specs.Held.{numberOf, predictionOf, queueIn, Held}
-use Rattle.ranks.specs.Table.{cells, dimensionIn, Compiled}
+use Rattle.ranks.specs.Table.{cells, inPairs, Compiled}
 
 -- of a rule of dimension 2, without comparing: one of the front's two components has rank 0, and the other begins behind what takes its place
 abbrev pub twoMoves : ℕ → ℕ → Moves
@@ -32,8 +32,8 @@ twoMoves front lens =
 abbrev pub twoBegins : ℕ → ℕ → List ℕ
 twoBegins front lens =
     if eqb (unpacked front .rank0) 0
-    then 0 ∷ ((unpacked front .rank1 + lens % 65536 - 1) ∷ (0 ∷ (0 ∷ [])))
-    else (unpacked front .rank0 + lens / 65536 % 65536 - 1) ∷ (0 ∷ (0 ∷ (0 ∷ [])))
+    then twoBases 0 (unpacked front .rank1 + lens % 65536 - 1)
+    else twoBases 1 (unpacked front .rank0 + lens / 65536 % 65536 - 1)
 
 -- of a rule of dimension 2: the front's two components have other ranks, and lengths are few
 pub record TwoRanks (front lens : ℕ) : Type 0 where
@@ -41,24 +41,6 @@ pub record TwoRanks (front lens : ℕ) : Type 0 where
   pub other : unpacked front .rank0 ≡ 0 → 0 < unpacked front .rank1
   pub len0 : lens % 65536 < 256
   pub len1 : lens / 65536 % 65536 < 256
-
--- where the front's components begin, and what moves others: a rule of dimension 2 needs no comparison
-abbrev pub beginsFor : Bool → ℕ → ℕ → List ℕ
-beginsFor true front lens = twoBegins front lens
-beginsFor false front lens = ranks (begun front lens)
-
-abbrev pub movesFor : Bool → ℕ → ℕ → Moves
-movesFor true front lens = twoMoves front lens
-movesFor false front lens = gathered (ranks (unpacked front)) (lengthsOf lens)
-
--- and what this asks of the front and the lengths
-abbrev pub BeginsFor : Bool → ℕ → ℕ → Type 0
-BeginsFor true front lens = TwoRanks front lens
-BeginsFor false front lens = Begins front lens
-
--- whether the rule whose cells begin at `at` is of dimension 2
-abbrev pub isTwo : List ℕ → ℕ → Bool
-isTwo t at = eqb (dimensionIn t at) 2
 
 -- daughter j of the rule whose cells begin at `at`, where the front's components begin at the ranks bs
 abbrev pub daughterAt : List ℕ → ℕ → ℕ → List ℕ → ℕ → ℕ
@@ -68,6 +50,7 @@ daughterAt t at j bs mark = packed (daughter bs (getD t (at + 2 + 2 * j) 0) (get
 pub record Makes (t : List ℕ) (at j : ℕ) (bs : List ℕ) (mark : ℕ) : Type 0 where
   pub sized : Sized (daughter bs (getD t (at + 2 + 2 * j) 0) (getD t (at + 3 + 2 * j) 0) mark)
   pub alone : getD t (at + 3 + 2 * j) 0 % 8 ≡ 1 → Alone (getD t (at + 2 + 2 * j) 0) (getD t (at + 3 + 2 * j) 0)
+  pub paired : getD t (at + 3 + 2 * j) 0 % 8 < 3 → Paired (getD t (at + 2 + 2 * j) 0) (getD t (at + 3 + 2 * j) 0)
 
 -- the queue after a step on the queue from..to, where others move by m
 abbrev pub expanded : List ℕ → ℕ → ℕ → ℕ → List ℕ → Moves → List ℕ → ℕ → ℕ → List ℕ
@@ -87,15 +70,27 @@ pub record WideStep (t : List ℕ) (at n mark : ℕ) (bs : List ℕ) (m : Moves)
   pub bounded : Bounded m
   pub makes : (j : ℕ) → j < n → Makes t at j bs mark
 
--- the same of the front and the lengths of a rule's components, which are in cell 1
-abbrev pub WideFor : Bool → List ℕ → ℕ → ℕ → ℕ → List ℕ → ℕ → ℕ → Type 0
-WideFor two t at n mark w from to =
-    WideStep t at n mark (beginsFor two (getD w from 0) (getD t (at + 1) 0)) (movesFor two (getD w from 0) (getD t (at + 1) 0)) w from to
-    × BeginsFor two (getD w from 0) (getD t (at + 1) 0)
+-- The step by comparing, for any rule that has not dimension 1: what it needs of the numbers, and the queue after it. The lengths of the rule's components are in
+-- cell 1.
+abbrev pub Widens : List ℕ → ℕ → ℕ → ℕ → List ℕ → ℕ → ℕ → Type 0
+Widens t at n mark w from to =
+    WideStep t at n mark (ranks (begun (getD w from 0) (getD t (at + 1) 0))) (gathered (ranks (unpacked (getD w from 0))) (lengthsOf (getD t (at + 1) 0))) w from to
+    × Begins (getD w from 0) (getD t (at + 1) 0)
 
-abbrev pub expandedFor : Bool → List ℕ → ℕ → ℕ → ℕ → List ℕ → ℕ → ℕ → List ℕ
-expandedFor two t at n mark w from to =
-    expanded t at n mark (beginsFor two (getD w from 0) (getD t (at + 1) 0)) (movesFor two (getD w from 0) (getD t (at + 1) 0)) w from to
+abbrev pub widened : List ℕ → ℕ → ℕ → ℕ → List ℕ → ℕ → ℕ → List ℕ
+widened t at n mark w from to =
+    expanded t at n mark (ranks (begun (getD w from 0) (getD t (at + 1) 0))) (gathered (ranks (unpacked (getD w from 0))) (lengthsOf (getD t (at + 1) 0))) w from to
+
+-- the step without comparing, for a rule in pairs
+abbrev pub Doubles : List ℕ → ℕ → ℕ → ℕ → List ℕ → ℕ → ℕ → Type 0
+Doubles t at n mark w from to =
+    WideStep t at n mark (twoBegins (getD w from 0) (getD t (at + 1) 0)) (twoMoves (getD w from 0) (getD t (at + 1) 0)) w from to
+    × TwoRanks (getD w from 0) (getD t (at + 1) 0)
+    × (inPairs t at ≡ true)
+
+abbrev pub doubled : List ℕ → ℕ → ℕ → ℕ → List ℕ → ℕ → ℕ → List ℕ
+doubled t at n mark w from to =
+    expanded t at n mark (twoBegins (getD w from 0) (getD t (at + 1) 0)) (twoMoves (getD w from 0) (getD t (at + 1) 0)) w from to
 
 -- A nonlexical step by rule r can be made on the queue from..to: the table is the grammar's, the rule is one of the front's category, steps reach the queue, the
 -- next one has at most 64 predictions, and there is room for it behind. `mark` is the number of the first daughter, and others have numbers below it.

@@ -1,16 +1,18 @@
 // The daughters of a nonlexical step, as predictions of the next queue.
 ghost use mathlib.Core.Path.{_≡_};
 ghost use mathlib.Core.List.{[], _∷_};
-ghost use Prim.Native.Nat.{_+_, _%_, _<_, _≤_, min, max};
-ghost use lib.ListN.{length};
+ghost use Prim.Native.Nat.{_+_, _*_, _%_, _<_, _≤_, min, max};
+ghost use lib.ListN.{length, getD};
 ghost use Rattle.ranks.specs.Prediction.{Sized, packed};
-ghost use Rattle.ranks.specs.Daughters.{daughter, Alone, Rising};
+ghost use Rattle.ranks.specs.Daughters.{daughter, Alone, twoBases, MakesTwo, Rising};
 ghost use Rattle.ranks.specs.Step.{daughterAt, Makes};
 use crate::prediction::alone;
 use crate::prediction::category;
+use crate::prediction::lifted;
 use crate::prediction::number;
 use crate::prediction::pack;
 use crate::prediction::rank;
+use crate::prediction::with_least;
 use crate::table::DIMENSIONS;
 use crate::table::PLACE0;
 use crate::table::PLACE1;
@@ -97,6 +99,44 @@ pub fn made_at(t: &[u64; TABLE], at: usize, d: usize, j: usize, b: &[u64; 4], ma
 {
     if j < d {
         made(daughter_cell(t, at, j), places_cell(t, at, j), b, mark)
+    } else {
+        0
+    }
+}
+
+// The daughter of these two cells, which has at most two components, of a front that has two. `turned` is 0 where component 0 of the front has rank 0, and 1
+// where component 1 has; what takes the place of the other one begins at rank `base`.
+fn made_two(cell: u64, places: u64, turned: u64, base: u64, mark: u64) -> u64
+    requires { ⌜ MakesTwo cell places turned base mark ⌝ }
+    ensures { λ r. ⌜ r ≡ packed (daughter (twoBases turned base) cell places mark) ⌝ }
+{
+    let far0 = (places / PLACE0 + turned) % 2;
+    let far1 = (places / PLACE1 + turned) % 2;
+    let y = lifted(cell, far0, far1, base, mark);
+    with_least(y, smaller(rank(y, 0), rank(y, 1)))
+}
+
+// Daughter j of d so, from the cells of the rule that begin at `at`, or 0 where there are not so many.
+pub fn made_two_at(
+    t: &[u64; TABLE],
+    at: usize,
+    d: usize,
+    j: usize,
+    turned: u64,
+    base: u64,
+    mark: u64,
+) -> u64
+    requires { ⌜ (at + 8 ≤ 2048) × (j < 3) × (j < d → MakesTwo (getD (now t) (at + 2 + 2 * j) 0) (getD (now t) (at + 3 + 2 * j) 0) turned base mark) ⌝ }
+    ensures { λ r. ⌜ (j < d → r ≡ daughterAt (now (t .entry)) at j (twoBases turned base) mark) ⌝ }
+{
+    if j < d {
+        made_two(
+            daughter_cell(t, at, j),
+            places_cell(t, at, j),
+            turned,
+            base,
+            mark,
+        )
     } else {
         0
     }

@@ -5,7 +5,6 @@ ghost use Prim.Native.Nat.{_+_, _<_, _≤_};
 ghost use Rattle.ranking.specs.Ranks.{shifted};
 ghost use Rattle.ranks.specs.Prediction.{ranks, unpacked, Short, Behind, Apart, remade};
 ghost use Rattle.ranks.specs.Queue.{Roomy, Every, Mapped};
-ghost use Rattle.ranks.specs.Step.{twoMoves, twoBegins, TwoRanks, beginsFor, movesFor, BeginsFor};
 ghost use Rattle.ranks.specs.Moves.{movesRanks, movesLengths, withOne, gathered, lengthsOf, Bounded, begun, Begins};
 use crate::prediction::Moves;
 use crate::prediction::moved4;
@@ -15,7 +14,6 @@ use crate::queue::ROOM;
 use crate::queue::move1;
 use crate::queue::move3;
 use crate::queue::shift;
-use crate::table::LENGTH;
 use crate::table::lengths_of;
 
 // The highest rank: none lies above it.
@@ -51,7 +49,7 @@ fn with_one(m: Moves, f: u64, len: u64) -> Moves
 }
 
 // Of the front, where the rule's components have these lengths.
-fn moves_of(front: u64, lens: u64) -> Moves
+pub fn moves_of(front: u64, lens: u64) -> Moves
     ensures { λ m. ⌜ m ≡ gathered (ranks (unpacked front)) (lengthsOf lens) ⌝ }
 {
     let none = Moves {
@@ -71,6 +69,26 @@ fn moves_of(front: u64, lens: u64) -> Moves
     with_one(m1, f.c0, n.c0)
 }
 
+// The predictions from..to, which are behind the front, to `out` on, where its component of rank 0 gives way to len0 variables, and another, of rank f1, to len1.
+pub fn advance_two(
+    w: &mut [u64; ROOM],
+    from: usize,
+    to: usize,
+    out: usize,
+    len0: u64,
+    f1: u64,
+    len1: u64,
+)
+    requires { ⌜ Roomy (now w) from to out × Every Short (now w) from to × Every Behind (now w) from to × Every (Apart (0 ∷ (f1 ∷ [])) (len0 ∷ (len1 ∷ []))) (now w) from to × (len0 < 256) × (f1 < 256) × (len1 < 256) ⌝ }
+    ensures { λ r. ⌜ Mapped (remade (shifted (0 ∷ (f1 ∷ [])) (len0 ∷ (len1 ∷ [])))) (now (w .entry)) (now (w .exit)) from to out ⌝ }
+{
+    if len1 == 1 {
+        shift(w, from, to, out, len0);
+        return;
+    }
+    move1(w, from, to, out, len0, f1, len1);
+}
+
 // The predictions from..to, which are behind the front, to `out` on.
 pub fn advance(w: &mut [u64; ROOM], from: usize, to: usize, out: usize, m: Moves)
     requires { ⌜ Roomy (now w) from to out × Every Short (now w) from to × Every Behind (now w) from to × Every (Apart (movesRanks m) (movesLengths m)) (now w) from to × Bounded m ⌝ }
@@ -78,11 +96,7 @@ pub fn advance(w: &mut [u64; ROOM], from: usize, to: usize, out: usize, m: Moves
 {
     if m.len3 == 1 {
         if m.len2 == 1 {
-            if m.len1 == 1 {
-                shift(w, from, to, out, m.len0);
-                return;
-            }
-            move1(w, from, to, out, m.len0, m.f1, m.len1);
+            advance_two(w, from, to, out, m.len0, m.f1, m.len1);
             return;
         }
     }
@@ -90,72 +104,10 @@ pub fn advance(w: &mut [u64; ROOM], from: usize, to: usize, out: usize, m: Moves
 }
 
 // The ranks at which the components of the front begin after a step by a rule of these lengths.
-fn bases(front: u64, lens: u64) -> [u64; 4]
+pub fn bases(front: u64, lens: u64) -> [u64; 4]
     requires { ⌜ Begins front lens ⌝ }
     ensures { λ b. ⌜ b ≡ ranks (begun front lens) ⌝ }
 {
     let y = moved4(front, ranks_of(front), lengths_of(lens));
     [rank(y, 0), rank(y, 1), rank(y, 2), rank(y, 3)]
-}
-
-// What moves for a rule of dimension 2, without comparing: one of the front's two components has rank 0.
-fn moves_of_two(front: u64, lens: u64) -> Moves
-    ensures { λ m. ⌜ m ≡ twoMoves front lens ⌝ }
-{
-    let f0 = rank(front, 0);
-    let f1 = rank(front, 1);
-    if f0 == 0 {
-        return Moves {
-            len0: lens % LENGTH,
-            f1,
-            len1: lens / LENGTH % LENGTH,
-            f2: HIGHEST,
-            len2: 1,
-            f3: HIGHEST,
-            len3: 1,
-        };
-    }
-    Moves {
-        len0: lens / LENGTH % LENGTH,
-        f1: f0,
-        len1: lens % LENGTH,
-        f2: HIGHEST,
-        len2: 1,
-        f3: HIGHEST,
-        len3: 1,
-    }
-}
-
-// And where its components begin after the step.
-fn bases_of_two(front: u64, lens: u64) -> [u64; 4]
-    requires { ⌜ TwoRanks front lens ⌝ }
-    ensures { λ b. ⌜ b ≡ twoBegins front lens ⌝ }
-{
-    let f0 = rank(front, 0);
-    let f1 = rank(front, 1);
-    if f0 == 0 {
-        return [0, f1 + lens % LENGTH - 1, 0, 0];
-    }
-    [f0 + lens / LENGTH % LENGTH - 1, 0, 0, 0]
-}
-
-// Where the front's components begin after the step, for a rule of dimension 2 or of another.
-pub fn bases_for(front: u64, lens: u64, two: bool) -> [u64; 4]
-    requires { ⌜ BeginsFor two front lens ⌝ }
-    ensures { λ b. ⌜ b ≡ beginsFor two front lens ⌝ }
-{
-    if two {
-        return bases_of_two(front, lens);
-    }
-    bases(front, lens)
-}
-
-// And what moves.
-pub fn moves_for(front: u64, lens: u64, two: bool) -> Moves
-    ensures { λ m. ⌜ m ≡ movesFor two front lens ⌝ }
-{
-    if two {
-        return moves_of_two(front, lens);
-    }
-    moves_of(front, lens)
 }

@@ -42,6 +42,8 @@ const RANK3: u64 = 134217728;
 const RANK2: u64 = 262144;
 
 const RANK1: u64 = 512;
+// 1 in the places of the ranks of a prediction with at most two components, but for the rank of component 1.
+const FIRST: u64 = 134479873;
 // 1 in the place of each rank, the least one's too.
 const ONES: u64 = 2251799948165633;
 // A rank's place has WIDTH bits, and LANE is above every number in it. The free bit is HIGH.
@@ -81,6 +83,23 @@ pub fn alone(x: u64, b: u64, mark: u64) -> u64
     ensures { λ y. ⌜ y ≡ x + b * 2251799948165633 + unpacked x .rank0 * 2251799813685248 + mark * 4398046511104 ⌝ }
 {
     x + b * ONES + x % LANE * LEAST + mark * NUMBER
+}
+
+// The prediction x, which has at most two components and no least rank, with `mark` added to its number, and with `base` added to the rank of component 0 where
+// far0 is 1, and to that of component 1 where far1 is 1.
+pub fn lifted(x: u64, far0: u64, far1: u64, base: u64, mark: u64) -> u64
+    requires { ⌜ (unpacked x .least ≡ 0) × (far0 < 2) × (far1 < 2) × (base < 512) × (mark < 512) ⌝ }
+    ensures { λ y. ⌜ y ≡ x + base * (far0 * 134479873 + far1 * 512) + mark * 4398046511104 ⌝ }
+{
+    x + base * (far0 * FIRST + far1 * RANK1) + mark * NUMBER
+}
+
+// The prediction x, which has no least rank, with this one.
+pub fn with_least(x: u64, least: u64) -> u64
+    requires { ⌜ (x < 4503599627370496) × (least < 512) ⌝ }
+    ensures { λ y. ⌜ y ≡ x + least * 2251799813685248 ⌝ }
+{
+    x + least * LEAST
 }
 
 // Its number.

@@ -7,26 +7,30 @@ ghost use lib.Seq.{slice};
 ghost use Rattle.ranking.specs.Ranks.{shifted};
 ghost use Rattle.ranks.specs.Prediction.{Short, Behind, Apart, remade};
 ghost use Rattle.ranks.specs.Moves.{movesRanks, movesLengths, Bounded};
-ghost use Rattle.ranks.specs.Step.{isTwo, expandedFor, WideFor, Expandable, Expanded};
+ghost use Rattle.ranks.specs.Step.{Widens, widened, Doubles, doubled, Expandable, Expanded};
 ghost use Rattle.ranks.specs.Queue.{Every, Gap, Placed, Steps, Next, insertAll};
 use crate::daughters::larger;
 use crate::daughters::made_at;
+use crate::daughters::made_two_at;
 use crate::daughters::rising;
 use crate::daughters::smaller;
 use crate::moves::advance;
-use crate::moves::bases_for;
-use crate::moves::moves_for;
+use crate::moves::advance_two;
+use crate::moves::bases;
+use crate::moves::moves_of;
 use crate::prediction::Moves;
+use crate::prediction::rank;
 use crate::queue::ROOM;
 use crate::queue::settle1;
 use crate::queue::settle2;
 use crate::queue::settle3;
 use crate::queue::shift;
+use crate::table::LENGTH;
 use crate::table::TABLE;
 use crate::table::daughters;
 use crate::table::dimension;
 use crate::table::first_length;
-use crate::table::is_two;
+use crate::table::in_pairs;
 use crate::table::lengths;
 use crate::table::place_of;
 use crate::table::ready_made;
@@ -100,17 +104,54 @@ fn expand_wide(
     d: usize,
     mark: u64,
 )
-    requires { ⌜ WideFor (isTwo (now t) at) (now t) at d mark (now w) from to ⌝ }
-    ensures { λ r. ⌜ Next (expandedFor (isTwo (now (t .entry)) at) (now (t .entry)) at d mark (now (w .entry)) from to) (now (w .entry)) (now (w .exit)) to (to + d + (to - (from + 1))) ⌝ }
+    requires { ⌜ Widens (now t) at d mark (now w) from to ⌝ }
+    ensures { λ r. ⌜ Next (widened (now (t .entry)) at d mark (now (w .entry)) from to) (now (w .entry)) (now (w .exit)) to (to + d + (to - (from + 1))) ⌝ }
 {
     let front = w[from];
     let lens = lengths(t, at);
-    let two = is_two(t, at);
-    let b = bases_for(front, lens, two);
+    let b = bases(front, lens);
     let e0 = made_at(t, at, d, 0, &b, mark);
     let e1 = made_at(t, at, d, 1, &b, mark);
     let e2 = made_at(t, at, d, 2, &b, mark);
-    replace(w, from, to, d, moves_for(front, lens, two), e0, e1, e2);
+    replace(w, from, to, d, moves_of(front, lens), e0, e1, e2);
+}
+
+// The same for a rule of dimension 2 whose daughters have at most two components. One of the front's components has rank 0, so that nothing is compared to know
+// where ranks go. The two orders of its components are apart in the code: what is made of the daughters does not wait for the front's ranks.
+fn expand_two(
+    t: &[u64; TABLE],
+    w: &mut [u64; ROOM],
+    from: usize,
+    to: usize,
+    at: usize,
+    d: usize,
+    mark: u64,
+)
+    requires { ⌜ Doubles (now t) at d mark (now w) from to ⌝ }
+    ensures { λ r. ⌜ Next (doubled (now (t .entry)) at d mark (now (w .entry)) from to) (now (w .entry)) (now (w .exit)) to (to + d + (to - (from + 1))) ⌝ }
+{
+    let front = w[from];
+    let lens = lengths(t, at);
+    let f0 = rank(front, 0);
+    let f1 = rank(front, 1);
+    let len0 = lens % LENGTH;
+    let len1 = lens / LENGTH % LENGTH;
+    let end = to + d + (to - (from + 1));
+    if f0 == 0 {
+        let base = f1 + len0 - 1;
+        let e0 = made_two_at(t, at, d, 0, 0, base, mark);
+        let e1 = made_two_at(t, at, d, 1, 0, base, mark);
+        let e2 = made_two_at(t, at, d, 2, 0, base, mark);
+        advance_two(w, from + 1, to, to + d, len0, f1, len1);
+        settle_some(w, to, end, d, e0, e1, e2);
+        return;
+    }
+    let base = f0 + len1 - 1;
+    let e0 = made_two_at(t, at, d, 0, 1, base, mark);
+    let e1 = made_two_at(t, at, d, 1, 1, base, mark);
+    let e2 = made_two_at(t, at, d, 2, 1, base, mark);
+    advance_two(w, from + 1, to, to + d, len1, f0, len0);
+    settle_some(w, to, end, d, e0, e1, e2);
 }
 
 // A step by nonlexical rule r, which is of the category of the front of the queue from..to. The next queue is written from `to` on. The daughters have the
@@ -136,5 +177,9 @@ pub fn expand(
         expand_narrow(w, from, to, d, len, e0, e1, e2);
         return;
     }
-    expand_wide(t, w, from, to, at, d, mark);
+    if !in_pairs(t, at) {
+        expand_wide(t, w, from, to, at, d, mark);
+        return;
+    }
+    expand_two(t, w, from, to, at, d, mark);
 }

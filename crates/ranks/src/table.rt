@@ -5,8 +5,7 @@ ghost use Prim.Native.Nat.{_+_, _*_, _%_, _<_, _≤_};
 ghost use lib.ListN.{getD};
 ghost use Rattle.ranks.specs.Prediction.{listed};
 ghost use Rattle.ranks.specs.Moves.{lengthsOf};
-ghost use Rattle.ranks.specs.Step.{isTwo};
-ghost use Rattle.ranks.specs.Table.{daughtersIn, dimensionIn, categoryIn, wordIn, marked};
+ghost use Rattle.ranks.specs.Table.{daughtersIn, dimensionIn, categoryIn, wordIn, isPair, inPairs, marked};
 use crate::prediction::Four;
 use crate::prediction::marked;
 use model::Category;
@@ -72,14 +71,6 @@ pub fn dimension(t: &[u64; TABLE], at: usize) -> u64
     ensures { λ d. ⌜ d ≡ dimensionIn (now (t .entry)) at ⌝ }
 {
     t[at] / DIMENSION % DIMENSIONS
-}
-
-// Whether that is 2.
-pub fn is_two(t: &[u64; TABLE], at: usize) -> bool
-    requires { ⌜ at + 8 ≤ 2048 ⌝ }
-    ensures { λ b. ⌜ b ≡ isTwo (now (t .entry)) at ⌝ }
-{
-    dimension(t, at) == 2
 }
 
 // Its category.
@@ -148,4 +139,27 @@ pub fn ready_made(t: &[u64; TABLE], at: usize, j: usize, mark: u64) -> u64
     ensures { λ y. ⌜ y ≡ marked mark (getD (now (t .entry)) (at + 2 + 2 * j) 0) ⌝ }
 {
     marked(daughter_cell(t, at, j), mark)
+}
+
+// Whether there are at most two components in daughter j.
+fn is_pair(t: &[u64; TABLE], at: usize, j: usize) -> bool
+    requires { ⌜ (at + 8 ≤ 2048) × (j < 3) ⌝ }
+    ensures { λ b. ⌜ b ≡ isPair (now (t .entry)) at j ⌝ }
+{
+    places_cell(t, at, j) % DIMENSIONS < 3
+}
+
+// Whether the category has two components, and each daughter at most two.
+pub fn in_pairs(t: &[u64; TABLE], at: usize) -> bool
+    requires { ⌜ at + 8 ≤ 2048 ⌝ }
+    ensures { λ b. ⌜ b ≡ inPairs (now (t .entry)) at ⌝ }
+{
+    if dimension(t, at) == 2 {
+        if is_pair(t, at, 0) {
+            if is_pair(t, at, 1) {
+                return is_pair(t, at, 2);
+            }
+        }
+    }
+    false
 }

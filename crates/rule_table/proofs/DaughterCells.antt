@@ -1,8 +1,8 @@
 -- What the two cells of a daughter hold, and that they make the daughter.
 -- Assumes nothing.
-use mathlib.Core.Path.{_≡_, sym, ap, ap₂, _∙_}
+use mathlib.Core.Path.{_≡_, refl, sym, ap, ap₂, _∙_}
 use mathlib.Core.Option.{none}
-use mathlib.Core.Bool.{Bool}
+use mathlib.Core.Bool.{Bool, true, false}
 use mathlib.Core.List.{List, map}
 use Prim.Native.Nat.{ℕ, zero, suc, _+_, _/_, _%_, _<_, _≤_, min}
 use native.Mathlib.Omega.{arith}
@@ -20,7 +20,7 @@ use Rattle.grammar.proofs.OfGrammar.{daughter-is}
 use Rattle.ranking.specs.Ranks.{variableRanks, rankOf}
 use Rattle.ranks.specs.Prediction.{packed, unpacked}
 use Rattle.ranks.specs.Held.{laneOf, inLanes}
-use Rattle.ranks.specs.Daughters.{daughter, Alone}
+use Rattle.ranks.specs.Daughters.{daughter, Paired, Alone}
 use Rattle.ranks.specs.Table.{daughterOf}
 use Rattle.ranks.proofs.Fitting.{least-lanes}
 use Rattle.ranks.proofs.Packing.{packed-least, packed-number, packed-category, packed-rank0, packed-rank1, packed-rank2, packed-rank3}
@@ -74,27 +74,38 @@ module _ (d e : List ℕ) (j : ℕ) (few : width d e j < 8) where
   place3 : placesCell d e j / 4096 % 4 ≡ stand 3 .component
   place3 = omega (arith, small 0, small 1, small 2, small 3)
 
--- a daughter of one component repeats it
-one-component : (e : List ℕ) (n j c : ℕ) → n ≡ 1 → 0 < c → standIn e n j c ≡ standIn e n j 0
-one-component e n j c h k =
-    ap (λ (b : Bool). if b then standOf e j c else standOf e j 0) (le-ltb c n (omega arith)) ∙ sym (ap (λ (b : Bool). if b then standOf e j 0 else standOf e j 0) (lt-ltb 0 n (omega arith)))
+-- a component that a daughter does not have repeats component 0
+not-there : (e : List ℕ) (n j c : ℕ) → n ≤ c → standIn e n j c ≡ standIn e n j 0
+not-there e n j c h = ap (λ (b : Bool). if b then standOf e j c else standOf e j 0) (le-ltb c n h) ∙ sym (zeroth (ltb 0 n))
+  where
+    zeroth : (b : Bool) → (if b then standOf e j 0 else standOf e j 0) ≡ standOf e j 0
+    zeroth true = refl
+    zeroth false = refl
+
+pub paired-is : (d e : List ℕ) (j : ℕ) → j < 3 → width d e j < 8 → placesCell d e j % 8 < 3 → Paired (packed (positions d e j)) (placesCell d e j)
+paired-is d e j h few two =
+    let w = wide-is d e j few in
+    let p = positions d e j in
+    let z = positions-sized d e j h in
+    let o2 = not-there e (width d e j) j 2 (omega (arith, w)) in
+    let o3 = not-there e (width d e j) j 3 (omega (arith, w)) in
+    record {
+      least = packed-least p z;
+      rank2 = packed-rank2 p z ∙ ap (λ (t : Stand). t .position) o2 ∙ sym (packed-rank0 p z);
+      rank3 = packed-rank3 p z ∙ ap (λ (t : Stand). t .position) o3 ∙ sym (packed-rank0 p z);
+      place2 = place2 d e j few ∙ ap (λ (t : Stand). t .component) o2 ∙ sym (place0 d e j few);
+      place3 = place3 d e j few ∙ ap (λ (t : Stand). t .component) o3 ∙ sym (place0 d e j few);
+    }
 
 pub alone-is : (d e : List ℕ) (j : ℕ) → j < 3 → width d e j < 8 → placesCell d e j % 8 ≡ 1 → Alone (packed (positions d e j)) (placesCell d e j)
 alone-is d e j h few one =
-    let w : width d e j ≡ 1 = sym (wide-is d e j few) ∙ one in
     let p = positions d e j in
     let z = positions-sized d e j h in
-    let o1 = one-component e (width d e j) j 1 w (omega arith) in
-    let o2 = one-component e (width d e j) j 2 w (omega arith) in
-    let o3 = one-component e (width d e j) j 3 w (omega arith) in
+    let o1 = not-there e (width d e j) j 1 (omega (arith, wide-is d e j few)) in
     record {
-      least = packed-least p z;
+      paired = paired-is d e j h few (omega arith);
       rank1 = packed-rank1 p z ∙ ap (λ (t : Stand). t .position) o1 ∙ sym (packed-rank0 p z);
-      rank2 = packed-rank2 p z ∙ ap (λ (t : Stand). t .position) o2 ∙ sym (packed-rank0 p z);
-      rank3 = packed-rank3 p z ∙ ap (λ (t : Stand). t .position) o3 ∙ sym (packed-rank0 p z);
       place1 = place1 d e j few ∙ ap (λ (t : Stand). t .component) o1 ∙ sym (place0 d e j few);
-      place2 = place2 d e j few ∙ ap (λ (t : Stand). t .component) o2 ∙ sym (place0 d e j few);
-      place3 = place3 d e j few ∙ ap (λ (t : Stand). t .component) o3 ∙ sym (place0 d e j few);
     }
 
 -- a nonlexical rule of an accepted file, and one of its daughters

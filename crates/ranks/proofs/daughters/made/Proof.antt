@@ -17,7 +17,7 @@ alone-requires : tie.Need-alone-requires
 alone-requires c κs =
     let s = c .before .before in
     let h = s .pre .2 (c .before .if1 .taken) in
-    (h .least, s .pre .1 .lanes .rank0, omega (arith, s .pre .1 .number))
+    (h .paired .least, s .pre .1 .lanes .rank0, omega (arith, s .pre .1 .number))
 
 returns : tie.Need-returns
 returns c =

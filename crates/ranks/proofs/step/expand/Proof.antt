@@ -1,28 +1,27 @@
 -- `ranks::step::expand` meets its contract.
 -- Assumes nothing.
-use mathlib.Core.Path.{_≡_, sym, ap, ap₂, subst, subst⁻¹, _∙_}
+use mathlib.Core.Path.{_≡_, refl, sym, ap, ap₂, subst, subst⁻¹, _∙_}
+use mathlib.Core.Bool.{Bool, true, false, not}
 use mathlib.Core.List.{List, [], _∷_, _++_, map}
-use Prim.Native.Nat.{ℕ, _+_, _-_}
+use Prim.Native.Nat.{ℕ, _+_, _-_, _*_}
 use native.Mathlib.Omega.{arith}
 use borrow.Author.Needs.{needs}
 use lib.ListN.{length, take}
 use lib.Seq.{slice}
+use Rattle.model.proofs.Tests.{not-both}
 use Rattle.ranking.specs.Ranks.{shifted}
 use Rattle.ranks.specs.Prediction.{remade}
 use Rattle.ranks.specs.Queue.{Steps, Next}
-use Rattle.ranks.specs.Step.{isTwo, WideFor, expandedFor}
-use Rattle.ranks.proofs.Expanding.{dimension-at, other-at, cells-at, daughters-at, step-fits, short, behind, end-is, step-for, next-for, ready-small, length-at, narrow-written}
+use Rattle.ranks.specs.Table.{inPairs}
+use Rattle.ranks.specs.Step.{Widens, widened, Doubles, doubled}
+use Rattle.ranks.proofs.Expanding.{dimension-at, other-at, cells-at, daughters-at, step-fits, short, behind, end-is, widens, wide-is, doubles, doubled-is, ready-small, length-at, narrow-written}
+use Rattle.ranks.proofs.Stepping.{read-as}
 use Rattle.ranks.proofs.step.expand.Statement.{statement}
 use Rattle.ranks.proofs.step.expand.Tie as tie
 
 -- what is written under other names
 written-as : (w w′ : List ℕ) (to : ℕ) {l m : List ℕ} {e f : ℕ} → l ≡ m → e ≡ f → Next l w w′ to e → Next m w w′ to f
 written-as w w′ to {m = m} {e = e} p q h = subst (λ (x : ℕ). Next m w w′ to x) q (subst (λ (x : List ℕ). Next x w w′ to e) p h)
-
--- and needed, where the cells begin at i, and there are n daughters
-wide-as : (t : List ℕ) (mark : ℕ) (w : List ℕ) (from to : ℕ) {i j n m : ℕ} → i ≡ j → n ≡ m → WideFor (isTwo t i) t i n mark w from to → WideFor (isTwo t j) t j m mark w from to
-wide-as t mark w from to {j = j} {n = n} p q h =
-    subst (λ (x : ℕ). WideFor (isTwo t j) t j x mark w from to) q (subst (λ (x : ℕ). WideFor (isTwo t x) t x n mark w from to) p h)
 
 place-of-requires : tie.Need-place-of-requires
 place-of-requires c κs = search needs
@@ -114,31 +113,75 @@ returns c =
           (ap (λ (m : ℕ). a .to + m + (a .to - (a .from + 1))) k ∙ end-is g (a .t .now) (a .w .now) (a .r .0) (a .mark) (a .from) (a .to) h) (c .expand-narrow .ensures);
     }
 
-expand-wide-requires : tie.Need-expand-wide-requires
-expand-wide-requires c κs =
-    let s = c .before .before .before .before .before in
+in-pairs-requires : tie.Need-in-pairs-requires
+in-pairs-requires c κs =
+    let s = c .before .before .before .before in
     let a = s .args in
     let p = s .pre in
-    let at = c .before .before .before .before .place-of in
-    let n = c .before .before .before .daughters in
-    let d = c .before .before .dimension in
-    let more = other-at (p .grammar) (a .t .now) (a .w .now) (a .r .0) (a .mark) (a .from) (a .to) (p .expands) (at .result) (d .result) 1 (at .ensures) (d .ensures) (c .before .if1 .left) in
-    wide-as (a .t .now) (a .mark) (a .w .now) (a .from) (a .to) (sym (at .ensures)) (sym (daughters-at (p .grammar) (a .t .now) (a .w .now) (a .r .0) (a .mark) (a .from) (a .to) (p .expands) (at .result) (n .result) (at .ensures) (n .ensures .0))) (step-for (p .grammar) (a .t .now) (a .w .now) (a .r .0) (a .mark) (a .from) (a .to) (p .expands) more)
+    cells-at (p .grammar) (a .t .now) (a .w .now) (a .r .0) (a .mark) (a .from) (a .to) (p .expands) (c .before .before .before .place-of .result) (c .before .before .before .place-of .ensures)
+
+expand-wide-requires : tie.Need-expand-wide-requires
+expand-wide-requires c κs =
+    let s = c .before .before .before .before .before .before .before in
+    let a = s .args in
+    let p = s .pre in
+    let at = c .before .before .before .before .before .before .place-of in
+    let n = c .before .before .before .before .before .daughters in
+    let d = c .before .before .before .before .dimension in
+    let more = other-at (p .grammar) (a .t .now) (a .w .now) (a .r .0) (a .mark) (a .from) (a .to) (p .expands) (at .result) (d .result) 1 (at .ensures) (d .ensures) (c .before .before .before .if1 .left) in
+    read-as (λ (i m : ℕ). Widens (a .t .now) i m (a .mark) (a .w .now) (a .from) (a .to)) (at .ensures) (daughters-at (p .grammar) (a .t .now) (a .w .now) (a .r .0) (a .mark) (a .from) (a .to) (p .expands) (at .result) (n .result) (at .ensures) (n .ensures .0)) (widens (p .grammar) (a .t .now) (a .w .now) (a .r .0) (a .mark) (a .from) (a .to) (p .expands) more)
 
 returns-2 : tie.Need-returns-2
 returns-2 c =
-    let a = c .before .before .before .before .before .before .args in
-    let at = c .before .before .before .before .before .place-of in
-    let n = c .before .before .before .before .daughters in
-    let d = c .before .before .before .dimension in
+    let a = c .before .before .before .before .before .before .before .before .args in
+    let at = c .before .before .before .before .before .before .before .place-of in
+    let n = c .before .before .before .before .before .before .daughters in
+    let d = c .before .before .before .before .before .dimension in
     record {
       of-grammar = λ g h.
           let k : n .result ≡ length (h .rule .daughters) = daughters-at g (a .t .now) (a .w .now) (a .r .0) (a .mark) (a .from) (a .to) h (at .result) (n .result) (at .ensures) (n .ensures .0) in
-          let more = other-at g (a .t .now) (a .w .now) (a .r .0) (a .mark) (a .from) (a .to) h (at .result) (d .result) 1 (at .ensures) (d .ensures) (c .before .before .if1 .left) in
+          let more = other-at g (a .t .now) (a .w .now) (a .r .0) (a .mark) (a .from) (a .to) h (at .result) (d .result) 1 (at .ensures) (d .ensures) (c .before .before .before .before .if1 .left) in
           written-as (a .w .now) (c .expand-wide .last .1 .0) (a .to)
-          (ap₂ (λ (i m : ℕ). expandedFor (isTwo (a .t .now) i) (a .t .now) i m (a .mark) (a .w .now) (a .from) (a .to)) (at .ensures) k
-          ∙ next-for g (a .t .now) (a .w .now) (a .r .0) (a .mark) (a .from) (a .to) h more)
+          (ap₂ (λ (i m : ℕ). widened (a .t .now) i m (a .mark) (a .w .now) (a .from) (a .to)) (at .ensures) k ∙ wide-is g (a .t .now) (a .w .now) (a .r .0) (a .mark) (a .from) (a .to) h more)
           (ap (λ (m : ℕ). a .to + m + (a .to - (a .from + 1))) k ∙ end-is g (a .t .now) (a .w .now) (a .r .0) (a .mark) (a .from) (a .to) h) (c .expand-wide .ensures);
+    }
+
+-- a rule that is not otherwise is in pairs
+in-pairs-at : (t : List ℕ) (at r : ℕ) (b : Bool) → b ≡ inPairs t at → at ≡ 8 * r → b ≡ true → inPairs t (8 * r) ≡ true
+in-pairs-at t at r b e f h = sym (ap (inPairs t) f) ∙ sym e ∙ h
+
+not-so : (b : Bool) → not b ≡ false → b ≡ true
+not-so true e = refl
+not-so false e = not-both e
+
+expand-two-requires : tie.Need-expand-two-requires
+expand-two-requires c κs =
+    let s = c .before .before .before .before .before .before .before in
+    let a = s .args in
+    let p = s .pre in
+    let at = c .before .before .before .before .before .before .place-of in
+    let n = c .before .before .before .before .before .daughters in
+    let d = c .before .before .before .before .dimension in
+    let i = c .before .before .in-pairs in
+    let more = other-at (p .grammar) (a .t .now) (a .w .now) (a .r .0) (a .mark) (a .from) (a .to) (p .expands) (at .result) (d .result) 1 (at .ensures) (d .ensures) (c .before .before .before .if1 .left) in
+    let pairs = in-pairs-at (a .t .now) (at .result) (a .r .0) (i .result) (i .ensures) (at .ensures) (not-so (i .result) (c .before .if2 .left)) in
+    read-as (λ (i m : ℕ). Doubles (a .t .now) i m (a .mark) (a .w .now) (a .from) (a .to)) (at .ensures) (daughters-at (p .grammar) (a .t .now) (a .w .now) (a .r .0) (a .mark) (a .from) (a .to) (p .expands) (at .result) (n .result) (at .ensures) (n .ensures .0)) (doubles (p .grammar) (a .t .now) (a .w .now) (a .r .0) (a .mark) (a .from) (a .to) (p .expands) more pairs)
+
+returns-3 : tie.Need-returns-3
+returns-3 c =
+    let a = c .before .before .before .before .before .before .before .before .args in
+    let at = c .before .before .before .before .before .before .before .place-of in
+    let n = c .before .before .before .before .before .before .daughters in
+    let d = c .before .before .before .before .before .dimension in
+    let i = c .before .before .before .in-pairs in
+    record {
+      of-grammar = λ g h.
+          let k : n .result ≡ length (h .rule .daughters) = daughters-at g (a .t .now) (a .w .now) (a .r .0) (a .mark) (a .from) (a .to) h (at .result) (n .result) (at .ensures) (n .ensures .0) in
+          let more = other-at g (a .t .now) (a .w .now) (a .r .0) (a .mark) (a .from) (a .to) h (at .result) (d .result) 1 (at .ensures) (d .ensures) (c .before .before .before .before .if1 .left) in
+          let pairs = in-pairs-at (a .t .now) (at .result) (a .r .0) (i .result) (i .ensures) (at .ensures) (not-so (i .result) (c .before .before .if2 .left)) in
+          written-as (a .w .now) (c .expand-two .last .1 .0) (a .to)
+          (ap₂ (λ (i m : ℕ). doubled (a .t .now) i m (a .mark) (a .w .now) (a .from) (a .to)) (at .ensures) k ∙ doubled-is g (a .t .now) (a .w .now) (a .r .0) (a .mark) (a .from) (a .to) h more pairs)
+          (ap (λ (m : ℕ). a .to + m + (a .to - (a .from + 1))) k ∙ end-is g (a .t .now) (a .w .now) (a .r .0) (a .mark) (a .from) (a .to) h) (c .expand-two .ensures);
     }
 
 pub expand-spec : {M : Type 1} → statement M
@@ -154,5 +197,8 @@ expand-spec =
     ready-made-requires-3
     expand-narrow-requires
     returns
+    in-pairs-requires
     expand-wide-requires
-    returns-2)
+    returns-2
+    expand-two-requires
+    returns-3)
