@@ -7,8 +7,8 @@ use lib.ListN.{length}
 use lib.Seq.{paste}
 use Rattle.count_analyses.specs.declared.Piece.{Piece}
 use Rattle.count_analyses.specs.declared.Piece.the-variants.{Bytes, Nothing, Interrupted, Failed}
-use Rattle.count_analyses.specs.declared.Turn.{Turn}
-use Rattle.count_analyses.specs.declared.Turn.the-variants.{More, End, Failed as Broken}
+use Rattle.count_analyses.specs.declared.Reading.{Reading}
+use Rattle.count_analyses.specs.declared.Reading.the-variants.{More, End, Failed as Broken}
 use Rattle.count_analyses.specs.declared.Written.{Written}
 use Rattle.count_analyses.specs.declared.Written.the-variants.{To, Stopped}
 
@@ -24,10 +24,10 @@ abbrev pub Appended : List ℕ → ℕ → List ℕ → ℕ → List ℕ → ℕ
 Appended chunk n before done after r = (r ≡ done + min n (length before - done)) × (after ≡ paste before done chunk (min n (length before - done)))
 
 -- after one more read so many bytes stand in the buffer
-abbrev pub TurnSays : List ℕ → Turn → Type 0
-TurnSays buf (More done odd) = (done ≤ length buf) × (odd < 2)
-TurnSays buf End = Unit {0}
-TurnSays buf Broken = Unit {0}
+abbrev pub ReadingSays : List ℕ → Reading → Type 0
+ReadingSays buf (More done odd) = (done ≤ length buf) × (odd < 2)
+ReadingSays buf End = Unit {0}
+ReadingSays buf Broken = Unit {0}
 
 -- no more is written than the text has
 abbrev pub WrittenSays : List ℕ → Written → Type 0

@@ -8,7 +8,7 @@ ghost use Rattle.model.specs.GrammarFile.{grammarRefusal};
 ghost use Rattle.walk.specs.Prefixes.{Walks};
 ghost use Rattle.io.specs.Counts.{Counts};
 ghost use Rattle.count_analyses.specs.Paths.{PrintedPage};
-ghost use Rattle.count_analyses.specs.Pieces.{PieceSays, Appended, TurnSays, WrittenSays};
+ghost use Rattle.count_analyses.specs.Pieces.{PieceSays, Appended, ReadingSays, WrittenSays};
 use grammar::start;
 use libc::STDOUT_FILENO;
 use model::CountVerdict;
@@ -107,7 +107,7 @@ fn least(a: usize, b: usize) -> usize
 }
 
 // What stands in the buffer after one more read, with the parity of all bytes read; or the file has ended; or it cannot be read.
-enum Turn {
+enum Reading {
     More(usize, usize),
     End,
     Failed,
@@ -115,20 +115,20 @@ enum Turn {
 
 // Reads once more, where `done` bytes stand in the buffer and the bytes read so far leave `odd` when halved. A read that a signal interrupts changes nothing, and
 // is tried again.
-fn read_on(fd: i32, chunk: &mut [u8], buf: &mut [u8], done: usize, odd: usize) -> Turn
+fn read_on(fd: i32, chunk: &mut [u8], buf: &mut [u8], done: usize, odd: usize) -> Reading
     requires { ⌜ (done ≤ length (now buf)) × (odd < 2) ⌝ }
-    ensures { λ t. ⌜ TurnSays (now (buf .exit)) t ⌝ }
+    ensures { λ t. ⌜ ReadingSays (now (buf .exit)) t ⌝ }
 {
     let piece = read_piece(fd, chunk);
     match piece {
-        Piece::Bytes(n) => Turn::More(append(chunk, n, buf, done), (odd + n % 2) % 2),
-        Piece::Interrupted => Turn::More(done, odd),
-        Piece::Nothing => Turn::End,
-        Piece::Failed => Turn::Failed,
+        Piece::Bytes(n) => Reading::More(append(chunk, n, buf, done), (odd + n % 2) % 2),
+        Piece::Interrupted => Reading::More(done, odd),
+        Piece::Nothing => Reading::End,
+        Piece::Failed => Reading::Failed,
     }
 }
 
-// Reads a file into the buffer, as much of it as the buffer holds, and then on to its end where `whole` is asked for. The loop counts its turns down from a
+// Reads a file into the buffer, as much of it as the buffer holds, and then on to its end where `whole` is asked for. The loop counts its tries down from a
 // number that no run uses up.
 fn read_file(fd: i32, buf: &mut [u8], whole: bool) -> Loaded
     ensures { λ r. ⌜ Counts (r .bytes) (now (buf .exit)) ⌝ }
@@ -137,8 +137,8 @@ fn read_file(fd: i32, buf: &mut [u8], whole: bool) -> Loaded
     let chunk: &mut [u8] = &mut space;
     let mut done: usize = 0;
     let mut odd: usize = 0;
-    let mut turns = u64::MAX;
-    while 0 < turns {
+    let mut tries = u64::MAX;
+    while 0 < tries {
         if !whole {
             if done == buf.len() {
                 return Loaded {
@@ -147,32 +147,32 @@ fn read_file(fd: i32, buf: &mut [u8], whole: bool) -> Loaded
                 };
             }
         }
-        let turn = read_on(fd, chunk, buf, done, odd);
-        match turn {
-            Turn::More(d, o) => {
+        let reading = read_on(fd, chunk, buf, done, odd);
+        match reading {
+            Reading::More(d, o) => {
                 done = d;
                 odd = o;
             }
-            Turn::End => {
+            Reading::End => {
                 return Loaded {
                     bytes: done,
                     even: odd == 0,
                 };
             }
-            Turn::Failed => {
+            Reading::Failed => {
                 return unreadable();
             }
         }
-        turns -= 1;
+        tries -= 1;
     }
     unreadable()
 }
 
-// Opens a file for reading: its descriptor, below 0 where it cannot be opened. An open that a signal interrupts is tried again; the loop counts its turns down
+// Opens a file for reading: its descriptor, below 0 where it cannot be opened. An open that a signal interrupts is tried again; the loop counts its tries down
 // from a number that no run uses up.
 fn open_file(name: &[u8]) -> i32 {
-    let mut turns = u64::MAX;
-    while 0 < turns {
+    let mut tries = u64::MAX;
+    while 0 < tries {
         let fd = os::open_read(name);
         if 0 <= fd {
             return fd;
@@ -180,7 +180,7 @@ fn open_file(name: &[u8]) -> i32 {
         if os::errno() != libc::EINTR {
             return fd;
         }
-        turns -= 1;
+        tries -= 1;
     }
     -1
 }
@@ -238,12 +238,12 @@ fn not_written() -> bool {
     false
 }
 
-// Writes a text to standard output, and answers whether all of it is written; where it is not, that is said on standard error. The loop counts its turns down
+// Writes a text to standard output, and answers whether all of it is written; where it is not, that is said on standard error. The loop counts its tries down
 // from a number that no run uses up.
 fn write_text(text: &[u8]) -> bool {
     let mut done: usize = 0;
-    let mut turns = u64::MAX;
-    while 0 < turns {
+    let mut tries = u64::MAX;
+    while 0 < tries {
         if done == text.len() {
             return true;
         }
@@ -252,7 +252,7 @@ fn write_text(text: &[u8]) -> bool {
             return not_written();
         };
         done = d;
-        turns -= 1;
+        tries -= 1;
     }
     not_written()
 }

@@ -14,6 +14,7 @@ use Rattle.model.specs.Base.{if_then_else_}
 use Rattle.model.specs.Grammar.{Rule, Grammar, emptyWord, ruleAt, isLexical}
 use Rattle.model.specs.Step.{wordFits}
 use Rattle.model.proofs.Apart.{Every}
+use Rattle.model.proofs.Tests.{not-both}
 use Rattle.ranking.specs.Recognizer.{stops, goes}
 use Rattle.ranking.specs.Ranks.{Ranked, RankedState, rerank, lowered, scanRanked, readRanked, withoutFront, predictRanked, applyRanked, stepRanked}
 use Rattle.ranking.specs.Numbered.{madeAt, numberAt}
@@ -39,9 +40,6 @@ pub record Reads (word read : ℕ) (sentence : List ℕ) : Type 0 where
   pub known : read + taken word ≤ length sentence
   pub scan : (q : List (Ranked ℕ)) → scanRanked word q (drop read sentence) ≡ goes (record { queue = q; words = drop (read + taken word) sentence })
 
-never-true : {X : Type 0} → false ≡ true → X
-never-true e = let z : _≡_ {A = ℕ} 0 1 = cc in absurd (omega arith)
-
 module _ (word read : ℕ) (sentence : List ℕ) (within : read ≤ length sentence) where
   abbrev state-of : List (Ranked ℕ) → ℕ → RankedState ℕ
   state-of q k = record { queue = q; words = drop k sentence }
@@ -64,7 +62,7 @@ module _ (word read : ℕ) (sentence : List ℕ) (within : read ≤ length sente
 
       left : (b : Bool) → ltb read (length sentence) ≡ b → eqb word emptyWord ≡ false → (if b then wordFits word (getD sentence read 0) else false) ≡ true → Reads word read sentence
       left true l z d = fits d (ltb-true read (length sentence) l) z
-      left false l z d = never-true d
+      left false l z d = not-both (sym d)
 
       go : (b : Bool) → eqb word emptyWord ≡ b → (if b then true else if ltb read (length sentence) then wordFits word (getD sentence read 0) else false) ≡ true → Reads word read sentence
       go true z d =
@@ -85,7 +83,7 @@ module _ (word read : ℕ) (sentence : List ℕ) (within : read ≤ length sente
 
       go : (b : Bool) → eqb word emptyWord ≡ b → (if b then true else if ltb read (length sentence) then wordFits word (getD sentence read 0) else false) ≡ false
           → (if b then goes (state-of q read) else readRanked word q (drop read sentence)) ≡ stops 16
-      go true z d = never-true (sym d)
+      go true z d = not-both d
       go false z d = left (ltb read (length sentence)) refl d
 
 -- what the code reads in the table tells whether the step of rule r leads on
@@ -231,7 +229,7 @@ module _ (g : Grammar) (t sentence w : List ℕ) (at : Standing) (ready : Ready 
     open-fits o = go (ltb (at .left) (at .to - at .from + daughtersIn t (8 * r))) refl (fits-left true o)
       where
         go : (b : Bool) → ltb (at .left) (at .to - at .from + daughtersIn t (8 * r)) ≡ b → (if b then false else true) ≡ true → at .to - at .from + daughtersIn t (8 * r) ≤ at .left
-        go true e d = never-true d
+        go true e d = not-both (sym d)
         go false e d = ltb-false (at .left) (at .to - at .from + daughtersIn t (8 * r)) e
 
     pub long-says : opens t sentence at r ≡ false → StepSays g t sentence w w at r Long
@@ -251,7 +249,7 @@ module _ (g : Grammar) (t sentence w : List ℕ) (at : Standing) (ready : Ready 
           where
             go : (b : Bool) → ltb (at .left) (at .to - at .from + daughtersIn t (8 * r)) ≡ b → (if b then false else true) ≡ false → at .left < at .to - at .from + daughtersIn t (8 * r)
             go true e d = ltb-true (at .left) (at .to - at .from + daughtersIn t (8 * r)) e
-            go false e d = never-true (sym d)
+            go false e d = not-both d
 
     pub mark-is : 4 * (at .steps + 1) ≡ madeAt (at .steps)
     mark-is = omega arith

@@ -5,10 +5,10 @@ use Rattle.count_analyses.proofs.open_file.Statement.{statement}
 use Rattle.count_analyses.proofs.open_file.Tie as tie
 
 abbrev Inv-loop : tie.InvT-loop
-Inv-loop name turns₀ turns = Unit {0}
+Inv-loop name tries₀ tries = Unit {0}
 
 abbrev μ-loop : tie.MeasureT-loop
-μ-loop name turns₀ turns = turns
+μ-loop name tries₀ tries = tries
 
 loop-holds : tie.Need-loop-holds Inv-loop μ-loop
 loop-holds c = tt
@@ -25,8 +25,8 @@ errno-requires c κs = search needs
 returns-2 : tie.Need-returns-2 Inv-loop μ-loop
 returns-2 c = search needs
 
-sub-turns : tie.Need-sub-turns Inv-loop μ-loop
-sub-turns c = search needs
+sub-tries : tie.Need-sub-tries Inv-loop μ-loop
+sub-tries c = search needs
 
 loop-less : tie.Need-loop-less Inv-loop μ-loop
 loop-less c = search needs
@@ -48,7 +48,7 @@ open-file-spec =
     returns
     errno-requires
     returns-2
-    sub-turns
+    sub-tries
     loop-less
     loop-again
     returns-3)

@@ -18,10 +18,10 @@ counts : (n : ℕ) (l : List ℕ) → n ≤ length l → (n ≤ length l) × (n 
 counts n l h = (h, omega (arith, length-take n l))
 
 abbrev Inv-loop : tie.InvT-loop
-Inv-loop fd buf₀ whole chunk₀ done₀ odd₀ turns₀ buf chunk done odd turns = (done ≤ length buf) × (length buf ≡ length buf₀) × (odd < 2)
+Inv-loop fd buf₀ whole chunk₀ done₀ odd₀ tries₀ buf chunk done odd tries = (done ≤ length buf) × (length buf ≡ length buf₀) × (odd < 2)
 
 abbrev μ-loop : tie.MeasureT-loop
-μ-loop fd buf₀ whole chunk₀ done₀ odd₀ turns₀ buf chunk done odd turns = turns
+μ-loop fd buf₀ whole chunk₀ done₀ odd₀ tries₀ buf chunk done odd tries = tries
 
 large-buffer-requires : tie.Need-large-buffer-requires Inv-loop μ-loop
 large-buffer-requires c κs = search needs
@@ -41,8 +41,8 @@ returns c = counts _ _ (search needs)
 read-on-requires : tie.Need-read-on-requires Inv-loop μ-loop
 read-on-requires c κs = search needs
 
-enum-known-turn : tie.Need-enum-known-turn Inv-loop μ-loop
-enum-known-turn c = search needs
+enum-known-reading : tie.Need-enum-known-reading Inv-loop μ-loop
+enum-known-reading c = search needs
 
 enum-told : tie.Need-enum-told Inv-loop μ-loop
 enum-told c = search needs
@@ -65,15 +65,15 @@ same-length-3 c = search needs
 returns-3 : tie.Need-returns-3 Inv-loop μ-loop
 returns-3 c = counts _ _ (search needs)
 
-sub-turns : tie.Need-sub-turns Inv-loop μ-loop
-sub-turns c = search needs
+sub-tries : tie.Need-sub-tries Inv-loop μ-loop
+sub-tries c = search needs
 
 loop-less : tie.Need-loop-less Inv-loop μ-loop
 loop-less c = search needs
 
 loop-again : tie.Need-loop-again Inv-loop μ-loop
 loop-again c =
-    let w = rw (c .before .turn .given .1) at (c .before .before .before .before .before .before .before .read-on .ensures) in
+    let w = rw (c .before .reading .given .1) at (c .before .before .before .before .before .before .before .read-on .ensures) in
     (w .0, search needs, w .1)
 
 unreadable-requires-2 : tie.Need-unreadable-requires-2 Inv-loop μ-loop
@@ -97,7 +97,7 @@ read-file-spec =
     same-length
     returns
     read-on-requires
-    enum-known-turn
+    enum-known-reading
     enum-told
     same-length-2
     returns-2
@@ -105,7 +105,7 @@ read-file-spec =
     unreadable-requires
     same-length-3
     returns-3
-    sub-turns
+    sub-tries
     loop-less
     loop-again
     unreadable-requires-2

@@ -7,10 +7,10 @@ use Rattle.count_analyses.proofs.write_text.Statement.{statement}
 use Rattle.count_analyses.proofs.write_text.Tie as tie
 
 abbrev Inv-loop : tie.InvT-loop
-Inv-loop text done₀ turns₀ done turns = done ≤ length text
+Inv-loop text done₀ tries₀ done tries = done ≤ length text
 
 abbrev μ-loop : tie.MeasureT-loop
-μ-loop text done₀ turns₀ done turns = turns
+μ-loop text done₀ tries₀ done tries = tries
 
 loop-holds : tie.Need-loop-holds Inv-loop μ-loop
 loop-holds c = search needs
@@ -33,8 +33,8 @@ not-written-requires c κs = search needs
 returns-2 : tie.Need-returns-2 Inv-loop μ-loop
 returns-2 c = search needs
 
-sub-turns : tie.Need-sub-turns Inv-loop μ-loop
-sub-turns c = search needs
+sub-tries : tie.Need-sub-tries Inv-loop μ-loop
+sub-tries c = search needs
 
 loop-less : tie.Need-loop-less Inv-loop μ-loop
 loop-less c = search needs
@@ -61,7 +61,7 @@ write-text-spec =
     enum-told
     not-written-requires
     returns-2
-    sub-turns
+    sub-tries
     loop-less
     loop-again
     not-written-requires-2
