@@ -26,8 +26,8 @@ use Rattle.ranks.specs.Daughters.{daughter}
 use Rattle.ranks.specs.declared.prediction.Moves.{Moves}
 use Rattle.ranks.specs.Moves.{movesRanks, movesLengths, gathered, lengthsOf, Bounded, begun, Begins}
 use Rattle.ranks.specs.Held.{inLanes, numberOf, predictionOf, queueIn, Fits}
-use Rattle.ranks.specs.Table.{ones, daughtersIn, dimensionIn, inPairs, marked, readyMade, daughterOf, daughtersOf, RuleLengths, RuleCells, WideCells, NarrowCells}
-use Rattle.ranks.specs.Step.{daughterAt, Makes, twoMoves, twoBegins, TwoRanks, expanded, WideStep, Widens, Doubles, doubled, Expands, expandedQueue}
+use Rattle.ranks.specs.Table.{ones, daughtersIn, dimensionIn, ofTwo, marked, readyMade, daughterOf, daughtersOf, RuleLengths, RuleCells, WideCells, NarrowCells}
+use Rattle.ranks.specs.Step.{daughterAt, Makes, twoMoves, twoBegins, TwoRanks, expanded, WideStep, ExpandsWide, ExpandsTwo, expandedWide, expandedTwo, Expands, expandedQueue}
 use Rattle.ranks.proofs.Fitting.{all-fit}
 use Rattle.ranks.proofs.Numbers.{sized, unpacked-number, put-perm}
 use Rattle.ranks.proofs.Moved.{above-zero}
@@ -35,7 +35,7 @@ use Rattle.ranks.proofs.Sorting.{insert-after}
 use Rattle.ranks.proofs.Pairs.{Pairwise, Unequal}
 use Rattle.ranks.proofs.Fronts.{front-least, front-takes, front-unequal}
 use Rattle.ranks.proofs.Two.{two-four, other-some, two-goes, two-begins, two-apart, two-bounded}
-use Rattle.ranks.proofs.InPairs.{in-pairs-two}
+use Rattle.ranks.proofs.OfTwo.{two-is-the-dimension}
 use Rattle.ranks.proofs.Scanning as alone
 use Rattle.ranks.proofs.Holding.{queue-length, queue-first, front-number, others-numbers, each-held}
 use Rattle.ranks.proofs.Predicting.{each-lane, goesTo, daughters-are, others-short, others-behind, gathered-goes, gathered-fits, others-apart, begun-components, front-begins, daughters-fit, predicted-numbers}
@@ -230,11 +230,10 @@ module _ (g : Grammar) (t w : List ℕ) (r mark from to : ℕ) (h : Expands g t 
                 (sized g (daughterOf g rule (map (goesTo rule x) (x .ranks)) mark j)
                 (numbered-fit g (daughterOf g rule (map (goesTo rule x) (x .ranks)) mark) (length (rule .daughters)) 0
                 (daughters-fit g rule right (h .nonlexical) x R (h .words) reached fit (h .of-front) (getD w from 0) (getD t (8 * r + 1) 0) front-is lens mark next-fits next-rising) j (omega arith) (omega arith)));
-            alone = wide .alone j l;
-            paired = wide .paired j l;
+            repeats = wide .repeats j l;
           }
 
-      pub step-of : WideStep t (8 * r) (length (rule .daughters)) mark bs m w from to
+      step-of : WideStep t (8 * r) (length (rule .daughters)) mark bs m w from to
       step-of =
           record {
             table = cells .long;
@@ -248,7 +247,7 @@ module _ (g : Grammar) (t w : List ℕ) (r mark from to : ℕ) (h : Expands g t 
             makes = makes;
           }
 
-      pub next-is : expanded t (8 * r) (length (rule .daughters)) mark bs m w from to ≡ map numberOf next
+      next-is : expanded t (8 * r) (length (rule .daughters)) mark bs m w from to ≡ map numberOf next
       next-is =
           ap₂ insertAll
           (take-numbers (daughterOf g rule (map (goesTo rule x) (x .ranks)) mark) (length (rule .daughters)) (daughterAt t (8 * r) 0 bs mark) (daughterAt t (8 * r) 1 bs mark) (daughterAt t (8 * r) 2 bs mark) few-daughters
@@ -260,16 +259,16 @@ module _ (g : Grammar) (t w : List ℕ) (r mark from to : ℕ) (h : Expands g t 
     front = getD w from 0
 
     -- by comparing, for any rule
-    pub wide-step : WideStep t (8 * r) (length (rule .daughters)) mark (ranks (begun (getD w from 0) (getD t (8 * r + 1) 0))) (gathered (ranks (unpacked (getD w from 0))) (lengthsOf (getD t (8 * r + 1) 0))) w from to
+    wide-step : WideStep t (8 * r) (length (rule .daughters)) mark (ranks (begun (getD w from 0) (getD t (8 * r + 1) 0))) (gathered (ranks (unpacked (getD w from 0))) (lengthsOf (getD t (8 * r + 1) 0))) w from to
     wide-step = step-of (ranks (begun front (getD t (8 * r + 1) 0))) (gathered (ranks (unpacked front)) (lengthsOf (getD t (8 * r + 1) 0))) refl (begun-components g rule right (h .nonlexical) x R (h .words) reached fit (h .of-front) front (getD t (8 * r + 1) 0) front-is lens)
         (gathered-goes g rule right (h .nonlexical) x R (h .words) reached fit (h .of-front) front (getD t (8 * r + 1) 0) front-is lens)
         (gathered-fits g rule right (h .nonlexical) x R (h .words) reached fit (h .of-front) front (getD t (8 * r + 1) 0) front-is lens)
         (others-apart g rule right (h .nonlexical) x R (h .words) reached fit (h .of-front) front (getD t (8 * r + 1) 0) front-is lens)
 
-    pub wide-begins : Begins (getD w from 0) (getD t (8 * r + 1) 0)
+    wide-begins : Begins (getD w from 0) (getD t (8 * r + 1) 0)
     wide-begins = front-begins g rule right (h .nonlexical) x R (h .words) reached fit (h .of-front) front (getD t (8 * r + 1) 0) front-is lens
 
-    pub wide-is : expanded t (8 * r) (length (rule .daughters)) mark (ranks (begun (getD w from 0) (getD t (8 * r + 1) 0))) (gathered (ranks (unpacked (getD w from 0))) (lengthsOf (getD t (8 * r + 1) 0))) w from to ≡ map numberOf next
+    wide-is : expanded t (8 * r) (length (rule .daughters)) mark (ranks (begun (getD w from 0) (getD t (8 * r + 1) 0))) (gathered (ranks (unpacked (getD w from 0))) (lengthsOf (getD t (8 * r + 1) 0))) w from to ≡ map numberOf next
     wide-is = next-is (ranks (begun front (getD t (8 * r + 1) 0))) (gathered (ranks (unpacked front)) (lengthsOf (getD t (8 * r + 1) 0))) refl (begun-components g rule right (h .nonlexical) x R (h .words) reached fit (h .of-front) front (getD t (8 * r + 1) 0) front-is lens)
         (gathered-goes g rule right (h .nonlexical) x R (h .words) reached fit (h .of-front) front (getD t (8 * r + 1) 0) front-is lens)
         (gathered-fits g rule right (h .nonlexical) x R (h .words) reached fit (h .of-front) front (getD t (8 * r + 1) 0) front-is lens)
@@ -321,7 +320,7 @@ module _ (g : Grammar) (t w : List ℕ) (r mark from to : ℕ) (h : Expands g t 
           let b = lens .few 1 in
           (omega (arith, a, ap (λ (l : List ℕ). getD l 0 0) lengths-two), omega (arith, b, ap (λ (l : List ℕ). getD l 1 0) lengths-two))
 
-      pub two-ranks : TwoRanks (getD w from 0) (getD t (8 * r + 1) 0)
+      two-ranks : TwoRanks (getD w from 0) (getD t (8 * r + 1) 0)
       two-ranks = record { short = short-two; other = other-some (unpacked front .rank0) (unpacked front .rank1) len0 len1 zero-two unequal-two; len0 = lengths-small .0; len1 = lengths-small .1 }
 
       begin-two : take (length (rule .components)) (twoBegins front (getD t (8 * r + 1) 0)) ≡ map (goesTo rule x) (x .ranks)
@@ -345,21 +344,24 @@ module _ (g : Grammar) (t w : List ℕ) (r mark from to : ℕ) (h : Expands g t 
       bounded-two : Bounded (twoMoves front (getD t (8 * r + 1) 0))
       bounded-two = two-bounded (unpacked front .rank0) (unpacked front .rank1) len0 len1 (short-two .rank0) (short-two .rank1) (lengths-small .0) (lengths-small .1)
 
-      pub two-step : WideStep t (8 * r) (length (rule .daughters)) mark (twoBegins (getD w from 0) (getD t (8 * r + 1) 0)) (twoMoves (getD w from 0) (getD t (8 * r + 1) 0)) w from to
+      two-step : WideStep t (8 * r) (length (rule .daughters)) mark (twoBegins (getD w from 0) (getD t (8 * r + 1) 0)) (twoMoves (getD w from 0) (getD t (8 * r + 1) 0)) w from to
       two-step = step-of (twoBegins front (getD t (8 * r + 1) 0)) (twoMoves front (getD t (8 * r + 1) 0)) (two-four front (getD t (8 * r + 1) 0)) begin-two goes-by-two bounded-two apart-two
 
-      pub two-is : expanded t (8 * r) (length (rule .daughters)) mark (twoBegins (getD w from 0) (getD t (8 * r + 1) 0)) (twoMoves (getD w from 0) (getD t (8 * r + 1) 0)) w from to ≡ map numberOf next
+      two-is : expanded t (8 * r) (length (rule .daughters)) mark (twoBegins (getD w from 0) (getD t (8 * r + 1) 0)) (twoMoves (getD w from 0) (getD t (8 * r + 1) 0)) w from to ≡ map numberOf next
       two-is = next-is (twoBegins front (getD t (8 * r + 1) 0)) (twoMoves front (getD t (8 * r + 1) 0)) (two-four front (getD t (8 * r + 1) 0)) begin-two goes-by-two bounded-two apart-two
 
-    -- by the one, for any rule, and by the other, for a rule in pairs
-    pub widens : Widens t (8 * r) (length (rule .daughters)) mark w from to
-    widens = (wide-step, wide-begins)
+    -- what the two steps need, and what they write
+    pub expands-wide : ExpandsWide t (8 * r) (length (rule .daughters)) mark w from to
+    expands-wide = (wide-step, wide-begins)
 
-    pub doubles : inPairs t (8 * r) ≡ true → Doubles t (8 * r) (length (rule .daughters)) mark w from to
-    doubles e = let k = in-pairs-two t (8 * r) e in (two-step k, two-ranks k, e)
+    pub wide-written : expandedWide t (8 * r) (length (rule .daughters)) mark w from to ≡ map numberOf next
+    wide-written = wide-is
 
-    pub doubled-is : inPairs t (8 * r) ≡ true → doubled t (8 * r) (length (rule .daughters)) mark w from to ≡ map numberOf next
-    doubled-is e = two-is (in-pairs-two t (8 * r) e)
+    pub expands-two : ofTwo t (8 * r) ≡ true → ExpandsTwo t (8 * r) (length (rule .daughters)) mark w from to
+    expands-two e = let k = two-is-the-dimension t (8 * r) e in (two-step k, two-ranks k, e)
+
+    pub two-written : ofTwo t (8 * r) ≡ true → expandedTwo t (8 * r) (length (rule .daughters)) mark w from to ≡ map numberOf next
+    two-written e = two-is (two-is-the-dimension t (8 * r) e)
 
   -- a rule of dimension 1: its front has rank 0 alone, and every other rank moves by the same
   module _ (is-one : dimensionIn t (8 * r) ≡ 1) where

@@ -15,7 +15,7 @@ use Rattle.ranks.specs.Queue.{Every}
 use Rattle.ranks.specs.Moves.{movesRanks, movesLengths, withOther, withIf, withOne, gathered}
 use Rattle.ranks.proofs.Moved.{each-also}
 
--- one behind the first
+-- of the one behind the first
 pub first-one : (n0 f1 n1 : ℕ) → n1 ≡ 1 → (r : ℕ) → shifted (0 ∷ []) (n0 ∷ []) r ≡ shifted (0 ∷ (f1 ∷ [])) (n0 ∷ (n1 ∷ [])) r
 first-one n0 f1 n1 h1 r = let e : above f1 n1 r ≡ above f1 1 r = ap (λ (n : ℕ). above f1 n r) h1 in omega (arith, e)
 

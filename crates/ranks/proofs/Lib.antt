@@ -17,7 +17,7 @@ pub mod Holding
 pub mod Predicting
 pub mod Scanning
 pub mod Two
-pub mod Doubled
-pub mod InPairs
-pub mod PairStep
+pub mod TwoComponents
+pub mod OfTwo
+pub mod TwoStep
 pub mod Expanding

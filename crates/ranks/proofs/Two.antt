@@ -1,54 +1,23 @@
--- Rules of dimension 2: one of the front's two components has rank 0, and where ranks go needs no comparison for it.
+-- Rules of dimension 2: one of the front's two components has rank 0, so that the front's ranks need not be compared with each other.
 -- Assumes nothing.
 use mathlib.Core.Path.{_≡_, refl, sym, ap, _∙_}
 use mathlib.Core.Bool.{Bool, true, false}
-use mathlib.Core.List.{List, [], _∷_, map}
-use Prim.Native.Nat.{ℕ, _+_, _-_, _*_, _/_, _%_, _<_, _≤_, min}
+use mathlib.Core.List.{[], _∷_, map}
+use Prim.Native.Nat.{ℕ, _+_, _-_, _/_, _%_, _<_, _≤_}
 use native.Mathlib.Omega.{arith}
 use borrow.Author.Tests.{eq-eqb, ne-eqb, eqb-true, eqb-false, le-ltb}
 use lib.Dec.{ltb, eqb}
-use lib.ListN.{length, getD, take}
+use lib.ListN.{length, take}
 use Rattle.model.specs.Base.{if_then_else_}
 use Rattle.ranking.specs.Ranks.{above, passed, added, shifted, leastRank}
-use Rattle.ranks.specs.declared.prediction.Moves.{Moves}
-use Rattle.ranks.specs.Prediction.{packed, unpacked, lanes}
+use Rattle.ranks.specs.Prediction.{unpacked}
 use Rattle.ranks.specs.Moves.{movesRanks, movesLengths, Bounded}
-use Rattle.ranks.specs.Daughters.{daughter, Alone, twoBases}
-use Rattle.ranks.specs.Step.{twoMoves, twoBegins}
-use Rattle.ranks.proofs.Packing.{packed-unpacked}
+use Rattle.ranks.specs.Daughters.{twoBases}
+use Rattle.ranks.specs.Step.{byTwo, twoMovesOf, twoBeginsOf, twoMoves, twoBegins}
 use Rattle.ranks.proofs.Moved.{above-zero}
-
--- a daughter with a single component
-pub alone-made : (bs : List ℕ) (cell places mark : ℕ) → Alone cell places
-    → cell + getD bs (places / 8 % 4) 0 * 2251799948165633 + unpacked cell .rank0 * 2251799813685248 + mark * 4398046511104 ≡ packed (daughter bs cell places mark)
-alone-made bs cell places mark h =
-    let b = getD bs (places / 8 % 4) 0 in
-    let r = unpacked cell .rank0 in
-    sum cell b r (unpacked cell .number) (unpacked cell .category) mark (unpacked cell .rank1) (unpacked cell .rank2) (unpacked cell .rank3) (unpacked cell .least) (sym (packed-unpacked cell)) (h .rank1) (h .paired .rank2) (h .paired .rank3) (h .paired .least)
-    ∙ (let l : b + r ≡ min (min (b + r) (b + unpacked cell .rank1)) (min (b + unpacked cell .rank2) (b + unpacked cell .rank3)) = omega (arith, h .rank1, h .paired .rank2, h .paired .rank3) in
-    let p1 = sym (ap (λ (i : ℕ). getD bs i 0) (h .place1)) in
-    let p2 = sym (ap (λ (i : ℕ). getD bs i 0) (h .paired .place2)) in
-    let p3 = sym (ap (λ (i : ℕ). getD bs i 0) (h .paired .place3)) in
-    let q1 = sym (h .rank1) in
-    let q2 = sym (h .paired .rank2) in
-    let q3 = sym (h .paired .rank3) in
-    ap (λ (x : ℕ). lanes (b + r) (b + r) (b + r) (b + r) ((mark + unpacked cell .number) * 64 + unpacked cell .category) x) l
-    ∙ (λ i. lanes (b + r) (p1 i + q1 i) (p2 i + q2 i) (p3 i + q3 i) ((mark + unpacked cell .number) * 64 + unpacked cell .category) (min (min (b + r) (p1 i + unpacked cell .rank1)) (min (p2 i + unpacked cell .rank2) (p3 i + unpacked cell .rank3)))))
-  where
-    sum : (x b r n a mark r1 r2 r3 l : ℕ) → x ≡ lanes r r1 r2 r3 (n * 64 + a) l → r1 ≡ r → r2 ≡ r → r3 ≡ r → l ≡ 0
-        → x + b * 2251799948165633 + r * 2251799813685248 + mark * 4398046511104 ≡ lanes (b + r) (b + r) (b + r) (b + r) ((mark + n) * 64 + a) (b + r)
-    sum x b r n a mark r1 r2 r3 l e h1 h2 h3 h4 = omega arith
 
 above-none : (k n r : ℕ) → r ≤ k → above k n r ≡ 0
 above-none k n r h = ap (λ (b : Bool). if b then n else 0) (le-ltb k r h)
-
--- the moves of a front with ranks a and b, and lengths n and m
-abbrev pub twoMovesOf : ℕ → ℕ → ℕ → ℕ → Moves
-twoMovesOf a b n m =
-    if eqb a 0 then record { len0 = n; f1 = b; len1 = m; f2 = 255; len2 = 1; f3 = 255; len3 = 1 } else record { len0 = m; f1 = a; len1 = n; f2 = 255; len2 = 1; f3 = 255; len3 = 1 }
-
-abbrev pub twoBeginsOf : ℕ → ℕ → ℕ → ℕ → List ℕ
-twoBeginsOf a b n m = if eqb a 0 then twoBases 0 (b + n - 1) else twoBases 1 (a + m - 1)
 
 module _ (a b n m : ℕ) (zero : leastRank (a ∷ b ∷ []) ≡ 0) (unequal : a ≡ b → ⊥) where
   second-zero : (a ≡ 0 → ⊥) → b ≡ 0
@@ -74,8 +43,8 @@ module _ (a b n m : ℕ) (zero : leastRank (a ∷ b ∷ []) ≡ 0) (unequal : a 
       second = omega arith
 
       go : (t : Bool) → eqb a 0 ≡ t
-          → shifted (movesRanks (if t then record { len0 = n; f1 = b; len1 = m; f2 = 255; len2 = 1; f3 = 255; len3 = 1 } else record { len0 = m; f1 = a; len1 = n; f2 = 255; len2 = 1; f3 = 255; len3 = 1 }))
-          (movesLengths (if t then record { len0 = n; f1 = b; len1 = m; f2 = 255; len2 = 1; f3 = 255; len3 = 1 } else record { len0 = m; f1 = a; len1 = n; f2 = 255; len2 = 1; f3 = 255; len3 = 1 })) r
+          → shifted (movesRanks (if t then byTwo n b m else byTwo m a n))
+          (movesLengths (if t then byTwo n b m else byTwo m a n)) r
           ≡ shifted (a ∷ b ∷ []) (n ∷ m ∷ []) r
       go true e = first ∙ ap (λ (k : ℕ). shifted (k ∷ b ∷ []) (n ∷ m ∷ []) r) (sym (eqb-true a 0 e))
       go false e = second ∙ ap (λ (k : ℕ). shifted (a ∷ k ∷ []) (n ∷ m ∷ []) r) (sym (second-zero (eqb-false a 0 e)))
@@ -118,16 +87,16 @@ module _ (a b n m : ℕ) (zero : leastRank (a ∷ b ∷ []) ≡ 0) (unequal : a 
       second z = omega (arith, h, ap (λ (k : ℕ). above k 1 r) z)
 
       go : (t : Bool) → eqb a 0 ≡ t
-          → passed r (movesRanks (if t then record { len0 = n; f1 = b; len1 = m; f2 = 255; len2 = 1; f3 = 255; len3 = 1 } else record { len0 = m; f1 = a; len1 = n; f2 = 255; len2 = 1; f3 = 255; len3 = 1 }))
-          ≤ r + added r (movesRanks (if t then record { len0 = n; f1 = b; len1 = m; f2 = 255; len2 = 1; f3 = 255; len3 = 1 } else record { len0 = m; f1 = a; len1 = n; f2 = 255; len2 = 1; f3 = 255; len3 = 1 }))
-          (movesLengths (if t then record { len0 = n; f1 = b; len1 = m; f2 = 255; len2 = 1; f3 = 255; len3 = 1 } else record { len0 = m; f1 = a; len1 = n; f2 = 255; len2 = 1; f3 = 255; len3 = 1 }))
+          → passed r (movesRanks (if t then byTwo n b m else byTwo m a n))
+          ≤ r + added r (movesRanks (if t then byTwo n b m else byTwo m a n))
+          (movesLengths (if t then byTwo n b m else byTwo m a n))
       go true e = first (eqb-true a 0 e)
       go false e = second (second-zero (eqb-false a 0 e))
 
 pub two-bounded : (a b n m : ℕ) → a < 256 → b < 256 → n < 256 → m < 256 → Bounded (twoMovesOf a b n m)
 two-bounded a b n m ha hb hn hm = go (eqb a 0)
   where
-    go : (t : Bool) → Bounded (if t then record { len0 = n; f1 = b; len1 = m; f2 = 255; len2 = 1; f3 = 255; len3 = 1 } else record { len0 = m; f1 = a; len1 = n; f2 = 255; len2 = 1; f3 = 255; len3 = 1 })
+    go : (t : Bool) → Bounded (if t then byTwo n b m else byTwo m a n)
     go true = record { len0 = hn; f1 = hb; len1 = hm; f2 = omega arith; len2 = omega arith; f3 = omega arith; len3 = omega arith }
     go false = record { len0 = hm; f1 = ha; len1 = hn; f2 = omega arith; len2 = omega arith; f3 = omega arith; len3 = omega arith }
 
@@ -141,16 +110,16 @@ module _ (front lens : ℕ) where
       go false = refl
 
   pub moves-first : (f : ℕ) → unpacked front .rank0 ≡ 0 → f ≡ unpacked front .rank1
-      → record { len0 = lens % 65536; f1 = f; len1 = lens / 65536 % 65536; f2 = 255; len2 = 1; f3 = 255; len3 = 1 } ≡ twoMoves front lens
+      → byTwo (lens % 65536) f (lens / 65536 % 65536) ≡ twoMoves front lens
   moves-first f z e =
-      ap (λ (k : ℕ). record { len0 = lens % 65536; f1 = k; len1 = lens / 65536 % 65536; f2 = 255; len2 = 1; f3 = 255; len3 = 1 }) e
-      ∙ sym (ap (λ (t : Bool). if t then record { len0 = lens % 65536; f1 = unpacked front .rank1; len1 = lens / 65536 % 65536; f2 = 255; len2 = 1; f3 = 255; len3 = 1 } else record { len0 = lens / 65536 % 65536; f1 = unpacked front .rank0; len1 = lens % 65536; f2 = 255; len2 = 1; f3 = 255; len3 = 1 }) (eq-eqb (unpacked front .rank0) 0 z))
+      ap (λ (k : ℕ). byTwo (lens % 65536) k (lens / 65536 % 65536)) e
+      ∙ sym (ap (λ (t : Bool). if t then byTwo (lens % 65536) (unpacked front .rank1) (lens / 65536 % 65536) else byTwo (lens / 65536 % 65536) (unpacked front .rank0) (lens % 65536)) (eq-eqb (unpacked front .rank0) 0 z))
 
   pub moves-second : (f : ℕ) → f ≡ unpacked front .rank0 → (f ≡ 0 → ⊥)
-      → record { len0 = lens / 65536 % 65536; f1 = f; len1 = lens % 65536; f2 = 255; len2 = 1; f3 = 255; len3 = 1 } ≡ twoMoves front lens
+      → byTwo (lens / 65536 % 65536) f (lens % 65536) ≡ twoMoves front lens
   moves-second f e n =
-      ap (λ (k : ℕ). record { len0 = lens / 65536 % 65536; f1 = k; len1 = lens % 65536; f2 = 255; len2 = 1; f3 = 255; len3 = 1 }) e
-      ∙ sym (ap (λ (t : Bool). if t then record { len0 = lens % 65536; f1 = unpacked front .rank1; len1 = lens / 65536 % 65536; f2 = 255; len2 = 1; f3 = 255; len3 = 1 } else record { len0 = lens / 65536 % 65536; f1 = unpacked front .rank0; len1 = lens % 65536; f2 = 255; len2 = 1; f3 = 255; len3 = 1 }) (ne-eqb (unpacked front .rank0) 0 (λ z. n (e ∙ z))))
+      ap (λ (k : ℕ). byTwo (lens / 65536 % 65536) k (lens % 65536)) e
+      ∙ sym (ap (λ (t : Bool). if t then byTwo (lens % 65536) (unpacked front .rank1) (lens / 65536 % 65536) else byTwo (lens / 65536 % 65536) (unpacked front .rank0) (lens % 65536)) (ne-eqb (unpacked front .rank0) 0 (λ z. n (e ∙ z))))
 
   pub begins-first : (f : ℕ) → unpacked front .rank0 ≡ 0 → f ≡ unpacked front .rank1 → twoBases 0 (f + lens % 65536 - 1) ≡ twoBegins front lens
   begins-first f z e =

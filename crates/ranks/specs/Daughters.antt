@@ -18,31 +18,36 @@ reranked cell mark r0 r1 r2 r3 = record { least = min (min r0 r1) (min r2 r3); n
 abbrev pub daughter : List ℕ → ℕ → ℕ → ℕ → Prediction
 daughter bs cell places mark = reranked cell mark (getD bs (places / 8 % 4) 0 + unpacked cell .rank0) (getD bs (places / 64 % 4) 0 + unpacked cell .rank1) (getD bs (places / 512 % 4) 0 + unpacked cell .rank2) (getD bs (places / 4096 % 4) 0 + unpacked cell .rank3)
 
--- `places` has at its end the dimension of the daughter; one with at most two components repeats component 0
-pub record Paired (cell places : ℕ) : Type 0 where
+-- `places` has, lowest, the dimension of the daughter. A cell has 0 for its least rank, and where the daughter has at most two components, 2 and 3 repeat component 0.
+pub record AtMostTwo (cell places : ℕ) : Type 0 where
   pub least : unpacked cell .least ≡ 0
   pub rank2 : unpacked cell .rank2 ≡ unpacked cell .rank0
   pub rank3 : unpacked cell .rank3 ≡ unpacked cell .rank0
   pub place2 : places / 512 % 4 ≡ places / 8 % 4
   pub place3 : places / 4096 % 4 ≡ places / 8 % 4
 
--- and one with a single component repeats it as component 1 too
+-- and where it has a single component, 1 repeats it too
 pub record Alone (cell places : ℕ) : Type 0 where
-  pub paired : Paired cell places
+  pub at-most-two : AtMostTwo cell places
   pub rank1 : unpacked cell .rank1 ≡ unpacked cell .rank0
   pub place1 : places / 64 % 4 ≡ places / 8 % 4
 
--- Where the two components of a front begin: that of rank 0 at rank 0, component 1 if it is turned, and the other at `base`. There are four ranks in the list;
--- those of components that are not there are not read.
+-- by its dimension
+pub record Repeats (cell places : ℕ) : Type 0 where
+  pub one : places % 8 ≡ 1 → Alone cell places
+  pub two : places % 8 < 3 → AtMostTwo cell places
+
+-- Where the two components of a front begin: component `lowest` at rank 0, the other at `base`. `daughter` takes four ranks; those of components 2 and 3, which the
+-- front does not have, are those of 0 and 1 again.
 abbrev pub twoBases : ℕ → ℕ → List ℕ
-twoBases turned base = if eqb turned 0 then 0 ∷ (base ∷ (0 ∷ (base ∷ []))) else base ∷ (0 ∷ (base ∷ (0 ∷ [])))
+twoBases lowest base = if eqb lowest 0 then 0 ∷ (base ∷ (0 ∷ (base ∷ []))) else base ∷ (0 ∷ (base ∷ (0 ∷ [])))
 
 -- the two cells of a daughter of at most two components can make it for such a front
-pub record MakesTwo (cell places turned base mark : ℕ) : Type 0 where
-  pub turn : turned < 2
-  pub near : base < 512
-  pub sized : Sized (daughter (twoBases turned base) cell places mark)
-  pub paired : Paired cell places
+pub record MakesTwo (cell places lowest base mark : ℕ) : Type 0 where
+  pub one-of-two : lowest < 2
+  pub base-small : base < 512
+  pub sized : Sized (daughter (twoBases lowest base) cell places mark)
+  pub at-most-two : AtMostTwo cell places
 
 -- three numbers in rising order, which together settle as x, y and z do
 pub record Rising (x y z low mid high : ℕ) : Type 0 where

@@ -17,25 +17,31 @@ use Rattle.ranking.proofs.Limits.{Reached}
 use Rattle.ranking.proofs.Numbered.{Below}
 use Rattle.ranks.specs.Prediction.{Short, Behind, Apart, Sized, ranks, packed, unpacked, remade}
 use Rattle.ranks.specs.Queue.{room, Every, Steps, Next, insertAll}
-use Rattle.ranks.specs.Daughters.{daughter, Paired, Alone, twoBases}
+use Rattle.ranks.specs.Daughters.{daughter, Repeats, twoBases}
 use Rattle.ranks.specs.Moves.{movesRanks, movesLengths, gathered, lengthsOf, Bounded, begun, Begins}
 use Rattle.ranks.specs.Held.{numberOf, predictionOf, queueIn, Held}
-use Rattle.ranks.specs.Table.{cells, inPairs, Compiled}
+use Rattle.ranks.specs.Table.{cells, ofTwo, Compiled}
 
--- of a rule of dimension 2, without comparing: one of the front's two components has rank 0, and the other begins behind what takes its place
+-- the moves of two components: the one of rank 0, and another of rank f1
+abbrev pub byTwo : ℕ → ℕ → ℕ → Moves
+byTwo len0 f1 len1 = record { len0 = len0; f1 = f1; len1 = len1; f2 = 255; len2 = 1; f3 = 255; len3 = 1 }
+
+-- A step by a rule of dimension 2, from a front of ranks a and b, where the lengths of the rule's components are n and m: what moves the other ranks, and where the
+-- front's components begin. One has rank 0 and begins there; the other begins behind the variables that take the place of the first.
+abbrev pub twoMovesOf : ℕ → ℕ → ℕ → ℕ → Moves
+twoMovesOf a b n m = if eqb a 0 then byTwo n b m else byTwo m a n
+
+abbrev pub twoBeginsOf : ℕ → ℕ → ℕ → ℕ → List ℕ
+twoBeginsOf a b n m = if eqb a 0 then twoBases 0 (b + n - 1) else twoBases 1 (a + m - 1)
+
+-- the same of the front and the lengths as numbers
 abbrev pub twoMoves : ℕ → ℕ → Moves
-twoMoves front lens =
-    if eqb (unpacked front .rank0) 0
-    then record { len0 = lens % 65536; f1 = unpacked front .rank1; len1 = lens / 65536 % 65536; f2 = 255; len2 = 1; f3 = 255; len3 = 1 }
-    else record { len0 = lens / 65536 % 65536; f1 = unpacked front .rank0; len1 = lens % 65536; f2 = 255; len2 = 1; f3 = 255; len3 = 1 }
+twoMoves front lens = twoMovesOf (unpacked front .rank0) (unpacked front .rank1) (lens % 65536) (lens / 65536 % 65536)
 
 abbrev pub twoBegins : ℕ → ℕ → List ℕ
-twoBegins front lens =
-    if eqb (unpacked front .rank0) 0
-    then twoBases 0 (unpacked front .rank1 + lens % 65536 - 1)
-    else twoBases 1 (unpacked front .rank0 + lens / 65536 % 65536 - 1)
+twoBegins front lens = twoBeginsOf (unpacked front .rank0) (unpacked front .rank1) (lens % 65536) (lens / 65536 % 65536)
 
--- of a rule of dimension 2: the front's two components have other ranks, and lengths are few
+-- what this needs of them: ranks of 8 bits, not both 0, and lengths below 256
 pub record TwoRanks (front lens : ℕ) : Type 0 where
   pub short : Short (unpacked front)
   pub other : unpacked front .rank0 ≡ 0 → 0 < unpacked front .rank1
@@ -49,8 +55,7 @@ daughterAt t at j bs mark = packed (daughter bs (getD t (at + 2 + 2 * j) 0) (get
 -- its cells can make it
 pub record Makes (t : List ℕ) (at j : ℕ) (bs : List ℕ) (mark : ℕ) : Type 0 where
   pub sized : Sized (daughter bs (getD t (at + 2 + 2 * j) 0) (getD t (at + 3 + 2 * j) 0) mark)
-  pub alone : getD t (at + 3 + 2 * j) 0 % 8 ≡ 1 → Alone (getD t (at + 2 + 2 * j) 0) (getD t (at + 3 + 2 * j) 0)
-  pub paired : getD t (at + 3 + 2 * j) 0 % 8 < 3 → Paired (getD t (at + 2 + 2 * j) 0) (getD t (at + 3 + 2 * j) 0)
+  pub repeats : Repeats (getD t (at + 2 + 2 * j) 0) (getD t (at + 3 + 2 * j) 0)
 
 -- the queue after a step on the queue from..to, where others move by m
 abbrev pub expanded : List ℕ → ℕ → ℕ → ℕ → List ℕ → Moves → List ℕ → ℕ → ℕ → List ℕ
@@ -70,26 +75,26 @@ pub record WideStep (t : List ℕ) (at n mark : ℕ) (bs : List ℕ) (m : Moves)
   pub bounded : Bounded m
   pub makes : (j : ℕ) → j < n → Makes t at j bs mark
 
--- The step by comparing, for any rule that has not dimension 1: what it needs of the numbers, and the queue after it. The lengths of the rule's components are in
--- cell 1.
-abbrev pub Widens : List ℕ → ℕ → ℕ → ℕ → List ℕ → ℕ → ℕ → Type 0
-Widens t at n mark w from to =
+-- The step for any rule that does not have dimension 1, in which the front's ranks are compared with each other: what it needs of the numbers, and the queue after it.
+-- The lengths of the rule's components are in cell 1.
+abbrev pub ExpandsWide : List ℕ → ℕ → ℕ → ℕ → List ℕ → ℕ → ℕ → Type 0
+ExpandsWide t at n mark w from to =
     WideStep t at n mark (ranks (begun (getD w from 0) (getD t (at + 1) 0))) (gathered (ranks (unpacked (getD w from 0))) (lengthsOf (getD t (at + 1) 0))) w from to
     × Begins (getD w from 0) (getD t (at + 1) 0)
 
-abbrev pub widened : List ℕ → ℕ → ℕ → ℕ → List ℕ → ℕ → ℕ → List ℕ
-widened t at n mark w from to =
+abbrev pub expandedWide : List ℕ → ℕ → ℕ → ℕ → List ℕ → ℕ → ℕ → List ℕ
+expandedWide t at n mark w from to =
     expanded t at n mark (ranks (begun (getD w from 0) (getD t (at + 1) 0))) (gathered (ranks (unpacked (getD w from 0))) (lengthsOf (getD t (at + 1) 0))) w from to
 
--- the step without comparing, for a rule in pairs
-abbrev pub Doubles : List ℕ → ℕ → ℕ → ℕ → List ℕ → ℕ → ℕ → Type 0
-Doubles t at n mark w from to =
+-- the step for a rule of dimension 2 whose daughters have at most two components, in which they are not
+abbrev pub ExpandsTwo : List ℕ → ℕ → ℕ → ℕ → List ℕ → ℕ → ℕ → Type 0
+ExpandsTwo t at n mark w from to =
     WideStep t at n mark (twoBegins (getD w from 0) (getD t (at + 1) 0)) (twoMoves (getD w from 0) (getD t (at + 1) 0)) w from to
     × TwoRanks (getD w from 0) (getD t (at + 1) 0)
-    × (inPairs t at ≡ true)
+    × (ofTwo t at ≡ true)
 
-abbrev pub doubled : List ℕ → ℕ → ℕ → ℕ → List ℕ → ℕ → ℕ → List ℕ
-doubled t at n mark w from to =
+abbrev pub expandedTwo : List ℕ → ℕ → ℕ → ℕ → List ℕ → ℕ → ℕ → List ℕ
+expandedTwo t at n mark w from to =
     expanded t at n mark (twoBegins (getD w from 0) (getD t (at + 1) 0)) (twoMoves (getD w from 0) (getD t (at + 1) 0)) w from to
 
 -- A nonlexical step by rule r can be made on the queue from..to: the table is the grammar's, the rule is one of the front's category, steps reach the queue, the

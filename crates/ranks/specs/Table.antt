@@ -11,7 +11,7 @@ use Rattle.model.specs.Base.{if_then_else_, numbersFrom}
 use Rattle.model.specs.Grammar.{Rule, Grammar, ruleAt, isLexical, dimension}
 use Rattle.ranking.specs.Ranks.{Ranked, variableRanks, rankOf, lengths}
 use Rattle.ranks.specs.Queue.{insertAll}
-use Rattle.ranks.specs.Daughters.{daughter, Paired, Alone}
+use Rattle.ranks.specs.Daughters.{daughter, Repeats}
 use Rattle.ranks.specs.Moves.{lengthsOf}
 use Rattle.ranks.specs.Held.{inLanes, numberOf}
 
@@ -33,12 +33,12 @@ abbrev pub wordIn : List ℕ → ℕ → ℕ
 wordIn t at = getD t at 0 / 2048 % 65536
 
 -- daughter j has at most two components
-abbrev pub isPair : List ℕ → ℕ → ℕ → Bool
-isPair t at j = ltb (getD t (at + 3 + 2 * j) 0 % 8) 3
+abbrev pub atMostTwo : List ℕ → ℕ → ℕ → Bool
+atMostTwo t at j = ltb (getD t (at + 3 + 2 * j) 0 % 8) 3
 
 -- the category has two components, and each daughter at most two; a daughter that is not there has none
-abbrev pub inPairs : List ℕ → ℕ → Bool
-inPairs t at = if eqb (dimensionIn t at) 2 then if isPair t at 0 then if isPair t at 1 then isPair t at 2 else false else false else false
+abbrev pub ofTwo : List ℕ → ℕ → Bool
+ofTwo t at = if eqb (dimensionIn t at) 2 then if atMostTwo t at 0 then if atMostTwo t at 1 then atMostTwo t at 2 else false else false else false
 
 -- n ones
 abbrev pub ones : ℕ → List ℕ
@@ -76,8 +76,7 @@ pub record WideCells (g : Grammar) (rule : Rule) (t : List ℕ) (at : ℕ) : Typ
   pub makes
       : (j : ℕ) → j < length (rule .daughters) → (bs : List ℕ) → length bs ≡ 4 → (mark : ℕ)
       → daughter bs (getD t (at + 2 + 2 * j) 0) (getD t (at + 3 + 2 * j) 0) mark ≡ inLanes (daughterOf g rule (take (length (rule .components)) bs) mark j)
-  pub alone : (j : ℕ) → j < length (rule .daughters) → getD t (at + 3 + 2 * j) 0 % 8 ≡ 1 → Alone (getD t (at + 2 + 2 * j) 0) (getD t (at + 3 + 2 * j) 0)
-  pub paired : (j : ℕ) → j < length (rule .daughters) → getD t (at + 3 + 2 * j) 0 % 8 < 3 → Paired (getD t (at + 2 + 2 * j) 0) (getD t (at + 3 + 2 * j) 0)
+  pub repeats : (j : ℕ) → j < length (rule .daughters) → Repeats (getD t (at + 2 + 2 * j) 0) (getD t (at + 3 + 2 * j) 0)
 
 -- of a rule of dimension 1: its component begins at rank 0, and cells 2, 4 and 6 are its daughters as numbers, in rising order
 pub record NarrowCells (g : Grammar) (rule : Rule) (t : List ℕ) (at : ℕ) : Type 0 where

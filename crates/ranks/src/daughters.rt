@@ -1,6 +1,5 @@
 // The daughters of a nonlexical step, as predictions of the next queue.
 ghost use mathlib.Core.Path.{_≡_};
-ghost use mathlib.Core.List.{[], _∷_};
 ghost use Prim.Native.Nat.{_+_, _*_, _%_, _<_, _≤_, min, max};
 ghost use lib.ListN.{length, getD};
 ghost use Rattle.ranks.specs.Prediction.{Sized, packed};
@@ -104,36 +103,36 @@ pub fn made_at(t: &[u64; TABLE], at: usize, d: usize, j: usize, b: &[u64; 4], ma
     }
 }
 
-// The daughter of these two cells, which has at most two components, of a front that has two. `turned` is 0 where component 0 of the front has rank 0, and 1
-// where component 1 has; what takes the place of the other one begins at rank `base`.
-fn made_two(cell: u64, places: u64, turned: u64, base: u64, mark: u64) -> u64
-    requires { ⌜ MakesTwo cell places turned base mark ⌝ }
-    ensures { λ r. ⌜ r ≡ packed (daughter (twoBases turned base) cell places mark) ⌝ }
+// The daughter of these two cells, which has at most two components, for a front of two. Component `lowest` of the front has rank 0, and what takes the place of
+// the other begins at rank `base`. A place is 0 or 1, so that it is the other's where place and `lowest` add up to 1.
+fn made_two(cell: u64, places: u64, lowest: u64, base: u64, mark: u64) -> u64
+    requires { ⌜ MakesTwo cell places lowest base mark ⌝ }
+    ensures { λ r. ⌜ r ≡ packed (daughter (twoBases lowest base) cell places mark) ⌝ }
 {
-    let far0 = (places / PLACE0 + turned) % 2;
-    let far1 = (places / PLACE1 + turned) % 2;
+    let far0 = (places / PLACE0 + lowest) % 2;
+    let far1 = (places / PLACE1 + lowest) % 2;
     let y = lifted(cell, far0, far1, base, mark);
     with_least(y, smaller(rank(y, 0), rank(y, 1)))
 }
 
-// Daughter j of d so, from the cells of the rule that begin at `at`, or 0 where there are not so many.
+// Daughter j of d, made in this way from the cells of the rule that begin at `at`, or 0 where there are not so many.
 pub fn made_two_at(
     t: &[u64; TABLE],
     at: usize,
     d: usize,
     j: usize,
-    turned: u64,
+    lowest: u64,
     base: u64,
     mark: u64,
 ) -> u64
-    requires { ⌜ (at + 8 ≤ 2048) × (j < 3) × (j < d → MakesTwo (getD (now t) (at + 2 + 2 * j) 0) (getD (now t) (at + 3 + 2 * j) 0) turned base mark) ⌝ }
-    ensures { λ r. ⌜ (j < d → r ≡ daughterAt (now (t .entry)) at j (twoBases turned base) mark) ⌝ }
+    requires { ⌜ (at + 8 ≤ 2048) × (j < 3) × (j < d → MakesTwo (getD (now t) (at + 2 + 2 * j) 0) (getD (now t) (at + 3 + 2 * j) 0) lowest base mark) ⌝ }
+    ensures { λ r. ⌜ (j < d → r ≡ daughterAt (now (t .entry)) at j (twoBases lowest base) mark) ⌝ }
 {
     if j < d {
         made_two(
             daughter_cell(t, at, j),
             places_cell(t, at, j),
-            turned,
+            lowest,
             base,
             mark,
         )

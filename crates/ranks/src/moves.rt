@@ -1,7 +1,7 @@
 // Which components of the front move the ranks of the queue: those whose lengths are not 1.
 ghost use mathlib.Core.Path.{_≡_};
 ghost use mathlib.Core.List.{[], _∷_};
-ghost use Prim.Native.Nat.{_+_, _<_, _≤_};
+ghost use Prim.Native.Nat.{_<_};
 ghost use Rattle.ranking.specs.Ranks.{shifted};
 ghost use Rattle.ranks.specs.Prediction.{ranks, unpacked, Short, Behind, Apart, remade};
 ghost use Rattle.ranks.specs.Queue.{Roomy, Every, Mapped};
@@ -69,7 +69,8 @@ pub fn moves_of(front: u64, lens: u64) -> Moves
     with_one(m1, f.c0, n.c0)
 }
 
-// The predictions from..to, which are behind the front, to `out` on, where its component of rank 0 gives way to len0 variables, and another, of rank f1, to len1.
+// The predictions from..to, which are behind the front, to `out` on, where its component of rank 0 gives way to len0 variables, and another, of rank f1, to len1;
+// where there is no other, len1 is 1.
 pub fn advance_two(
     w: &mut [u64; ROOM],
     from: usize,

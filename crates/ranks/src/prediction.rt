@@ -2,11 +2,11 @@
 // where there is no component. How it is packed is known in this file alone. A rank is below 256: one bit of its 9 is free.
 ghost use mathlib.Core.Path.{_≡_};
 ghost use mathlib.Core.List.{[], _∷_};
-ghost use Prim.Native.Nat.{_+_, _*_, _<_, _≤_};
+ghost use Prim.Native.Nat.{_+_, _*_, _<_};
 ghost use lib.ListN.{getD};
 ghost use Rattle.ranking.specs.Ranks.{above, shifted};
 ghost use Rattle.ranks.specs.Table.{marked};
-ghost use Rattle.ranks.specs.Prediction.{Prediction, Short, Behind, Apart, Sized, Flags, ranks, packed, unpacked, marks, remade, listed};
+ghost use Rattle.ranks.specs.Prediction.{Short, Behind, Apart, Sized, Flags, ranks, packed, unpacked, marks, remade, listed};
 ghost use Rattle.ranks.specs.Moves.{movesRanks, movesLengths, Bounded, Small};
 use model::Category;
 
@@ -42,7 +42,7 @@ const RANK3: u64 = 134217728;
 const RANK2: u64 = 262144;
 
 const RANK1: u64 = 512;
-// 1 in the places of the ranks of a prediction with at most two components, but for the rank of component 1.
+// 1 in the places of ranks 0, 2 and 3: of component 0, and of those that repeat it where there are two components.
 const FIRST: u64 = 134479873;
 // 1 in the place of each rank, the least one's too.
 const ONES: u64 = 2251799948165633;
@@ -85,8 +85,8 @@ pub fn alone(x: u64, b: u64, mark: u64) -> u64
     x + b * ONES + x % LANE * LEAST + mark * NUMBER
 }
 
-// The prediction x, which has at most two components and no least rank, with `mark` added to its number, and with `base` added to the rank of component 0 where
-// far0 is 1, and to that of component 1 where far1 is 1.
+// The prediction x, which has at most two components and 0 in the place of its least rank, with `mark` added to its number, and with `base` added to the rank
+// of component 0 where far0 is 1, and to that of component 1 where far1 is 1; where there is one component, far1 is far0.
 pub fn lifted(x: u64, far0: u64, far1: u64, base: u64, mark: u64) -> u64
     requires { ⌜ (unpacked x .least ≡ 0) × (far0 < 2) × (far1 < 2) × (base < 512) × (mark < 512) ⌝ }
     ensures { λ y. ⌜ y ≡ x + base * (far0 * 134479873 + far1 * 512) + mark * 4398046511104 ⌝ }
@@ -94,9 +94,9 @@ pub fn lifted(x: u64, far0: u64, far1: u64, base: u64, mark: u64) -> u64
     x + base * (far0 * FIRST + far1 * RANK1) + mark * NUMBER
 }
 
-// The prediction x, which has no least rank, with this one.
+// The prediction x, which has 0 in the place of its least rank, with `least` there.
 pub fn with_least(x: u64, least: u64) -> u64
-    requires { ⌜ (x < 4503599627370496) × (least < 512) ⌝ }
+    requires { ⌜ (unpacked x .least ≡ 0) × (least < 512) ⌝ }
     ensures { λ y. ⌜ y ≡ x + least * 2251799813685248 ⌝ }
 {
     x + least * LEAST

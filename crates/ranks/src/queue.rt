@@ -1,14 +1,12 @@
 // The queue: a rising list of predictions, each one number, as the part from..to of a lent array. A step reads from..to and writes the next queue
 // behind it, so that the queues of all steps of a run stand one behind the other.
-ghost use mathlib.Core.Path.{_≡_};
 ghost use mathlib.Core.List.{[], _∷_};
 ghost use Prim.Native.Nat.{_+_, _-_, _<_, _≤_};
-ghost use lib.ListN.{length};
 ghost use Rattle.ranking.specs.Ranks.{shifted};
 ghost use Rattle.ranks.specs.Prediction.{Short, Behind, Apart, remade};
 ghost use Rattle.ranks.specs.Moves.{movesRanks, movesLengths, Bounded};
 ghost use Rattle.ranks.specs.Held.{FirstQueue};
-ghost use Rattle.ranks.specs.Queue.{room, Roomy, Gap, Every, Mapped, Settled, Placed};
+ghost use Rattle.ranks.specs.Queue.{Roomy, Gap, Every, Mapped, Settled, Placed};
 use crate::prediction::Moves;
 use crate::prediction::moved1;
 use crate::prediction::moved3;

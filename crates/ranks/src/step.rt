@@ -1,5 +1,4 @@
 // A nonlexical step on the queue.
-ghost use mathlib.Core.Path.{_≡_};
 ghost use mathlib.Core.List.{[], _∷_, _++_, map};
 ghost use Prim.Native.Nat.{_+_, _-_, _<_, _≤_};
 ghost use lib.ListN.{take};
@@ -7,7 +6,7 @@ ghost use lib.Seq.{slice};
 ghost use Rattle.ranking.specs.Ranks.{shifted};
 ghost use Rattle.ranks.specs.Prediction.{Short, Behind, Apart, remade};
 ghost use Rattle.ranks.specs.Moves.{movesRanks, movesLengths, Bounded};
-ghost use Rattle.ranks.specs.Step.{Widens, widened, Doubles, doubled, Expandable, Expanded};
+ghost use Rattle.ranks.specs.Step.{ExpandsWide, expandedWide, ExpandsTwo, expandedTwo, Expandable, Expanded};
 ghost use Rattle.ranks.specs.Queue.{Every, Gap, Placed, Steps, Next, insertAll};
 use crate::daughters::larger;
 use crate::daughters::made_at;
@@ -25,15 +24,15 @@ use crate::queue::settle1;
 use crate::queue::settle2;
 use crate::queue::settle3;
 use crate::queue::shift;
-use crate::table::LENGTH;
 use crate::table::TABLE;
 use crate::table::daughters;
 use crate::table::dimension;
 use crate::table::first_length;
-use crate::table::in_pairs;
 use crate::table::lengths;
+use crate::table::of_two;
 use crate::table::place_of;
 use crate::table::ready_made;
+use crate::table::second_length;
 use model::RuleNumber;
 
 // A step by a rule of dimension 1. Its component has len variables, so the d daughters, the first d of e0, e1 and e2, hold the ranks below len, and every
@@ -104,8 +103,8 @@ fn expand_wide(
     d: usize,
     mark: u64,
 )
-    requires { ⌜ Widens (now t) at d mark (now w) from to ⌝ }
-    ensures { λ r. ⌜ Next (widened (now (t .entry)) at d mark (now (w .entry)) from to) (now (w .entry)) (now (w .exit)) to (to + d + (to - (from + 1))) ⌝ }
+    requires { ⌜ ExpandsWide (now t) at d mark (now w) from to ⌝ }
+    ensures { λ r. ⌜ Next (expandedWide (now (t .entry)) at d mark (now (w .entry)) from to) (now (w .entry)) (now (w .exit)) to (to + d + (to - (from + 1))) ⌝ }
 {
     let front = w[from];
     let lens = lengths(t, at);
@@ -116,8 +115,9 @@ fn expand_wide(
     replace(w, from, to, d, moves_of(front, lens), e0, e1, e2);
 }
 
-// The same for a rule of dimension 2 whose daughters have at most two components. One of the front's components has rank 0, so that nothing is compared to know
-// where ranks go. The two orders of its components are apart in the code: what is made of the daughters does not wait for the front's ranks.
+// The same for a rule of dimension 2 whose daughters have at most two components. One of the front's components has rank 0, so that the front's ranks are not
+// compared with each other to know where they begin. Each order of the two has its own arm: which of them has rank 0 is a constant there, so that the table alone
+// tells which ranks of a daughter begin at `base`.
 fn expand_two(
     t: &[u64; TABLE],
     w: &mut [u64; ROOM],
@@ -127,15 +127,14 @@ fn expand_two(
     d: usize,
     mark: u64,
 )
-    requires { ⌜ Doubles (now t) at d mark (now w) from to ⌝ }
-    ensures { λ r. ⌜ Next (doubled (now (t .entry)) at d mark (now (w .entry)) from to) (now (w .entry)) (now (w .exit)) to (to + d + (to - (from + 1))) ⌝ }
+    requires { ⌜ ExpandsTwo (now t) at d mark (now w) from to ⌝ }
+    ensures { λ r. ⌜ Next (expandedTwo (now (t .entry)) at d mark (now (w .entry)) from to) (now (w .entry)) (now (w .exit)) to (to + d + (to - (from + 1))) ⌝ }
 {
     let front = w[from];
-    let lens = lengths(t, at);
+    let len0 = first_length(t, at);
+    let len1 = second_length(t, at);
     let f0 = rank(front, 0);
     let f1 = rank(front, 1);
-    let len0 = lens % LENGTH;
-    let len1 = lens / LENGTH % LENGTH;
     let end = to + d + (to - (from + 1));
     if f0 == 0 {
         let base = f1 + len0 - 1;
@@ -177,7 +176,7 @@ pub fn expand(
         expand_narrow(w, from, to, d, len, e0, e1, e2);
         return;
     }
-    if !in_pairs(t, at) {
+    if !of_two(t, at) {
         expand_wide(t, w, from, to, at, d, mark);
         return;
     }

@@ -1,11 +1,11 @@
 // The rules of a grammar as a table, made once for a call: CELLS cells a rule, which begin at the place that `place_of` gives. How a cell is packed is known
 // by the constants of this file, by which the table is made too (crate `rule_table`).
 ghost use mathlib.Core.Path.{_≡_};
-ghost use Prim.Native.Nat.{_+_, _*_, _%_, _<_, _≤_};
+ghost use Prim.Native.Nat.{_+_, _*_, _/_, _%_, _<_, _≤_};
 ghost use lib.ListN.{getD};
 ghost use Rattle.ranks.specs.Prediction.{listed};
 ghost use Rattle.ranks.specs.Moves.{lengthsOf};
-ghost use Rattle.ranks.specs.Table.{daughtersIn, dimensionIn, categoryIn, wordIn, isPair, inPairs, marked};
+ghost use Rattle.ranks.specs.Table.{daughtersIn, dimensionIn, categoryIn, wordIn, atMostTwo, ofTwo, marked};
 use crate::prediction::Four;
 use crate::prediction::marked;
 use model::Category;
@@ -117,6 +117,14 @@ pub fn first_length(t: &[u64; TABLE], at: usize) -> u64
     t[at + LENGTHS] % LENGTH
 }
 
+// The length of the second.
+pub fn second_length(t: &[u64; TABLE], at: usize) -> u64
+    requires { ⌜ at + 8 ≤ 2048 ⌝ }
+    ensures { λ n. ⌜ n ≡ getD (now (t .entry)) (at + 1) 0 / 65536 % 65536 ⌝ }
+{
+    t[at + LENGTHS] / LENGTH % LENGTH
+}
+
 // Daughter j as a prediction with positions for ranks.
 pub fn daughter_cell(t: &[u64; TABLE], at: usize, j: usize) -> u64
     requires { ⌜ (at + 8 ≤ 2048) × (j < 3) ⌝ }
@@ -141,23 +149,23 @@ pub fn ready_made(t: &[u64; TABLE], at: usize, j: usize, mark: u64) -> u64
     marked(daughter_cell(t, at, j), mark)
 }
 
-// Whether there are at most two components in daughter j.
-fn is_pair(t: &[u64; TABLE], at: usize, j: usize) -> bool
+// Whether daughter j has at most two components; one that is not there has none.
+fn at_most_two(t: &[u64; TABLE], at: usize, j: usize) -> bool
     requires { ⌜ (at + 8 ≤ 2048) × (j < 3) ⌝ }
-    ensures { λ b. ⌜ b ≡ isPair (now (t .entry)) at j ⌝ }
+    ensures { λ b. ⌜ b ≡ atMostTwo (now (t .entry)) at j ⌝ }
 {
     places_cell(t, at, j) % DIMENSIONS < 3
 }
 
 // Whether the category has two components, and each daughter at most two.
-pub fn in_pairs(t: &[u64; TABLE], at: usize) -> bool
+pub fn of_two(t: &[u64; TABLE], at: usize) -> bool
     requires { ⌜ at + 8 ≤ 2048 ⌝ }
-    ensures { λ b. ⌜ b ≡ inPairs (now (t .entry)) at ⌝ }
+    ensures { λ b. ⌜ b ≡ ofTwo (now (t .entry)) at ⌝ }
 {
     if dimension(t, at) == 2 {
-        if is_pair(t, at, 0) {
-            if is_pair(t, at, 1) {
-                return is_pair(t, at, 2);
+        if at_most_two(t, at, 0) {
+            if at_most_two(t, at, 1) {
+                return at_most_two(t, at, 2);
             }
         }
     }

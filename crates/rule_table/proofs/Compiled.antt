@@ -19,7 +19,7 @@ use Rattle.model.proofs.FromFile.{rule-is, rules-in, record-tested, dimensions-
 use Rattle.grammar.proofs.OfGrammar.{components-are}
 use Rattle.ranking.specs.Ranks.{lengths}
 use Rattle.ranks.specs.Prediction.{packed}
-use Rattle.ranks.specs.Daughters.{daughter, Paired, Alone}
+use Rattle.ranks.specs.Daughters.{daughter, Repeats}
 use Rattle.ranks.specs.Moves.{lengthsOf}
 use Rattle.ranks.specs.Queue.{insertAll}
 use Rattle.ranks.specs.Held.{numberOf}
@@ -27,7 +27,7 @@ use Rattle.ranks.specs.Table.{ones, marked, daughtersOf, readyMade, RuleLengths
 use Rattle.rule_table.specs.Cells.{dimensionOf, headCell, lengthIn, lengthsCell, positions, placesCell, pairOf, readyCell, ready, narrowCells, wideCells, someCells, lexicalCells, cellsOf}
 use Rattle.rule_table.proofs.Ordering.{listOf, order-settles, order-first, order-second, order-below, order-all}
 use Rattle.rule_table.proofs.RuleVariables.{few, component-most, component-length}
-use Rattle.rule_table.proofs.DaughterCells.{width-four, paired-is, alone-is, makes-is}
+use Rattle.rule_table.proofs.DaughterCells.{width-four, repeats-is, makes-is}
 use Rattle.rule_table.proofs.ReadyMade.{ready-small, pair-is, ready-within, ready-all}
 
 -- every number of the list is a byte
@@ -204,16 +204,11 @@ module _ (file : List ℕ) (bytes : Bytes file) (accepted : grammarRefusal file 
                   let k : j < n = omega (arith, h, daughters-length g e tested) in
                   let c = pair-cells j k in
                   ap₂ (λ (x y : ℕ). daughter bs x y mark) (c .0) (c .1) ∙ makes-is file accepted r here some j k bs l mark;
-              alone = λ j h one.
+              repeats = λ j h.
                   let k : j < n = omega (arith, h, daughters-length g e tested) in
                   let c = pair-cells j k in
-                  subst (λ (p : ℕ × ℕ). Alone (p .0) (p .1)) (λ i. (sym (c .0) i, sym (c .1) i))
-                  (alone-is d e j (omega (arith, k, three g e tested)) (omega (arith, width-four file accepted r here some j k)) (ap (λ (y : ℕ). y % 8) (sym (c .1)) ∙ one));
-              paired = λ j h two.
-                  let k : j < n = omega (arith, h, daughters-length g e tested) in
-                  let c = pair-cells j k in
-                  subst (λ (p : ℕ × ℕ). Paired (p .0) (p .1)) (λ i. (sym (c .0) i, sym (c .1) i))
-                  (paired-is d e j (omega (arith, k, three g e tested)) (omega (arith, width-four file accepted r here some j k)) (subst (λ (y : ℕ). y % 8 < 3) (c .1) two));
+                  subst (λ (p : ℕ × ℕ). Repeats (p .0) (p .1)) (λ i. (sym (c .0) i, sym (c .1) i))
+                  (repeats-is d e j (omega (arith, k, three g e tested)) (omega (arith, width-four file accepted r here some j k)));
             }
 
       -- the cells of a rule of dimension 1

@@ -20,7 +20,7 @@ use Rattle.grammar.proofs.OfGrammar.{daughter-is}
 use Rattle.ranking.specs.Ranks.{variableRanks, rankOf}
 use Rattle.ranks.specs.Prediction.{packed, unpacked}
 use Rattle.ranks.specs.Held.{laneOf, inLanes}
-use Rattle.ranks.specs.Daughters.{daughter, Paired, Alone}
+use Rattle.ranks.specs.Daughters.{daughter, AtMostTwo, Alone, Repeats}
 use Rattle.ranks.specs.Table.{daughterOf}
 use Rattle.ranks.proofs.Fitting.{least-lanes}
 use Rattle.ranks.proofs.Packing.{packed-least, packed-number, packed-category, packed-rank0, packed-rank1, packed-rank2, packed-rank3}
@@ -82,8 +82,8 @@ not-there e n j c h = ap (λ (b : Bool). if b then standOf e j c else standOf e 
     zeroth true = refl
     zeroth false = refl
 
-pub paired-is : (d e : List ℕ) (j : ℕ) → j < 3 → width d e j < 8 → placesCell d e j % 8 < 3 → Paired (packed (positions d e j)) (placesCell d e j)
-paired-is d e j h few two =
+at-most-two-is : (d e : List ℕ) (j : ℕ) → j < 3 → width d e j < 8 → placesCell d e j % 8 < 3 → AtMostTwo (packed (positions d e j)) (placesCell d e j)
+at-most-two-is d e j h few two =
     let w = wide-is d e j few in
     let p = positions d e j in
     let z = positions-sized d e j h in
@@ -97,16 +97,19 @@ paired-is d e j h few two =
       place3 = place3 d e j few ∙ ap (λ (t : Stand). t .component) o3 ∙ sym (place0 d e j few);
     }
 
-pub alone-is : (d e : List ℕ) (j : ℕ) → j < 3 → width d e j < 8 → placesCell d e j % 8 ≡ 1 → Alone (packed (positions d e j)) (placesCell d e j)
+alone-is : (d e : List ℕ) (j : ℕ) → j < 3 → width d e j < 8 → placesCell d e j % 8 ≡ 1 → Alone (packed (positions d e j)) (placesCell d e j)
 alone-is d e j h few one =
     let p = positions d e j in
     let z = positions-sized d e j h in
     let o1 = not-there e (width d e j) j 1 (omega (arith, wide-is d e j few)) in
     record {
-      paired = paired-is d e j h few (omega arith);
+      at-most-two = at-most-two-is d e j h few (omega arith);
       rank1 = packed-rank1 p z ∙ ap (λ (t : Stand). t .position) o1 ∙ sym (packed-rank0 p z);
       place1 = place1 d e j few ∙ ap (λ (t : Stand). t .component) o1 ∙ sym (place0 d e j few);
     }
+
+pub repeats-is : (d e : List ℕ) (j : ℕ) → j < 3 → width d e j < 8 → Repeats (packed (positions d e j)) (placesCell d e j)
+repeats-is d e j h few = record { one = alone-is d e j h few; two = at-most-two-is d e j h few }
 
 -- a nonlexical rule of an accepted file, and one of its daughters
 module _ (file : List ℕ) (accepted : grammarRefusal file ≡ none) (r : ℕ) (here : r < rulesOf file) (some : 0 < field (recordOf file r) 1) (j : ℕ) (h : j < field (recordOf file r) 1) where

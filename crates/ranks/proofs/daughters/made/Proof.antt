@@ -2,7 +2,7 @@
 -- Assumes nothing.
 use mathlib.Core.Path.{_∙_}
 use native.Mathlib.Omega.{arith}
-use Rattle.ranks.proofs.Two.{alone-made}
+use Rattle.ranks.proofs.TwoComponents.{alone-made}
 use borrow.Author.Needs.{needs}
 use Rattle.ranks.proofs.daughters.made.Statement.{statement}
 use Rattle.ranks.proofs.daughters.made.Tie as tie
@@ -17,7 +17,7 @@ alone-requires : tie.Need-alone-requires
 alone-requires c κs =
     let s = c .before .before in
     let h = s .pre .2 (c .before .if1 .taken) in
-    (h .paired .least, s .pre .1 .lanes .rank0, omega (arith, s .pre .1 .number))
+    (h .at-most-two .least, s .pre .1 .lanes .rank0, omega (arith, s .pre .1 .number))
 
 returns : tie.Need-returns
 returns c =

@@ -22,7 +22,7 @@ made-requires c κs =
     let m = s .pre .3 (c .before .before .if1 .taken) in
     let x = c .before .daughter-cell in
     let y = c .places-cell in
-    (s .pre .2, read-as (λ (u v : ℕ). Sized (daughter (a .b .now) u v (a .mark))) (x .ensures) (y .ensures) (m .sized), read-as (λ (u v : ℕ). v % 8 ≡ 1 → Alone u v) (x .ensures) (y .ensures) (m .alone))
+    (s .pre .2, read-as (λ (u v : ℕ). Sized (daughter (a .b .now) u v (a .mark))) (x .ensures) (y .ensures) (m .sized), read-as (λ (u v : ℕ). v % 8 ≡ 1 → Alone u v) (x .ensures) (y .ensures) (m .repeats .one))
 
 returns : tie.Need-returns
 returns c =

@@ -19,12 +19,12 @@ made-two-requires : tie.Need-made-two-requires
 made-two-requires c κs =
     let s = c .before .before .before in
     let a = s .args in
-    read-as (λ (u v : ℕ). MakesTwo u v (a .turned) (a .base) (a .mark)) (c .before .daughter-cell .ensures) (c .places-cell .ensures) (s .pre .2 (c .before .before .if1 .taken))
+    read-as (λ (u v : ℕ). MakesTwo u v (a .lowest) (a .base) (a .mark)) (c .before .daughter-cell .ensures) (c .places-cell .ensures) (s .pre .2 (c .before .before .if1 .taken))
 
 returns : tie.Need-returns
 returns c =
     let a = c .before .before .before .before .args in
-    λ l. c .made-two .ensures ∙ ap₂ (λ (u v : ℕ). packed (daughter (twoBases (a .turned) (a .base)) u v (a .mark))) (c .before .before .daughter-cell .ensures) (c .before .places-cell .ensures)
+    λ l. c .made-two .ensures ∙ ap₂ (λ (u v : ℕ). packed (daughter (twoBases (a .lowest) (a .base)) u v (a .mark))) (c .before .before .daughter-cell .ensures) (c .before .places-cell .ensures)
 
 returns-2 : tie.Need-returns-2
 returns-2 c = search needs

@@ -2,7 +2,7 @@
 -- Assumes nothing.
 use native.Mathlib.Omega.{arith}
 use borrow.Author.Needs.{needs}
-use Rattle.ranks.proofs.Doubled.{far-small}
+use Rattle.ranks.proofs.TwoComponents.{far-small}
 use Rattle.ranks.proofs.prediction.lifted.Statement.{statement}
 use Rattle.ranks.proofs.prediction.lifted.Tie as tie
 

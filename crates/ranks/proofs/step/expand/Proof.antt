@@ -1,20 +1,20 @@
 -- `ranks::step::expand` meets its contract.
 -- Assumes nothing.
-use mathlib.Core.Path.{_≡_, refl, sym, ap, ap₂, subst, subst⁻¹, _∙_}
-use mathlib.Core.Bool.{Bool, true, false, not}
+use mathlib.Core.Path.{_≡_, sym, ap, ap₂, subst, subst⁻¹, _∙_}
+use mathlib.Core.Bool.{Bool, true}
 use mathlib.Core.List.{List, [], _∷_, _++_, map}
 use Prim.Native.Nat.{ℕ, _+_, _-_, _*_}
 use native.Mathlib.Omega.{arith}
 use borrow.Author.Needs.{needs}
 use lib.ListN.{length, take}
 use lib.Seq.{slice}
-use Rattle.model.proofs.Tests.{not-both}
+use Rattle.model.proofs.Tests.{passes, not-off}
 use Rattle.ranking.specs.Ranks.{shifted}
 use Rattle.ranks.specs.Prediction.{remade}
 use Rattle.ranks.specs.Queue.{Steps, Next}
-use Rattle.ranks.specs.Table.{inPairs}
-use Rattle.ranks.specs.Step.{Widens, widened, Doubles, doubled}
-use Rattle.ranks.proofs.Expanding.{dimension-at, other-at, cells-at, daughters-at, step-fits, short, behind, end-is, widens, wide-is, doubles, doubled-is, ready-small, length-at, narrow-written}
+use Rattle.ranks.specs.Table.{ofTwo}
+use Rattle.ranks.specs.Step.{ExpandsWide, expandedWide, ExpandsTwo, expandedTwo}
+use Rattle.ranks.proofs.Expanding.{dimension-at, other-at, cells-at, daughters-at, step-fits, short, behind, end-is, expands-wide, wide-written, expands-two, two-written, ready-small, length-at, narrow-written}
 use Rattle.ranks.proofs.Stepping.{read-as}
 use Rattle.ranks.proofs.step.expand.Statement.{statement}
 use Rattle.ranks.proofs.step.expand.Tie as tie
@@ -113,8 +113,8 @@ returns c =
           (ap (λ (m : ℕ). a .to + m + (a .to - (a .from + 1))) k ∙ end-is g (a .t .now) (a .w .now) (a .r .0) (a .mark) (a .from) (a .to) h) (c .expand-narrow .ensures);
     }
 
-in-pairs-requires : tie.Need-in-pairs-requires
-in-pairs-requires c κs =
+of-two-requires : tie.Need-of-two-requires
+of-two-requires c κs =
     let s = c .before .before .before .before in
     let a = s .args in
     let p = s .pre in
@@ -129,7 +129,7 @@ expand-wide-requires c κs =
     let n = c .before .before .before .before .before .daughters in
     let d = c .before .before .before .before .dimension in
     let more = other-at (p .grammar) (a .t .now) (a .w .now) (a .r .0) (a .mark) (a .from) (a .to) (p .expands) (at .result) (d .result) 1 (at .ensures) (d .ensures) (c .before .before .before .if1 .left) in
-    read-as (λ (i m : ℕ). Widens (a .t .now) i m (a .mark) (a .w .now) (a .from) (a .to)) (at .ensures) (daughters-at (p .grammar) (a .t .now) (a .w .now) (a .r .0) (a .mark) (a .from) (a .to) (p .expands) (at .result) (n .result) (at .ensures) (n .ensures .0)) (widens (p .grammar) (a .t .now) (a .w .now) (a .r .0) (a .mark) (a .from) (a .to) (p .expands) more)
+    read-as (λ (i m : ℕ). ExpandsWide (a .t .now) i m (a .mark) (a .w .now) (a .from) (a .to)) (at .ensures) (daughters-at (p .grammar) (a .t .now) (a .w .now) (a .r .0) (a .mark) (a .from) (a .to) (p .expands) (at .result) (n .result) (at .ensures) (n .ensures .0)) (expands-wide (p .grammar) (a .t .now) (a .w .now) (a .r .0) (a .mark) (a .from) (a .to) (p .expands) more)
 
 returns-2 : tie.Need-returns-2
 returns-2 c =
@@ -142,17 +142,13 @@ returns-2 c =
           let k : n .result ≡ length (h .rule .daughters) = daughters-at g (a .t .now) (a .w .now) (a .r .0) (a .mark) (a .from) (a .to) h (at .result) (n .result) (at .ensures) (n .ensures .0) in
           let more = other-at g (a .t .now) (a .w .now) (a .r .0) (a .mark) (a .from) (a .to) h (at .result) (d .result) 1 (at .ensures) (d .ensures) (c .before .before .before .before .if1 .left) in
           written-as (a .w .now) (c .expand-wide .last .1 .0) (a .to)
-          (ap₂ (λ (i m : ℕ). widened (a .t .now) i m (a .mark) (a .w .now) (a .from) (a .to)) (at .ensures) k ∙ wide-is g (a .t .now) (a .w .now) (a .r .0) (a .mark) (a .from) (a .to) h more)
+          (ap₂ (λ (i m : ℕ). expandedWide (a .t .now) i m (a .mark) (a .w .now) (a .from) (a .to)) (at .ensures) k ∙ wide-written g (a .t .now) (a .w .now) (a .r .0) (a .mark) (a .from) (a .to) h more)
           (ap (λ (m : ℕ). a .to + m + (a .to - (a .from + 1))) k ∙ end-is g (a .t .now) (a .w .now) (a .r .0) (a .mark) (a .from) (a .to) h) (c .expand-wide .ensures);
     }
 
--- a rule that is not otherwise is in pairs
-in-pairs-at : (t : List ℕ) (at r : ℕ) (b : Bool) → b ≡ inPairs t at → at ≡ 8 * r → b ≡ true → inPairs t (8 * r) ≡ true
-in-pairs-at t at r b e f h = sym (ap (inPairs t) f) ∙ sym e ∙ h
-
-not-so : (b : Bool) → not b ≡ false → b ≡ true
-not-so true e = refl
-not-so false e = not-both e
+-- what `of_two` answers, of the cells of rule r
+of-two-at : (t : List ℕ) (at r : ℕ) (b : Bool) → b ≡ ofTwo t at → at ≡ 8 * r → b ≡ true → ofTwo t (8 * r) ≡ true
+of-two-at t at r b e f h = sym (ap (ofTwo t) f) ∙ sym e ∙ h
 
 expand-two-requires : tie.Need-expand-two-requires
 expand-two-requires c κs =
@@ -162,10 +158,10 @@ expand-two-requires c κs =
     let at = c .before .before .before .before .before .before .place-of in
     let n = c .before .before .before .before .before .daughters in
     let d = c .before .before .before .before .dimension in
-    let i = c .before .before .in-pairs in
+    let i = c .before .before .of-two in
     let more = other-at (p .grammar) (a .t .now) (a .w .now) (a .r .0) (a .mark) (a .from) (a .to) (p .expands) (at .result) (d .result) 1 (at .ensures) (d .ensures) (c .before .before .before .if1 .left) in
-    let pairs = in-pairs-at (a .t .now) (at .result) (a .r .0) (i .result) (i .ensures) (at .ensures) (not-so (i .result) (c .before .if2 .left)) in
-    read-as (λ (i m : ℕ). Doubles (a .t .now) i m (a .mark) (a .w .now) (a .from) (a .to)) (at .ensures) (daughters-at (p .grammar) (a .t .now) (a .w .now) (a .r .0) (a .mark) (a .from) (a .to) (p .expands) (at .result) (n .result) (at .ensures) (n .ensures .0)) (doubles (p .grammar) (a .t .now) (a .w .now) (a .r .0) (a .mark) (a .from) (a .to) (p .expands) more pairs)
+    let two = of-two-at (a .t .now) (at .result) (a .r .0) (i .result) (i .ensures) (at .ensures) (passes (i .result) (not-off (i .result) (c .before .if2 .left))) in
+    read-as (λ (i m : ℕ). ExpandsTwo (a .t .now) i m (a .mark) (a .w .now) (a .from) (a .to)) (at .ensures) (daughters-at (p .grammar) (a .t .now) (a .w .now) (a .r .0) (a .mark) (a .from) (a .to) (p .expands) (at .result) (n .result) (at .ensures) (n .ensures .0)) (expands-two (p .grammar) (a .t .now) (a .w .now) (a .r .0) (a .mark) (a .from) (a .to) (p .expands) more two)
 
 returns-3 : tie.Need-returns-3
 returns-3 c =
@@ -173,14 +169,14 @@ returns-3 c =
     let at = c .before .before .before .before .before .before .before .place-of in
     let n = c .before .before .before .before .before .before .daughters in
     let d = c .before .before .before .before .before .dimension in
-    let i = c .before .before .before .in-pairs in
+    let i = c .before .before .before .of-two in
     record {
       of-grammar = λ g h.
           let k : n .result ≡ length (h .rule .daughters) = daughters-at g (a .t .now) (a .w .now) (a .r .0) (a .mark) (a .from) (a .to) h (at .result) (n .result) (at .ensures) (n .ensures .0) in
           let more = other-at g (a .t .now) (a .w .now) (a .r .0) (a .mark) (a .from) (a .to) h (at .result) (d .result) 1 (at .ensures) (d .ensures) (c .before .before .before .before .if1 .left) in
-          let pairs = in-pairs-at (a .t .now) (at .result) (a .r .0) (i .result) (i .ensures) (at .ensures) (not-so (i .result) (c .before .before .if2 .left)) in
+          let two = of-two-at (a .t .now) (at .result) (a .r .0) (i .result) (i .ensures) (at .ensures) (passes (i .result) (not-off (i .result) (c .before .before .if2 .left))) in
           written-as (a .w .now) (c .expand-two .last .1 .0) (a .to)
-          (ap₂ (λ (i m : ℕ). doubled (a .t .now) i m (a .mark) (a .w .now) (a .from) (a .to)) (at .ensures) k ∙ doubled-is g (a .t .now) (a .w .now) (a .r .0) (a .mark) (a .from) (a .to) h more pairs)
+          (ap₂ (λ (i m : ℕ). expandedTwo (a .t .now) i m (a .mark) (a .w .now) (a .from) (a .to)) (at .ensures) k ∙ two-written g (a .t .now) (a .w .now) (a .r .0) (a .mark) (a .from) (a .to) h more two)
           (ap (λ (m : ℕ). a .to + m + (a .to - (a .from + 1))) k ∙ end-is g (a .t .now) (a .w .now) (a .r .0) (a .mark) (a .from) (a .to) h) (c .expand-two .ensures);
     }
 
@@ -197,7 +193,7 @@ expand-spec =
     ready-made-requires-3
     expand-narrow-requires
     returns
-    in-pairs-requires
+    of-two-requires
     expand-wide-requires
     returns-2
     expand-two-requires

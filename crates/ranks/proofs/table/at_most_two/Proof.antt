@@ -1,11 +1,11 @@
--- `ranks::table::is_pair` meets its contract.
+-- `ranks::table::at_most_two` meets its contract.
 -- Assumes nothing.
 use mathlib.Core.Path.{ap}
 use Prim.Native.Nat.{ℕ, _%_}
 use lib.Dec.{ltb}
 use borrow.Author.Needs.{needs}
-use Rattle.ranks.proofs.table.is_pair.Statement.{statement}
-use Rattle.ranks.proofs.table.is_pair.Tie as tie
+use Rattle.ranks.proofs.table.at_most_two.Statement.{statement}
+use Rattle.ranks.proofs.table.at_most_two.Tie as tie
 
 places-cell-requires : tie.Need-places-cell-requires
 places-cell-requires c κs = search needs
@@ -13,5 +13,5 @@ places-cell-requires c κs = search needs
 returns : tie.Need-returns
 returns c = ap (λ (n : ℕ). ltb (n % 8) 3) (c .places-cell .ensures)
 
-pub is-pair-spec : {M : Type 1} → statement M
-is-pair-spec = tie.close (tie.spec places-cell-requires returns)
+pub at-most-two-spec : {M : Type 1} → statement M
+at-most-two-spec = tie.close (tie.spec places-cell-requires returns)
