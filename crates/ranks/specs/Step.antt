@@ -59,43 +59,43 @@ pub record Makes (t : List ℕ) (at j : ℕ) (bs : List ℕ) (mark : ℕ) : Type
 
 -- the queue after a step on the queue from..to, where others move by m
 abbrev pub expanded : List ℕ → ℕ → ℕ → ℕ → List ℕ → Moves → List ℕ → ℕ → ℕ → List ℕ
-expanded t at n mark bs m w from to =
-    insertAll (take n (daughterAt t at 0 bs mark ∷ (daughterAt t at 1 bs mark ∷ (daughterAt t at 2 bs mark ∷ []))))
+expanded t at d mark bs m w from to =
+    insertAll (take d (daughterAt t at 0 bs mark ∷ (daughterAt t at 1 bs mark ∷ (daughterAt t at 2 bs mark ∷ []))))
     (map (remade (shifted (movesRanks m) (movesLengths m))) (slice (from + 1) to w))
 
 -- what the code of a wide step needs of the numbers
-pub record WideStep (t : List ℕ) (at n mark : ℕ) (bs : List ℕ) (m : Moves) (w : List ℕ) (from to : ℕ) : Type 0 where
+pub record WideStep (t : List ℕ) (at d mark : ℕ) (bs : List ℕ) (m : Moves) (w : List ℕ) (from to : ℕ) : Type 0 where
   pub table : length t ≡ cells
   pub rule : at + 8 ≤ cells
-  pub steps : Steps w from to n
-  pub some : 0 < n
+  pub steps : Steps w from to d
+  pub some : 0 < d
   pub short : Every Short w (from + 1) to
   pub behind : Every Behind w (from + 1) to
   pub apart : Every (Apart (movesRanks m) (movesLengths m)) w (from + 1) to
   pub bounded : Bounded m
-  pub makes : (j : ℕ) → j < n → Makes t at j bs mark
+  pub makes : (j : ℕ) → j < d → Makes t at j bs mark
 
 -- The step for any rule that does not have dimension 1, in which the front's ranks are compared with each other: what it needs of the numbers, and the queue after it.
 -- The lengths of the rule's components are in cell 1.
 abbrev pub ExpandsWide : List ℕ → ℕ → ℕ → ℕ → List ℕ → ℕ → ℕ → Type 0
-ExpandsWide t at n mark w from to =
-    WideStep t at n mark (ranks (begun (getD w from 0) (getD t (at + 1) 0))) (gathered (ranks (unpacked (getD w from 0))) (lengthsOf (getD t (at + 1) 0))) w from to
+ExpandsWide t at d mark w from to =
+    WideStep t at d mark (ranks (begun (getD w from 0) (getD t (at + 1) 0))) (gathered (ranks (unpacked (getD w from 0))) (lengthsOf (getD t (at + 1) 0))) w from to
     × Begins (getD w from 0) (getD t (at + 1) 0)
 
 abbrev pub expandedWide : List ℕ → ℕ → ℕ → ℕ → List ℕ → ℕ → ℕ → List ℕ
-expandedWide t at n mark w from to =
-    expanded t at n mark (ranks (begun (getD w from 0) (getD t (at + 1) 0))) (gathered (ranks (unpacked (getD w from 0))) (lengthsOf (getD t (at + 1) 0))) w from to
+expandedWide t at d mark w from to =
+    expanded t at d mark (ranks (begun (getD w from 0) (getD t (at + 1) 0))) (gathered (ranks (unpacked (getD w from 0))) (lengthsOf (getD t (at + 1) 0))) w from to
 
 -- the step for a rule of dimension 2 whose daughters have at most two components, in which they are not
 abbrev pub ExpandsTwo : List ℕ → ℕ → ℕ → ℕ → List ℕ → ℕ → ℕ → Type 0
-ExpandsTwo t at n mark w from to =
-    WideStep t at n mark (twoBegins (getD w from 0) (getD t (at + 1) 0)) (twoMoves (getD w from 0) (getD t (at + 1) 0)) w from to
+ExpandsTwo t at d mark w from to =
+    WideStep t at d mark (twoBegins (getD w from 0) (getD t (at + 1) 0)) (twoMoves (getD w from 0) (getD t (at + 1) 0)) w from to
     × TwoRanks (getD w from 0) (getD t (at + 1) 0)
     × (ofTwo t at ≡ true)
 
 abbrev pub expandedTwo : List ℕ → ℕ → ℕ → ℕ → List ℕ → ℕ → ℕ → List ℕ
-expandedTwo t at n mark w from to =
-    expanded t at n mark (twoBegins (getD w from 0) (getD t (at + 1) 0)) (twoMoves (getD w from 0) (getD t (at + 1) 0)) w from to
+expandedTwo t at d mark w from to =
+    expanded t at d mark (twoBegins (getD w from 0) (getD t (at + 1) 0)) (twoMoves (getD w from 0) (getD t (at + 1) 0)) w from to
 
 -- A nonlexical step by rule r can be made on the queue from..to: the table is the grammar's, the rule is one of the front's category, steps reach the queue, the
 -- next one has at most 64 predictions, and there is room for it behind. `mark` is the number of the first daughter, and others have numbers below it.

@@ -19,7 +19,6 @@ use Rattle.ranking.specs.Recognizer.{stops, goes}
 use Rattle.ranking.specs.Ranks.{Ranked, RankedState, rerank, lowered, scanRanked, readRanked, withoutFront, predictRanked, applyRanked, stepRanked}
 use Rattle.ranking.specs.Numbered.{madeAt, numberAt}
 use Rattle.ranking.proofs.Limits.{predict-length}
-use Rattle.ranking.proofs.Numbered.{Below}
 use Rattle.ranks.specs.Prediction.{Prediction, Short, Behind, unpacked, remade}
 use Rattle.ranks.specs.Queue.{Roomy, Mapped, Next as NextQueue}
 use Rattle.ranks.specs.Queue as places
@@ -251,13 +250,14 @@ module _ (g : Grammar) (t sentence w : List ℕ) (at : Standing) (ready : Ready 
             go true e d = ltb-true (at .left) (at .to - at .from + daughtersIn t (8 * r)) e
             go false e d = not-both d
 
-    pub mark-is : 4 * (at .steps + 1) ≡ madeAt (at .steps)
-    mark-is = omega arith
+    -- a step is left for it
+    pub step-left : at .to - at .from + daughtersIn t (8 * r) ≤ at .left → at .steps < 96
+    step-left fits = omega (arith, fits, ready .few, front .predicted)
 
     pub few-daughters : length (front .rule .daughters) ≤ 3
     few-daughters = ready .well .ranges r (front .rule) (front .rule-is) .daughters-few
 
-    abbrev pub expands : at .to - at .from + daughtersIn t (8 * r) ≤ at .left → Expands g t r (4 * (at .steps + 1)) w (at .from) (at .to)
+    abbrev pub expands : at .to - at .from + daughtersIn t (8 * r) ≤ at .left → Expands g t r (madeAt (at .steps)) w (at .from) (at .to)
     expands fits =
         record {
           well = ready .well;
@@ -271,20 +271,19 @@ module _ (g : Grammar) (t sentence w : List ℕ) (at : Standing) (ready : Ready 
           words = drop (at .read) sentence;
           reached = ready .reached;
           few = omega (arith, fits, cells .daughters, ready .grown, ready .few, few-daughters);
-          numbered = subst⁻¹ (λ (n : ℕ). Below n (queueIn g w (at .from) (at .to))) mark-is (ready .numbered);
+          numbered = ready .numbered;
           small = omega (arith, ready .few);
           room-behind = omega (arith, ready .room, ready .few, ready .fits, front .predicted);
         }
 
     pub expand-says : (fits : at .to - at .from + daughtersIn t (8 * r) ≤ at .left) (w′ : List ℕ)
-        → NextQueue (map numberOf (expandedQueue g (front .rule) (4 * (at .steps + 1)) w (at .from) (at .to))) w w′ (at .to) (at .to + (at .to - at .from - 1 + length (front .rule .daughters)))
+        → NextQueue (map numberOf (expandedQueue g (front .rule) (madeAt (at .steps)) w (at .from) (at .to))) w w′ (at .to) (at .to + (at .to - at .from - 1 + length (front .rule .daughters)))
         → StepSays g t sentence w w′ at r (Leads (ahead t at r))
     expand-says fits w′ next =
         leads-to (at .read) (predictRanked (numberAt (at .steps)) g (front .rule) (x g t sentence w at ready r front) (R g t sentence w at ready r front)) (predicts g t sentence w at ready r front nonlexical)
         ((let y : at .read ≡ at .read + 0 = omega arith in y) ∙ ap (λ (b : Bool). at .read + (if b then taken (wordIn t (8 * r)) else 0)) (sym (ne-eqb (daughtersIn t (8 * r)) 0 daughters)))
         next-length fits (ready .known) w′
-        (subst (λ (n : ℕ). NextQueue (map numberOf (predictRanked (numberAt (at .steps)) g (front .rule) (x g t sentence w at ready r front) (R g t sentence w at ready r front))) w w′ (at .to) (at .to + (at .to - at .from - 1 + n))) (sym (cells .daughters))
-        (subst (λ (n : ℕ). NextQueue (map numberOf (expandedQueue g (front .rule) n w (at .from) (at .to))) w w′ (at .to) (at .to + (at .to - at .from - 1 + length (front .rule .daughters)))) mark-is next))
+        (subst (λ (n : ℕ). NextQueue (map numberOf (predictRanked (numberAt (at .steps)) g (front .rule) (x g t sentence w at ready r front) (R g t sentence w at ready r front))) w w′ (at .to) (at .to + (at .to - at .from - 1 + n))) (sym (cells .daughters)) next)
 
 -- a rule number that does not apply: there is no such rule, no prediction, or a rule of another category
 module _ (g : Grammar) (t sentence w : List ℕ) (at : Standing) (ready : Ready g t sentence w at) (r : ℕ) where

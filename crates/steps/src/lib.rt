@@ -132,7 +132,8 @@ pub fn make(t: &[u64; TABLE], w: &mut [u64; ROOM], at: Standing, r: RuleNumber) 
         scan(w, at.from, at.to);
         return ahead(t, at, r);
     }
-    let mark = 4 * (at.steps as u64 + 1);
+    let k = at.steps;
+    let mark = first_daughter(k) as u64;
     if d == 1 {
         expand(t, w, at.from, at.to, RuleNumber(r.0), mark);
         return ahead(t, at, r);
