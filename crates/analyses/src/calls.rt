@@ -11,6 +11,7 @@ ghost use Rattle.analyses.specs.Tests.{beforeSearch, beforeEntry, afterS
 use buffers::room_refusal;
 use grammar::start;
 use model::CountVerdict;
+use model::MOST_STEPS;
 use model::Refusal;
 use model::Tested;
 use model::Verdict;
@@ -23,7 +24,7 @@ use tally::entry_from;
 use walk::chain_rules;
 
 // The greatest node limit, and the greatest effort limit.
-const MOST_NODES: u64 = 96;
+const MOST_NODES: u64 = MOST_STEPS as u64;
 
 const MOST_EFFORT: u64 = 1000000000;
 

@@ -19,6 +19,7 @@ use ranks::queue::first_queue;
 use ranks::table::TABLE;
 use report::Page;
 use report::Pen;
+use report::SENTENCE_WORDS;
 use report::fill;
 use rule_table::compile;
 use steps::Standing;
@@ -32,8 +33,6 @@ use walk::no_turns;
 const GRAMMAR_BYTES: usize = 7169;
 
 const SENTENCE_BYTES: usize = 195;
-
-const SENTENCE_WORDS: usize = 97;
 
 // How many of a file's bytes stand in a buffer, and whether the number of bytes read of it is even.
 struct Loaded {

@@ -11,13 +11,15 @@ use grammar::rules;
 use grammar::start;
 use grammar::words;
 use grammar::zeros;
+use model::MOST_CATEGORIES;
+use model::MOST_RULES;
 
 // How many categories, words and rules a grammar has at most, and the highest dimension.
-const CATEGORIES: u16 = 64;
+pub const CATEGORIES: u16 = MOST_CATEGORIES as u16;
 
-const WORDS: u16 = 4096;
+pub const WORDS: u16 = 4096;
 
-const RULES: u16 = 256;
+pub const RULES: u16 = MOST_RULES as u16;
 
 const DIMENSIONS: u16 = 4;
 

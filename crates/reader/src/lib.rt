@@ -5,6 +5,9 @@ mod reader;
 
 pub use blocks::blocks_for;
 pub use blocks::records_in;
+pub use heading::CATEGORIES;
+pub use heading::RULES;
+pub use heading::WORDS;
 pub use heading::dimensions_right;
 pub use heading::within;
 pub use reader::grammar_refusal;

@@ -7,6 +7,7 @@ mod verdict;
 pub use page::Page;
 pub use page::Pen;
 pub use page::fill;
+pub use sentence::SENTENCE_WORDS;
 pub use sentence::read_limit;
 pub use sentence::read_words;
 pub use text::put_count;

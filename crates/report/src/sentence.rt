@@ -5,8 +5,12 @@ ghost use lib.ListN.{length, take};
 ghost use Rattle.model.specs.Program.{limitIn, sentenceIn};
 use grammar::byte;
 use grammar::two_bytes;
+use model::MOST_STEPS;
 use model::Word;
 use sentences::single_word;
+
+// How many words are read of a sentence: one more than an accepted one can have.
+pub const SENTENCE_WORDS: usize = MOST_STEPS + 1;
 
 // N, the file's first byte; 0 in an empty file.
 pub fn read_limit(bytes: &[u8]) -> u8
@@ -15,13 +19,13 @@ pub fn read_limit(bytes: &[u8]) -> u8
     byte(bytes, 0)
 }
 
-// Writes the sentence's words, or the first 97 of them, at the front of `words`, each as a place that holds it alone, and answers how many they are.
-pub fn read_words(bytes: &[u8], words: &mut [u32; 97]) -> usize
+// Writes the sentence's words, or the first SENTENCE_WORDS of them, at the front of `words`, each as a place that holds it alone, and answers how many they are.
+pub fn read_words(bytes: &[u8], words: &mut [u32; SENTENCE_WORDS]) -> usize
     requires { ⌜ length (now words) ≡ 97 ⌝ }
     ensures { λ k. ⌜ (k ≤ 97) × (length (now (words .exit)) ≡ 97) × (take k (now (words .exit)) ≡ take 97 (sentenceIn (now (bytes .entry)))) ⌝ }
 {
     let mut k: usize = 0;
-    while k < 97 {
+    while k < SENTENCE_WORDS {
         if bytes.len() <= 2 * k + 2 {
             return k;
         }

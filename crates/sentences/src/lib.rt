@@ -6,12 +6,13 @@ ghost use Rattle.model.specs.Step.{lowest, highest, range, single, wordFits};
 ghost use Rattle.model.specs.Trace.{endNoWord, lowestAbove, placeRefusal, sentenceRefusal};
 ghost use Rattle.model.specs.Verdict.{tested};
 use grammar::words;
+use model::MOST_STEPS;
 use model::Refusal;
 use model::Tested;
 use model::Word;
 
 // The most places of a sentence.
-const MOST_PLACES: u16 = 96;
+const MOST_PLACES: u16 = MOST_STEPS as u16;
 
 // A place is its lowest word and this many times its highest: the highest stands in the upper 16 bits.
 const UPPER: u32 = 65536;

@@ -11,6 +11,7 @@ use grammar::block_check;
 use grammar::byte;
 use grammar::fields;
 use grammar::less;
+use model::MOST_CATEGORIES;
 use reader::blocks_for;
 use reader::records_in;
 
@@ -26,7 +27,7 @@ fn heading_byte(
     ensures { λ b. ⌜ b ≡ contentAt (heading categories start words rules (now (dimensions .entry))) [] 0 i ⌝ }
 {
     if 16 <= i {
-        return byte(fields(dimensions, 0, 64), i - 16);
+        return byte(fields(dimensions, 0, MOST_CATEGORIES), i - 16);
     }
     let w0 = (words % 256) as u8;
     let w1 = (words / 256 % 256) as u8;

@@ -7,6 +7,10 @@ use grammar::fields;
 use grammar::less;
 use grammar::zeros;
 use model::Category;
+use model::MOST_CATEGORIES;
+use reader::CATEGORIES;
+use reader::RULES;
+use reader::WORDS;
 use reader::dimensions_right;
 use reader::within;
 
@@ -14,13 +18,13 @@ use reader::within;
 fn numbers_in(categories: u8, words: u16, rules: u16) -> bool
     ensures { λ r. ⌜ r ≡ numbersIn categories words rules ⌝ }
 {
-    if !within(1, 64, categories as u16) {
+    if !within(1, CATEGORIES, categories as u16) {
         return false;
     }
-    if !within(1, 4096, words) {
+    if !within(1, WORDS, words) {
         return false;
     }
-    within(1, 256, rules)
+    within(1, RULES, rules)
 }
 
 // Refusal 4 of a heading's numbers with 64 dimension bytes.
@@ -41,5 +45,5 @@ pub fn wrong_numbers(categories: u8, start: u8, words: u16, rules: u16, dimensio
     if dimension_in(own, Category(start)) != 1 {
         return true;
     }
-    !zeros(dimensions, n, less(64, n))
+    !zeros(dimensions, n, less(MOST_CATEGORIES, n))
 }
