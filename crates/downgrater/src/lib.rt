@@ -1,2 +1,3 @@
-// The library's face: the public calls, exported to C.
+// The library's face: the public calls, and its version, exported to C.
 mod calls;
+mod version;

@@ -1,5 +1,11 @@
 //! The calls and their answers ("Who can cause a refusal").
 
+mod refusals;
+
+use std::fmt;
+
+pub use refusals::refusal_text;
+
 /// Who can cause a refusal: the grammar's author, the analysis's author or the desk.
 #[derive(Clone, Copy, Debug, PartialEq, Eq)]
 pub enum Whose {
@@ -26,6 +32,13 @@ impl Refusal {
 
     pub fn desk(number: u8) -> Refusal {
         Refusal { whose: Whose::Desk, number, place: 0 }
+    }
+}
+
+/// Number, place, and what the refusal says.
+impl fmt::Display for Refusal {
+    fn fmt(&self, f: &mut fmt::Formatter) -> fmt::Result {
+        write!(f, "refusal {} at place {}: {}", self.number, self.place, refusal_text(self.number))
     }
 }
 
@@ -110,6 +123,15 @@ pub trait DateCalls {
 #[cfg(test)]
 mod tests {
     use super::*;
+
+    #[test]
+    fn refusals_in_words() {
+        assert_eq!(Refusal::desk(25).to_string(), "refusal 25 at place 0: there are more live prefixes than the effort limit allows");
+        let none = refusal_text(0);
+        for number in 0..=255 {
+            assert_eq!(refusal_text(number) == none, !(1..=31).contains(&number), "{number}");
+        }
+    }
 
     #[test]
     fn places() {
