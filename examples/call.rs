@@ -1,14 +1,18 @@
 //! Counts and lists the analyses of the sentence in the folder DIR by the grammar there, through libdowngrater. Prints count and effort, then one trace a
-//! line; or R with the number and the place of the refusal. With places after DIR, it takes these in place of the sentence's words, with the node limit of its
-//! file: a place is a word, or the lowest and the highest that may have been said.
+//! line, and ends with status 0; or R with the number and the place of the refusal, what it says on standard error, and status 1. A file that cannot be read,
+//! a sentence file of even length and output that cannot be written are said on standard error, and end with status 1 too. With places after DIR, it takes
+//! these in place of the sentence's words, with the node limit of its file: a place is a word, or the lowest and the highest that may have been said.
 //!
 //!     cd rust && cargo run --release -p downgrater --example call -- ../examples/pair
 //!     cd rust && cargo run --release -p downgrater --example call -- ../examples/unclear 0 1-2 3-4
 
+use std::error::Error;
+use std::io::{self, BufWriter, Write};
 use std::path::Path;
+use std::process::ExitCode;
 use std::{env, fs};
 
-use downgrater::{word, words, Answer, Refusal};
+use downgrater::{word, words, Answer, Calls};
 
 const EFFORT_LIMIT: u64 = 1_000_000;
 
@@ -24,37 +28,82 @@ fn place(text: &str) -> u32 {
     }
 }
 
-fn main() {
+/// The bytes of a file of the folder, or why they cannot be read.
+fn load(dir: &str, name: &str) -> Result<Vec<u8>, String> {
+    let path = Path::new(dir).join(name);
+    fs::read(&path).map_err(|error| format!("{}: {error}", path.display()))
+}
+
+/// Prints the traces, from entry 0 on.
+fn list(
+    library: &dyn Calls,
+    grammar: &[u8],
+    sentence: &[u32],
+    node_limit: u64,
+    count: u32,
+    out: &mut dyn Write,
+) -> io::Result<()> {
+    for m in 0..count as u64 {
+        let mut trace = [0; 96];
+        match library.entry(grammar, sentence, node_limit, EFFORT_LIMIT, m, &mut trace) {
+            Answer::Accepted(steps) => {
+                let numbers: Vec<String> =
+                    trace[..steps as usize].iter().map(u16::to_string).collect();
+                writeln!(out, "{}", numbers.join(" "))?;
+            }
+            other => return Err(io::Error::other(format!("entry {m}: {other:?}"))),
+        }
+    }
+    Ok(())
+}
+
+fn run() -> Result<ExitCode, Box<dyn Error>> {
+    let library = downgrater::library()?;
     let dir = env::args().nth(1).unwrap_or("../examples/pair".to_string());
-    let load = |name: &str| fs::read(Path::new(&dir).join(name)).unwrap_or_default();
-    let grammar = load("grammar");
-    let bytes = load("sentence");
-    let node_limit = bytes.first().copied().unwrap_or(0) as u64;
+    let grammar = load(&dir, "grammar")?;
+    let bytes = load(&dir, "sentence")?;
+    let [node_limit, pairs @ ..] = bytes.as_slice() else {
+        return Err(format!("{dir}/sentence is empty").into());
+    };
+    if pairs.len() % 2 != 0 {
+        return Err(format!("{dir}/sentence has an even length: it is the node limit in one byte, and two bytes a word").into());
+    }
+    let node_limit = *node_limit as u64;
     let mut sentence: Vec<u32> = env::args().skip(2).map(|text| place(&text)).collect();
     if sentence.is_empty() {
-        let pairs = bytes[1.min(bytes.len())..].chunks_exact(2);
         sentence = pairs
+            .chunks_exact(2)
             .map(|pair| word(u16::from_le_bytes([pair[0], pair[1]])))
             .collect();
     }
 
-    let library = downgrater::library().expect("libdowngrater.a was there when this was built");
+    let mut out = BufWriter::new(io::stdout());
     match library.count(&grammar, &sentence, node_limit, EFFORT_LIMIT) {
         Answer::Counted { count, effort } => {
-            println!("{count} {effort}");
-            for m in 0..count as u64 {
-                let mut trace = [0; 96];
-                let Answer::Accepted(steps) =
-                    library.entry(&grammar, &sentence, node_limit, EFFORT_LIMIT, m, &mut trace)
-                else {
-                    unreachable!("an entry below the count is not refused");
-                };
-                let numbers: Vec<String> =
-                    trace[..steps as usize].iter().map(u16::to_string).collect();
-                println!("{}", numbers.join(" "));
-            }
+            writeln!(out, "{count} {effort}")?;
+            list(
+                library.as_ref(),
+                &grammar,
+                &sentence,
+                node_limit,
+                count,
+                &mut out,
+            )?;
+            out.flush()?;
+            Ok(ExitCode::SUCCESS)
         }
-        Answer::Refused(Refusal { number, place, .. }) => println!("R {number} {place}"),
-        other => unreachable!("the count does not answer {other:?}"),
+        Answer::Refused(refusal) => {
+            writeln!(out, "R {} {}", refusal.number, refusal.place)?;
+            out.flush()?;
+            Err(refusal.to_string().into())
+        }
+        other => Err(format!("the count does not answer {other:?}").into()),
     }
+}
+
+fn main() -> ExitCode {
+    run().unwrap_or_else(|error| {
+        eprintln!("call: {error}");
+        ExitCode::FAILURE
+    })
 }
