@@ -1,5 +1,5 @@
 //! Links libdowngrater.a from the folder DOWNGRATER_LIB, by default from target/staticlib at the top of the repository. Where there is no
-//! library the crate builds without it.
+//! library the crate builds without it, and says so.
 
 use std::env;
 use std::path::{Path, PathBuf};
@@ -16,5 +16,7 @@ fn main() {
         println!("cargo::rustc-cfg=downgrater_library");
         println!("cargo::rustc-link-search=native={}", folder.display());
         println!("cargo::rustc-link-lib=static=downgrater");
+    } else {
+        println!("cargo::warning=there is no {}: built without the library, and no call can be made. Run `rt staticlib downgrater` at the top of the repository, or set DOWNGRATER_LIB to the folder that has libdowngrater.a", file.display());
     }
 }

@@ -37,9 +37,10 @@ const DAYS: u64 = 146_097;
 fn main() {
     let runs = env::args().nth(1).and_then(|word| word.parse().ok()).unwrap_or(7);
     let library = downgrater::library();
-    if library.is_none() {
-        println!("there was no libdowngrater.a when this was built: plain Rust alone");
+    if let Err(missing) = &library {
+        println!("plain Rust alone: {missing}");
     }
+    let library = library.ok();
     println!("best of {runs} runs, ns per live prefix");
     println!("{:<12}{:>6}{:>6}{:>10}{:>12}{:>10}{:>10}{:>8}", "grammar", "words", "N", "count", "effort", "library", "rust", "ratio");
     for input in inputs::inputs() {

@@ -39,11 +39,14 @@ fn main() -> ExitCode {
         self_test::self_test(options.seed)
     } else if options.itself {
         run(&Reference, &options)
-    } else if let Some(library) = downgrater::library() {
-        run(library.as_ref(), &options)
     } else {
-        eprintln!("differential: there was no libdowngrater.a when this was built (DOWNGRATER_LIB, or target/staticlib)");
-        false
+        match downgrater::library() {
+            Ok(library) => run(library.as_ref(), &options),
+            Err(missing) => {
+                eprintln!("differential: {missing}");
+                false
+            }
+        }
     };
     if right {
         ExitCode::SUCCESS

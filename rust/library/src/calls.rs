@@ -7,6 +7,7 @@ use interface::{Answer, Calls, Heading};
 use crate::answer::{counted, verdict};
 
 extern "C" {
+    fn dg_version() -> u32;
     fn dg_read_grammar(file: *const u8, file_len: usize) -> u64;
     fn dg_write_grammar(
         categories: u8,
@@ -53,6 +54,10 @@ pub fn at_mut<T>(slice: &mut [T]) -> *mut T {
     } else {
         slice.as_mut_ptr()
     }
+}
+
+pub fn version() -> u32 {
+    unsafe { dg_version() }
 }
 
 /// The proved library.
