@@ -2,8 +2,10 @@
 //! what the program prints for them, and with a `README` that has words, rules and analyses in writing (`readme`). A folder with words
 //! heard unclearly also has the file `heard` with its places in writing, and `expected_heard`, which is what `call` prints for them. A
 //! folder with a lexicon has it in the file `lexicon` and in writing in the file `entries`; its grammar is the one that the library makes
-//! of it, in the library's numbering.
+//! of it, in the library's numbering. The tests also compare the dumps of `docs/FORMAT.md` with these files (`format`).
 
+#[cfg(test)]
+mod format;
 mod readme;
 
 use std::path::{Path, PathBuf};
