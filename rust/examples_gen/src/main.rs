@@ -1,28 +1,35 @@
 //! Writes the folders of `examples/` at the top of the repository, each with the files `grammar` and `sentence`, with `expected`, which is
-//! what the program prints for them, and with a `README` that says what one sees. A folder with words heard unclearly also has the
-//! file `heard` with its places in writing, and `expected_heard`, which is what `call` prints for them. A folder with a lexicon has it in
-//! the file `lexicon` and in writing in the file `entries`; its grammar is the one that the library makes of it, in the library's
-//! numbering.
+//! what the program prints for them, and with a `README` that has words, rules and analyses in writing (`readme`). A folder with words
+//! heard unclearly also has the file `heard` with its places in writing, and `expected_heard`, which is what `call` prints for them. A
+//! folder with a lexicon has it in the file `lexicon` and in writing in the file `entries`; its grammar is the one that the library makes
+//! of it, in the library's numbering. The tests also compare the dumps of `docs/FORMAT.md` with these files (`format`).
+
+#[cfg(test)]
+mod format;
+mod readme;
 
 use std::path::{Path, PathBuf};
 use std::{fs, io};
 
 use downgrater::Answer;
 use reference::file::{read, BLOCK};
-use reference::lexicon::ENTRY;
+use reference::lexicon::{read_lexicon, Feature, ENTRY};
 use reference::lexicon_notation::WrittenLexicon;
 use reference::listing::listing;
-use reference::made::make;
-use reference::notation::{grammar_file, places};
+use reference::made::{make, named_grammar, Name};
+use reference::notation::{category_names, grammar_file, places};
 use reference::program::{output, printed, sentence_file, EFFORT_LIMIT};
 use reference::renaming::renaming;
-use reference::samples::{AGREEMENT, COPY, CROSSING, PAIR, QUESTION};
+use reference::samples::{AGREEMENT, ATTACHMENT, COPY, CROSSING, PAIR, QUESTION};
+use reference::sentence::single_words;
 use reference::words;
+
+use crate::readme::{numbered, readme, Named, Run};
 
 /// Where an example's grammar comes from.
 enum Source {
-    /// Rules in writing.
-    Rules(&'static str),
+    /// Rules in writing, and the forms of the words.
+    Rules(&'static str, &'static [&'static str]),
     /// A lexicon in writing, and its start category.
     Lexicon(&'static str, &'static str),
 }
@@ -32,59 +39,92 @@ struct Example {
     grammar: Source,
     node_limit: u8,
     sentence: &'static [u16],
-    /// The lowest and the highest word of each place, where words were heard unclearly.
-    heard: Option<&'static [(u16, u16)]>,
-    readme: &'static str,
+    /// What the README says first.
+    about: &'static str,
+    /// What the README says of each analysis, in the order of the listing, as far as it says something.
+    readings: &'static [&'static str],
+    /// The sentence with words heard unclearly, where there are some.
+    heard: Option<Heard>,
+    /// What the README says last.
+    last: &'static str,
 }
 
-const EXAMPLES: [Example; 6] = [
+struct Heard {
+    /// The lowest and the highest word of each place.
+    places: &'static [(u16, u16)],
+    readings: &'static [&'static str],
+}
+
+const EXAMPLES: [Example; 7] = [
     Example {
         folder: "copy",
-        grammar: Source::Rules(COPY),
+        grammar: Source::Rules(COPY, &["a", "b"]),
         node_limit: 7,
         sentence: &[0, 1, 0, 1],
+        about: "The copy grammar of document 01: a string over two words, twice. Count and effort are those of K5, the trace is that of K3 and the tree that of K4.",
+        readings: &["a b, twice"],
         heard: None,
-        readme: "The copy grammar of document 01 and the sentence 0 1 0 1 with N = 7: one analysis among 13 live prefixes (K5), whose trace is that of K3.",
+        last: "",
     },
     Example {
         folder: "pair",
-        grammar: Source::Rules(PAIR),
+        grammar: Source::Rules(PAIR, &["a"]),
         node_limit: 5,
         sentence: &[0, 0, 0],
+        about: "The pair grammar of document 01 (K10): every way to put a row of words into pairs.",
+        readings: &["the first two words are a pair", "the last two words are a pair"],
         heard: None,
-        readme: "The pair grammar of document 01 and the sentence 0 0 0 with N = 5: two ways to put three words into pairs, among 12 live prefixes (K10).",
+        last: "",
+    },
+    Example {
+        folder: "attachment",
+        grammar: Source::Rules(ATTACHMENT, &["I", "saw", "the", "man", "with", "telescope"]),
+        node_limit: 13,
+        sentence: &[0, 1, 2, 3, 4, 2, 5],
+        about: "Attachment of a prepositional phrase: to the noun phrase before it, or to the verb phrase. A tree for n words has 2n - 1 nodes, one for each word and n - 1 with two daughters, so that N = 13 is just enough for 7 words.",
+        readings: &["NP attachment, the man had the telescope", "VP attachment, the telescope was used to see"],
+        heard: None,
+        last: "",
     },
     Example {
         folder: "crossing",
-        grammar: Source::Rules(CROSSING),
+        grammar: Source::Rules(CROSSING, &["a", "b", "c", "d"]),
         node_limit: 16,
         sentence: &[0, 0, 0, 1, 1, 2, 2, 2, 3, 3],
+        about: "The grammar of W11-0605, section 2.1, for i times a, j times b, i times c, j times d. The a's go with the c's across the b's, and the b's with the d's across the c's.",
+        readings: &["i = 3, j = 2"],
         heard: None,
-        readme: "The grammar of W11-0605, section 2.1, for i times a, j times b, i times c, j times d, and the sentence aaabbcccdd with N = 16: one analysis, in which the a's go with the c's across the b's, and the b's with the d's across the c's.",
+        last: "",
     },
     Example {
         folder: "worked",
-        grammar: Source::Rules(CROSSING),
+        grammar: Source::Rules(CROSSING, &["a", "b", "c", "d"]),
         node_limit: 10,
         sentence: &[0, 1, 1, 2, 3, 3],
+        about: "The worked example of W11-0605, section 4.1. The source's rules a to i are rules 0 to 8 here; its ten steps a c f d g e g h i i are the trace 0 2 5 3 6 4 6 7 8 8.",
+        readings: &[],
         heard: None,
-        readme: "The worked example of W11-0605, section 4.1: the sentence abbcdd with N = 10; the trace is the source's ten steps a c f d g e g h i i, as rules 0 2 5 3 6 4 6 7 8 8.",
+        last: "",
     },
     Example {
         folder: "unclear",
-        grammar: Source::Rules(AGREEMENT),
+        grammar: Source::Rules(AGREEMENT, &["the", "dog", "dogs", "barks", "bark"]),
         node_limit: 5,
         sentence: &[0, 1, 3],
-        heard: Some(&[(0, 0), (1, 2), (3, 4)]),
-        readme: "Subject and verb that agree, with the words the, dog, dogs, barks, bark as 0 to 4, and the sentence 0 1 3 (the dog barks) with N = 5: one analysis.\nThe file heard has the same sentence with both endings heard unclearly, 0 1-2 3-4 (the dog or dogs, barks or bark): of the four sentences that may have been said, the two that agree have an analysis each. `call examples/unclear 0 1-2 3-4` prints them, as expected_heard has it.",
+        about: "Subject and verb that agree, singular (NS, CS, VS) or plural (NP, CP, VP). The file heard has the same sentence with both endings heard unclearly: of the four sentences that may have been said, the two that agree have an analysis each.",
+        readings: &[],
+        heard: Some(Heard { places: &[(0, 0), (1, 2), (3, 4)], readings: &["the dog barks", "the dogs bark"] }),
+        last: "",
     },
     Example {
         folder: "question",
         grammar: Source::Lexicon(QUESTION, "C"),
         node_limit: 15,
         sentence: &[1, 5, 3, 2, 4],
+        about: "English questions by a lexicon of features. The file lexicon has its entries, the file entries has them in writing, and `make_grammar examples/question/lexicon 8 2` makes the grammar of them (8 words, wanted category C, which is 2). A category is a tuple as in W11-0605, section 3: 1 for an entry and 0 for what merge and move make, the features of the head, and those of each chain that still moves. Category start is the new start.",
+        readings: &["who is merged as the object of likes, and an empty complementizer attracts it to the front of the embedded question. The derivation has 14 nodes; the new start's is one more"],
         heard: None,
-        readme: "English questions by a lexicon of features, with the words does, Mary, John, who, likes, knows, like, know as 0 to 7: the file lexicon has its entries, the file entries has them in writing, and the grammar is made of them. The sentence 1 5 3 2 4 (Mary knows who John likes) with N = 15: one analysis, of 14 nodes and the new start's. Who is merged as the object of likes, and an empty complementizer attracts it to the front of the embedded question.\n`make_grammar examples/question/lexicon 8 2` makes the grammar, and `call examples/question 3 0 1 6` counts a main question, who does Mary like, whose complementizer is does.",
+        last: "`call examples/question 3 0 1 6` counts a main question, who does Mary like, whose complementizer is does.",
     },
 ];
 
@@ -92,25 +132,49 @@ const EXAMPLES: [Example; 6] = [
 fn files(example: &Example) -> Vec<(PathBuf, Vec<u8>)> {
     let folder = Path::new(env!("CARGO_MANIFEST_DIR")).join("../../examples").join(example.folder);
     let mut files = Vec::new();
-    let grammar = match example.grammar {
-        Source::Rules(text) => grammar_file(text),
+    let (grammar, categories, forms) = match example.grammar {
+        Source::Rules(text, forms) => (grammar_file(text), category_names(text), forms.iter().map(|form| form.to_string()).collect()),
         Source::Lexicon(text, start) => {
             let written = WrittenLexicon::new(text);
             files.push(("entries", in_writing(text, &written).into_bytes()));
-            let grammar = made_grammar(&written, written.category(start), &folder.join("grammar"));
+            let start = written.category(start);
+            let grammar = made_grammar(&written, start, &folder.join("grammar"));
+            let categories = made_categories(&written, start, &grammar);
             files.push(("lexicon", written.bytes));
-            grammar
+            (grammar, categories, written.words)
         }
     };
     let sentence = sentence_file(example.node_limit, example.sentence);
-    files.push(("expected", output(&grammar, &sentence)));
-    files.push(("README", format!("{}\n", example.readme).into_bytes()));
-    if let Some(heard) = example.heard {
-        let heard: Vec<u32> = heard.iter().map(|&(lowest, highest)| words(lowest, highest)).collect();
-        files.push(("heard", format!("{}\n", places(&heard)).into_bytes()));
-        files.push(("expected_heard", printed_for(&grammar, &heard, example.node_limit)));
+    let expected = output(&grammar, &sentence);
+    let clear = single_words(example.sentence);
+    let mut runs = vec![Run {
+        name: "Sentence",
+        sentence: &clear,
+        node_limit: example.node_limit,
+        command: format!("`./count examples/{}`", example.folder),
+        file: "expected",
+        printed: &expected,
+        readings: example.readings,
+    }];
+    let heard = example.heard.as_ref().map(|heard| {
+        let places: Vec<u32> = heard.places.iter().map(|&(lowest, highest)| words(lowest, highest)).collect();
+        let printed = printed_for(&grammar, &places, example.node_limit);
+        (places, printed, heard.readings)
+    });
+    if let Some((heard, printed, readings)) = &heard {
+        runs.push(Run {
+            name: "Heard unclearly",
+            sentence: heard,
+            node_limit: example.node_limit,
+            command: format!("`call examples/{} {}`", example.folder, places(heard)),
+            file: "expected_heard",
+            printed,
+            readings,
+        });
+        files.extend([("heard", format!("{}\n", places(heard)).into_bytes()), ("expected_heard", printed.clone())]);
     }
-    files.extend([("grammar", grammar), ("sentence", sentence)]);
+    let text = readme(example.about, &Named::new(&grammar, categories, forms), &runs, example.last);
+    files.extend([("README", text.into_bytes()), ("expected", expected), ("grammar", grammar), ("sentence", sentence)]);
     files.into_iter().map(|(name, contents)| (folder.join(name), contents)).collect()
 }
 
@@ -135,12 +199,35 @@ fn made_grammar(written: &WrittenLexicon, start: u32, held: &Path) -> Vec<u8> {
     fs::read(held).ok().filter(|file| is_the_same(file)).unwrap_or(by_reference)
 }
 
+/// The categories of a lexicon's grammar as tuples of features, in the numbering of this file.
+fn made_categories(written: &WrittenLexicon, start: u32, file: &[u8]) -> Vec<String> {
+    let (lexicon, words) = (&written.bytes, written.word_count());
+    let by_reference = read(&make(lexicon, words, start).expect("the example's lexicon is accepted")).expect("so is its grammar");
+    let numbers = read(file).ok().and_then(|grammar| renaming(&by_reference, &grammar)).expect("the file is the lexicon's grammar");
+    let named = named_grammar(&read_lexicon(lexicon, words, start).expect("the lexicon is accepted")).expect("it has a grammar");
+    let mut categories = vec![String::new(); numbers.len()];
+    for (name, number) in named.categories.iter().zip(numbers) {
+        categories[number] = in_features(written, name);
+    }
+    categories
+}
+
+/// A category as in W11-0605, section 3: <1, =D V> for an entry's, <0, V, -wh> for a derived one with a moving chain.
+fn in_features(written: &WrittenLexicon, name: &Name) -> String {
+    let Name::Of(tuple) = name else { return "start".to_string() };
+    let feature = |feature: &Feature| match *feature {
+        Feature::Category(number) => written.categories[number as usize - 1].clone(),
+        Feature::Selector(number) => format!("={}", written.categories[number as usize - 1]),
+        Feature::Licensor(number) => format!("+{}", written.licensees[number as usize - 33]),
+        Feature::Licensee(number) => format!("-{}", written.licensees[number as usize - 33]),
+    };
+    let chains = tuple.chains.iter().map(|chain| chain.iter().map(feature).collect::<Vec<_>>().join(" "));
+    let parts: Vec<String> = [(tuple.lexical as u8).to_string()].into_iter().chain(chains).collect();
+    format!("<{}>", parts.join(", "))
+}
+
 /// The numbers of the names, and the entries of a lexicon in words and in bytes.
 fn in_writing(text: &str, written: &WrittenLexicon) -> String {
-    let numbered = |names: &[String], from: usize| {
-        let numbers = names.iter().enumerate().map(|(i, name)| format!("{} {name}", from + i));
-        numbers.collect::<Vec<_>>().join(", ")
-    };
     let mut lines = vec![
         format!("words: {}, 65535 empty", numbered(&written.words, 0)),
         format!("categories, each with its selector 16 above it: {}", numbered(&written.categories, 1)),
@@ -177,6 +264,37 @@ mod tests {
         for (path, contents) in EXAMPLES.iter().flat_map(files) {
             let held = fs::read(&path).unwrap_or_else(|error| panic!("{}: {error}", path.display()));
             assert!(held == contents, "{} is not what examples_gen writes", path.display());
+        }
+    }
+
+    /// What the README of examples/attachment says of its two analyses.
+    #[test]
+    fn the_readings_are_in_the_order_of_the_listing() {
+        let readme = fs::read_to_string(Path::new(env!("CARGO_MANIFEST_DIR")).join("../../examples/attachment/README")).unwrap();
+        let after = |mark: &str| readme.split_once(mark).unwrap_or_else(|| panic!("{mark}")).1;
+        let to_the_np = after("NP attachment").split_once("VP attachment").unwrap().0;
+        assert!(to_the_np.contains("[NP [NP [D the] [N man]] [PP [P with] [NP [D the] [N telescope]]]]"));
+        let to_the_vp = after("VP attachment");
+        assert!(to_the_vp.contains("[VP [VP [V saw] [NP [D the] [N man]]] [PP [P with] [NP [D the] [N telescope]]]]"));
+    }
+
+    /// The rules of a made grammar, with these names, are those that the reference makes with its own, in whatever order.
+    #[test]
+    fn made_categories_have_their_features() {
+        let written = WrittenLexicon::new(QUESTION);
+        let start = written.category("C");
+        let by_reference = make(&written.bytes, written.word_count(), start).unwrap();
+        let held = fs::read(Path::new(env!("CARGO_MANIFEST_DIR")).join("../../examples/question/grammar")).unwrap();
+        let named_rules = |file: &[u8]| {
+            let named = Named::new(file, made_categories(&written, start, file), written.words.clone());
+            let mut rules: Vec<String> = read(file).unwrap().rules.iter().map(|rule| named.rule(rule)).collect();
+            rules.sort();
+            rules
+        };
+        let rules = named_rules(&held);
+        assert_eq!(rules, named_rules(&by_reference));
+        for rule in ["<1, D -wh> <- 3 (who)", "<1, =V +wh Q> <- empty", "<0, Q>(xy) <- <0, +wh Q, -wh>(y,x)", "start(x) <- <0, C>(x)"] {
+            assert!(rules.iter().any(|other| other == rule), "{rule}");
         }
     }
 }

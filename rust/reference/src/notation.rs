@@ -44,8 +44,23 @@ pub fn put_weights(records: &mut [u8], weights: impl Iterator<Item = u8>) {
     }
 }
 
+/// The names of the categories of a text, in the order of their numbers.
+pub fn category_names(text: &str) -> Vec<String> {
+    let (categories, _, _) = rules_of(text);
+    categories.names
+}
+
 /// The writer's input for a text, without weights.
 pub fn parts(text: &str) -> (Heading, Vec<u8>) {
+    let (categories, words, records) = rules_of(text);
+    let mut dimensions = categories.dimensions;
+    dimensions.resize(64, 0);
+    let rules = (records.len() / 24) as u16;
+    (Heading { categories: categories.names.len() as u8, start: 0, words, rules, dimensions }, records)
+}
+
+/// The categories of a text, how many words it has, and its rules as records.
+fn rules_of(text: &str) -> (Categories, u16, Vec<u8>) {
     let mut categories = Categories { names: vec![], dimensions: vec![] };
     let mut words = 1;
     let mut records = Vec::new();
@@ -67,10 +82,7 @@ pub fn parts(text: &str) -> (Heading, Vec<u8>) {
         }
         records.extend(record);
     }
-    let mut dimensions = categories.dimensions.clone();
-    dimensions.resize(64, 0);
-    let rules = (records.len() / 24) as u16;
-    (Heading { categories: categories.names.len() as u8, start: 0, words, rules, dimensions }, records)
+    (categories, words, records)
 }
 
 struct Categories {

@@ -90,6 +90,22 @@ VS <- 3
 VP <- 4
 ";
 
+/// A prepositional phrase goes with the verb phrase or with the noun phrase before it: I, saw, the, man, with, telescope, as words 0 to 5.
+pub const ATTACHMENT: &str = "
+S(xy) <- NP(x) VP(y)
+VP(xy) <- V(x) NP(y)
+VP(xy) <- VP(x) PP(y)
+NP(xy) <- D(x) N(y)
+NP(xy) <- NP(x) PP(y)
+PP(xy) <- P(x) NP(y)
+NP <- 0
+V <- 1
+D <- 2
+N <- 3
+P <- 4
+N <- 5
+";
+
 /// Small grammars with several analyses, empty words, empty components and components out of order.
 pub const SMALL: [&str; 8] = [COPY, PAIR, CROSSING, CHAIN, SILENT, SWAPPED, SHUFFLED, TWELVE];
 
