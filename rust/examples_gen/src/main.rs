@@ -187,7 +187,7 @@ fn made_grammar(written: &WrittenLexicon, start: u32, held: &Path) -> Vec<u8> {
         (Ok(expected), Ok(grammar)) => renaming(&expected, &grammar).is_some(),
         _ => false,
     };
-    if let Some(library) = downgrater::library() {
+    if let Ok(library) = downgrater::library() {
         let mut file = vec![0; 14 * BLOCK];
         let Answer::Accepted(length) = library.make_grammar(lexicon, words, start, &mut file) else {
             panic!("the library refuses the example's lexicon");
