@@ -126,6 +126,7 @@ static void grammar_limits(void)
     g.records[DG_RECORD_BYTES * DG_MOST_RULES - 1] = DG_MOST_WEIGHT;
     is_value(write_file(&g, DG_FILE_BYTES), DG_FILE_BYTES);
     is_value(dg_read_grammar(g.file, g.length), DG_MOST_RULES);
+    HOLDS(DG_MOST_WEIGHT == UINT8_MAX);
     HOLDS(DG_FILE_BYTES == DG_MOST_BLOCKS * DG_BLOCK_BYTES && DG_MOST_BLOCKS == 1 + (DG_MOST_RULES + DG_RECORDS_IN_BLOCK - 1) / DG_RECORDS_IN_BLOCK);
     HOLDS(is_refusal(write_file(&g, DG_FILE_BYTES - 1), DG_DESK, DG_REFUSED_OUTPUT, 0));
     HOLDS(is_refusal(dg_read_grammar(g.file, DG_FILE_BYTES + DG_BLOCK_BYTES), DG_GRAMMAR_AUTHOR, DG_REFUSED_FILE_LENGTH, 0));
