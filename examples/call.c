@@ -13,8 +13,9 @@
 /* One place more than a sentence can have, so that a sentence that is too long is refused. */
 enum { EFFORT_LIMIT = 1000000, PLACES = DG_MOST_PLACES + 1 };
 
-/* Reads a file of the folder into `room` bytes and gives how long the file is, which may be more. Ends the program where it cannot be read. */
-static size_t load(const char *dir, const char *name, uint8_t *bytes, size_t room)
+/* Reads a file of the folder into `room` bytes and gives how many it has; of a longer file one that is read to its end gives its length, any other `room`. Ends the
+ * program where the file cannot be read. */
+static size_t load(const char *dir, const char *name, uint8_t *bytes, size_t room, int to_its_end)
 {
     static char path[4096];
     if (snprintf(path, sizeof path, "%s/%s", dir, name) >= (int)sizeof path) {
@@ -27,7 +28,7 @@ static size_t load(const char *dir, const char *name, uint8_t *bytes, size_t roo
         exit(1);
     }
     size_t length = fread(bytes, 1, room, file);
-    if (length == room)
+    if (to_its_end && length == room)
         while (getc(file) != EOF)
             length++;
     if (ferror(file)) { /* also where it is a folder */
@@ -79,14 +80,12 @@ int main(int argc, char **argv)
     const char *dir = argc > 1 ? argv[1] : "examples/pair";
     static uint8_t grammar[DG_FILE_BYTES + 1]; /* one byte more than a grammar file can have, so that a longer one is refused */
     static uint8_t bytes[1 + 2 * PLACES];      /* the node limit, then two bytes a word */
-    size_t length = load(dir, "grammar", grammar, sizeof grammar);
-    size_t given = load(dir, "sentence", bytes, sizeof bytes);
+    size_t length = load(dir, "grammar", grammar, sizeof grammar, 0);
+    size_t given = load(dir, "sentence", bytes, sizeof bytes, 1);
     if (given % 2 == 0) {
         fprintf(stderr, "call: %s/sentence has an even length: it is the node limit in one byte, and two bytes a word\n", dir);
         return 1;
     }
-    if (length > sizeof grammar)
-        length = sizeof grammar;
     size_t words = given / 2 < PLACES ? given / 2 : PLACES;
     uint32_t sentence[PLACES];
     for (size_t i = 0; i < words; i++)

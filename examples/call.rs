@@ -8,7 +8,7 @@
 
 use std::error::Error;
 use std::io::{self, BufWriter, Write};
-use std::path::Path;
+use std::path::{Path, PathBuf};
 use std::process::ExitCode;
 use std::{env, fs};
 
@@ -29,8 +29,8 @@ fn place(text: &str) -> u32 {
 }
 
 /// The bytes of a file of the folder, or why they cannot be read.
-fn load(dir: &str, name: &str) -> Result<Vec<u8>, String> {
-    let path = Path::new(dir).join(name);
+fn load(dir: &Path, name: &str) -> Result<Vec<u8>, String> {
+    let path = dir.join(name);
     fs::read(&path).map_err(|error| format!("{}: {error}", path.display()))
 }
 
@@ -59,17 +59,23 @@ fn list(
 
 fn run() -> Result<ExitCode, Box<dyn Error>> {
     let library = downgrater::library()?;
-    let dir = env::args().nth(1).unwrap_or("../examples/pair".to_string());
+    let dir = env::args_os()
+        .nth(1)
+        .map_or(PathBuf::from("../examples/pair"), PathBuf::from);
     let grammar = load(&dir, "grammar")?;
     let bytes = load(&dir, "sentence")?;
     let [node_limit, pairs @ ..] = bytes.as_slice() else {
-        return Err(format!("{dir}/sentence is empty").into());
+        return Err(format!("{}/sentence is empty", dir.display()).into());
     };
     if pairs.len() % 2 != 0 {
-        return Err(format!("{dir}/sentence has an even length: it is the node limit in one byte, and two bytes a word").into());
+        let why = "has an even length: it is the node limit in one byte, and two bytes a word";
+        return Err(format!("{}/sentence {why}", dir.display()).into());
     }
     let node_limit = *node_limit as u64;
-    let mut sentence: Vec<u32> = env::args().skip(2).map(|text| place(&text)).collect();
+    let mut sentence: Vec<u32> = env::args_os()
+        .skip(2)
+        .map(|text| place(&text.to_string_lossy()))
+        .collect();
     if sentence.is_empty() {
         sentence = pairs
             .chunks_exact(2)

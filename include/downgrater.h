@@ -26,13 +26,13 @@
 extern "C" {
 #endif
 
-/* The version: 10,000 times the first number, 100 times the second, and the third. The second number is that of the last paper of document 02 that the library
- * has. dg_version is of the library that is linked: where it is not DG_VERSION, this header is that of another one. */
+/* The version: 10,000 times the first number, 100 times the second, and the third. The second number is that of the last of the archive's change requests (the papers
+ * of document 02) that the library has. dg_version is of the library that is linked: where it is not DG_VERSION, this header is that of another one. */
 #define DG_VERSION 10701
 #define DG_VERSION_TEXT "1.7.1"
 uint32_t dg_version(void);
 
-/* An answer that nobody looks at is a warning, where the compiler has one for it. */
+/* The compiler warns of a call whose answer is not used, where it can. */
 #if defined(__GNUC__)
 #define DG_CHECKED __attribute__((warn_unused_result))
 #elif defined(__cplusplus) && __cplusplus >= 201703L
@@ -41,7 +41,7 @@ uint32_t dg_version(void);
 #define DG_CHECKED
 #endif
 
-/* The limits. What is above its limit is refused. */
+/* The limits. What is above a limit named MOST is refused. */
 enum dg_limit {
     /* of a grammar and its file */
     DG_MOST_CATEGORIES = 64,
@@ -112,7 +112,7 @@ enum dg_refusal {
     DG_REFUSED_TERM = 28,
     DG_REFUSED_RANGE = 29,
     DG_REFUSED_LEXICON = 30,
-    DG_REFUSED_MADE_SIZE = 31
+    DG_REFUSED_MADE_GRAMMAR = 31
 };
 
 static inline const char *dg_refusal_text(unsigned number)
@@ -121,12 +121,12 @@ static inline const char *dg_refusal_text(unsigned number)
     case DG_REFUSED_FILE_LENGTH: return "the file's length is not 512 times 1 to 14";
     case DG_REFUSED_CHECK: return "a block's check is wrong";
     case DG_REFUSED_BLOCK: return "a block's number or its kind is wrong";
-    case DG_REFUSED_HEADING: return "a heading value is out of range, the start is no category of dimension 1, or an unused heading byte is not 0";
+    case DG_REFUSED_HEADING: return "a heading value is out of range, the start is no category of dimension 1, an unused heading byte is not 0, or the writer is not given 64 dimension bytes";
     case DG_REFUSED_RECORD_COUNT: return "the number of blocks or of record bytes is wrong (place 0), or a block's record count is";
     case DG_REFUSED_CATEGORY: return "the rule's category or the category of a daughter does not exist, or it has more than 3 daughters";
     case DG_REFUSED_WORD: return "the category of a lexical rule has a dimension other than 1, or its word does not exist";
-    case DG_REFUSED_VARIABLES: return "the rule's variables do not occur once each, or its component lengths do not add up";
-    case DG_REFUSED_UNUSED_BYTE: return "an unused byte is not 0 (byte 23 of a record is its weight)";
+    case DG_REFUSED_VARIABLES: return "the variables of a nonlexical rule do not occur once each, or its component lengths do not add up";
+    case DG_REFUSED_UNUSED_BYTE: return "an unused byte, or a byte of a field that the rule lacks, is not 0 (byte 23 of a record is its weight)";
     case DG_REFUSED_DOUBLE: return "the rule equals an earlier one, as it is or with its daughters in another order and its variables renumbered to match, weight aside; of a lexicon: the entry equals an earlier one";
     case DG_REFUSED_SENTENCE: return "the sentence has more than 96 places (place 96), or the lowest or the highest word of a place does not exist";
     case DG_REFUSED_ANALYSIS_LENGTH: return "the trace or tree has more than 96 numbers";
@@ -148,7 +148,7 @@ static inline const char *dg_refusal_text(unsigned number)
     case DG_REFUSED_TERM: return "the term is over 600 months, or the opening day is after 31 December 2399";
     case DG_REFUSED_RANGE: return "the lowest word of a place is above its highest";
     case DG_REFUSED_LEXICON: return "the lexicon's length is not 8 times 1 to 32, its word count is not 1 to 4,096 or its start is not 1 to 15; or an entry has no feature, a byte that is no feature, a byte after the 0 that is not 0, or a word that does not exist";
-    case DG_REFUSED_MADE_SIZE: return "the made grammar would have over 64 categories or 256 rules, those of the new start included, or neither form of the wanted category is derivable";
+    case DG_REFUSED_MADE_GRAMMAR: return "the made grammar would have over 64 categories or 256 rules, those of the new start included, or neither form of the wanted category is derivable";
     default: return "no refusal has this number";
     }
 }
@@ -226,30 +226,34 @@ DG_CHECKED uint64_t dg_date_of(uint64_t number);
 DG_CHECKED uint64_t dg_opening_day(uint32_t year, uint32_t month, uint32_t day, uint64_t term);
 
 /* Whether that deposit is open on the day with the number asked; its value is 1 from the opening day on, and 0 before it, also before the deposit's date. 27 for
- * the date or for the day asked; then 28, as above. */
+ * the date or for the day asked; then 28, as above. Read it by dg_says_open: a refused answer is not 0. */
 DG_CHECKED uint64_t dg_is_open(uint32_t year, uint32_t month, uint32_t day, uint64_t term, uint64_t asked);
 
 /* A place of a sentence: a single word, or any of the words from the lowest to the highest. */
 static inline uint32_t dg_words(uint16_t lowest, uint16_t highest) { return (uint32_t)highest << 16 | lowest; }
 static inline uint32_t dg_word(uint16_t word) { return dg_words(word, word); }
 
-/* An answer, taken apart. What an answer does not have is UINT32_MAX: the value, the count, the effort or the date of a refused one, the value of a count or of a
- * date, the place of an accepted one. No call takes UINT32_MAX as a day, an entry, or the length of a file, a sentence, a trace or a tree, so that an
- * answer that was not looked at goes no further. */
+/* An answer, taken apart. What an answer does not have is UINT32_MAX: the value, the count, the effort or the date of a refused one; the value of a count or of a
+ * date; the count, the effort or the date of any other answer; the place of an accepted one, and whose it is. No call takes UINT32_MAX as a day, a term, an
+ * entry, a limit or the length of an input. But it is not 0, and with 1 added it is: ask dg_refused or dg_ok before a value is used as true or false, in a sum,
+ * or in fewer bits. */
 static inline int dg_refused(uint64_t answer) { return (int)(answer >> 63); }
 
-/* Of a refusal: enum dg_author, enum dg_refusal, and its place. An accepted answer has the number 0. */
+/* Of a refusal: whose it is (enum dg_author), its number (enum dg_refusal), and its place. The number of an accepted answer is 0, which is no refusal's. */
 static inline unsigned dg_whose(uint64_t answer) { return dg_refused(answer) ? (unsigned)(answer >> 40) & 255 : UINT32_MAX; }
 static inline unsigned dg_number(uint64_t answer) { return dg_refused(answer) ? (unsigned)(answer >> 32) & 255 : 0; }
 static inline uint32_t dg_place(uint64_t answer) { return dg_refused(answer) ? (uint32_t)answer : UINT32_MAX; }
 
-/* The value, where it is one number; dg_ok also says whether it is: 1, or 0 with UINT32_MAX in *value. */
+/* The value, where it is one number: of every call but dg_count and dg_date_of. dg_ok also says whether there is one: 1, or 0 with UINT32_MAX in *value. */
 static inline uint32_t dg_value(uint64_t answer) { return answer >> 24 ? UINT32_MAX : (uint32_t)answer; }
 DG_CHECKED static inline int dg_ok(uint64_t answer, uint32_t *value)
 {
     *value = dg_value(answer);
     return *value != UINT32_MAX;
 }
+
+/* Of the answer of dg_is_open alone: 1 where the deposit is open; 0 where it is not, and where the call was refused. */
+static inline int dg_says_open(uint64_t answer) { return answer == 1; }
 
 /* Of the answer of dg_count alone. An effort is at least 1, so that a number below 2^30 is no count. */
 static inline int dg_is_count(uint64_t answer) { return !dg_refused(answer) && answer >> 30; }

@@ -1,5 +1,6 @@
 /* What include/downgrater.h says, held to the library: the functions that take an answer apart fail closed, of answers of every kind and of answers put together
- * here; UINT32_MAX is taken by no call as a day, an entry or a length; the version and the limits are the library's; every refusal has its text. */
+ * here; UINT32_MAX is taken by no call as a day, a term, an entry, a limit or the length of an input; the version and the limits are the library's; every refusal
+ * has its text. */
 #include "inputs.h"
 
 #define NONE UINT32_MAX
@@ -11,7 +12,7 @@ static void no_figure(uint64_t answer)
     HOLDS(dg_refused(answer));
     HOLDS(dg_value(answer) == NONE && dg_counted(answer) == NONE && dg_effort(answer) == NONE);
     HOLDS(dg_year(answer) == NONE && dg_month(answer) == NONE && dg_day(answer) == NONE);
-    HOLDS(!dg_ok(answer, &value) && value == NONE);
+    HOLDS(!dg_ok(answer, &value) && value == NONE && !dg_says_open(answer));
     HOLDS(dg_number(answer) >= 1 && dg_number(answer) <= 37 && dg_whose(answer) <= DG_DESK && dg_place(answer) != NONE);
 }
 
@@ -69,7 +70,7 @@ static void all_answers(void)
     }
 }
 
-/* No call takes UINT32_MAX as a day, an entry or a length. Nothing past the buffers is read: a length is looked at first. */
+/* No call takes UINT32_MAX as a day, a term, an entry, a limit or the length of an input. Nothing past the buffers is read: a length is looked at first. */
 static void not_taken(void)
 {
     static struct grammar g;
@@ -114,6 +115,9 @@ static void mistyped_date(void)
     HOLDS(is_refusal(date, DG_DESK, DG_REFUSED_DATE, 0));
     HOLDS(dg_year(date) == NONE);
     no_figure(dg_is_open(2026, 1, 1, 0, dg_value(opens)));
+    no_figure(dg_is_open(2026, 2, 30, 1, DG_LAST_DAY));
+    HOLDS(dg_says_open(dg_is_open(2026, 2, 28, 1, DG_LAST_DAY)));
+    HOLDS(!dg_says_open(dg_is_open(2026, 2, 28, 1, 0)));
 }
 
 /* The limits of a grammar: its largest file, and one more of everything. */
@@ -220,7 +224,7 @@ static void lexicon_limits(void)
     HOLDS(is_refusal(dg_make_grammar(lexicon, length + DG_ENTRY_BYTES, DG_MOST_WORDS, 1, made, sizeof made), DG_GRAMMAR_AUTHOR, DG_REFUSED_LEXICON, 0));
     HOLDS(is_refusal(dg_make_grammar(lexicon, length, DG_MOST_WORDS + 1, 1, made, sizeof made), DG_GRAMMAR_AUTHOR, DG_REFUSED_LEXICON, 0));
     HOLDS(is_refusal(dg_make_grammar(lexicon, length, DG_MOST_WORDS, 16, made, sizeof made), DG_GRAMMAR_AUTHOR, DG_REFUSED_LEXICON, 0));
-    HOLDS(is_refusal(dg_make_grammar(lexicon, length, DG_MOST_WORDS, 2, made, sizeof made), DG_GRAMMAR_AUTHOR, DG_REFUSED_MADE_SIZE, 0));
+    HOLDS(is_refusal(dg_make_grammar(lexicon, length, DG_MOST_WORDS, 2, made, sizeof made), DG_GRAMMAR_AUTHOR, DG_REFUSED_MADE_GRAMMAR, 0));
     memcpy(lexicon + DG_ENTRY_BYTES, lexicon, DG_ENTRY_BYTES);
     HOLDS(is_refusal(dg_make_grammar(lexicon, length, DG_MOST_WORDS, 1, made, sizeof made), DG_GRAMMAR_AUTHOR, DG_REFUSED_DOUBLE, 1));
     memset(lexicon + 2, 1, DG_MOST_FEATURES); /* six features, and no byte behind them */
@@ -248,8 +252,8 @@ static void texts(void)
 {
     const char *none = dg_refusal_text(0);
     for (unsigned number = 1; number <= 300; number++)
-        HOLDS((strcmp(dg_refusal_text(number), none) != 0) == (number <= DG_REFUSED_MADE_SIZE));
-    for (unsigned number = 1; number <= DG_REFUSED_MADE_SIZE; number++)
+        HOLDS((strcmp(dg_refusal_text(number), none) != 0) == (number <= DG_REFUSED_MADE_GRAMMAR));
+    for (unsigned number = 1; number <= DG_REFUSED_MADE_GRAMMAR; number++)
         for (unsigned other = 1; other < number; other++)
             HOLDS(strcmp(dg_refusal_text(number), dg_refusal_text(other)) != 0);
     HOLDS(strcmp(dg_refusal_text(UINT32_MAX), none) == 0);
