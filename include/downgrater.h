@@ -71,7 +71,7 @@ enum dg_limit {
     DG_LAST_YEAR = 2399,
     DG_LAST_DAY = 146096, /* 31 December 2399; day 0 is 1 January 2000 */
     DG_MOST_TERM = 600,   /* months */
-    /* of a call's stack, as measured for every call on the largest inputs (tests/stack.c) */
+    /* of a call's stack, as measured for every call on inputs at or near the limits (tests/stack.c) */
     DG_STACK_BYTES = 131072
 };
 

@@ -1,4 +1,4 @@
-/* The stack that each call needs, on inputs at the limits: a call runs on a stack of its own that was painted before, and the lowest byte that it wrote tells.
+/* The stack that each call needs, on inputs at or near the limits: a call runs on a stack of its own that was painted before, and the lowest byte that it wrote tells.
  * Prints bytes and call, and fails where a call needs DG_STACK_BYTES or more, or does not answer what it should on its input. */
 #define _DEFAULT_SOURCE
 #include "inputs.h"
