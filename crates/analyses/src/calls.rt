@@ -29,7 +29,7 @@ const MOST_NODES: u64 = MOST_STEPS as u64;
 const MOST_EFFORT: u64 = 1000000000;
 
 // Refusal 24: the node limit is not 1 to 96, or the effort limit not 1 to 1,000,000,000.
-fn limits_refusal(n: u64, limit: u64) -> Tested
+pub fn limits_refusal(n: u64, limit: u64) -> Tested
     ensures { λ t. ⌜ t ≡ tested (limitsRefusal n limit) ⌝ }
 {
     if n < 1 {

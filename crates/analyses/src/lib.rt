@@ -3,3 +3,4 @@ mod calls;
 
 pub use calls::count;
 pub use calls::entry;
+pub use calls::limits_refusal;

@@ -1,33 +1,13 @@
 // The program: reads the files `grammar` and `sentence` in the working folder, and prints count and effort and then one trace a line; or R with a refusal's
 // number and place (document 01, "Counting and listing").
-ghost use mathlib.Core.Option.{none};
 ghost use mathlib.Core.Path.{_≡_};
-ghost use Prim.Native.Nat.{_+_, _<_, _≤_, min};
+ghost use Prim.Native.Nat.{_<_, _≤_, min};
 ghost use lib.ListN.{length};
-ghost use Rattle.model.specs.GrammarFile.{grammarRefusal};
-ghost use Rattle.walk.specs.Prefixes.{Walks};
 ghost use Rattle.io.specs.Counts.{Counts};
-ghost use Rattle.count_analyses.specs.Paths.{PrintedPage};
 ghost use Rattle.count_analyses.specs.Pieces.{PieceSays, Appended, ReadingSays, WrittenSays};
-use grammar::start;
 use libc::STDOUT_FILENO;
-use model::CountVerdict;
-use model::MOST_STEPS;
-use model::Refusal;
-use ranks::queue::ROOM;
-use ranks::queue::first_queue;
-use ranks::table::TABLE;
-use report::Page;
-use report::Pen;
-use report::SENTENCE_WORDS;
-use report::fill;
-use rule_table::compile;
-use steps::Standing;
-use steps::first_standing;
-use walk::CHAIN;
-use walk::TURNS;
-use walk::chain_rules;
-use walk::no_turns;
+use report::first_page;
+use report::next_page;
 
 // What is read of the files: of a grammar one byte more than an accepted one can have, of a sentence N and one word more than an accepted one can have.
 const GRAMMAR_BYTES: usize = 7169;
@@ -256,117 +236,28 @@ fn write_text(text: &[u8]) -> bool {
     not_written()
 }
 
-// Prints the line of a refusal.
-fn print_refusal(r: Refusal) {
-    let mut out = [0u8; 64];
-    let n = report::put_refusal(r, &mut out, 0);
-    write_text(&out[0..n]);
-}
-
-// The listing goes on after the entry where the walk stands; or all of it is written; or a page cannot be written.
-enum Next {
-    After(Standing),
-    Ended,
-    Broken,
-}
-
-// Writes one page of the listing, after what stands before the pen's place in the buffer.
-fn print_page(
-    t: &[u64; TABLE],
-    chain: &[u16; CHAIN],
-    sentence: &[u32],
-    w: &mut [u64; ROOM],
-    path: &mut [u16; MOST_STEPS],
-    turns: &mut [u64; TURNS],
-    out: &mut [u8],
-    pen: Pen,
-) -> Next
-    requires { ⌜ Walks (now t) (now chain) (now sentence) (now w) (now path) (now turns) (pen .at) × (pen .place + 576 < length (now out)) ⌝ }
-    ensures { λ r. ⌜ PrintedPage (now (t .entry)) (now (chain .entry)) (now (sentence .entry)) (now (w .entry)) (now (path .entry)) (now (turns .entry)) (now (out .entry)) pen (now (w .exit)) (now (path .exit)) (now (turns .exit)) (now (out .exit)) r ⌝ }
-{
-    let page = fill(t, chain, sentence, w, path, turns, out, pen);
-    match page {
-        Page::Last(end) => {
-            if write_text(&out[0..end]) {
-                Next::Ended
-            } else {
-                Next::Broken
-            }
-        }
-        Page::More(next) => {
-            let end = next.place;
-            let at = next.at;
-            if write_text(&out[0..end]) {
-                Next::After(at)
-            } else {
-                Next::Broken
-            }
-        }
-    }
-}
-
-// Prints count and effort, and then the listing, page by page: with each page, less of its text is left. The walk over the listing begins at the empty list,
-// and goes on from page to page.
-fn print_listing(file: &[u8], sentence: &[u32], n: usize, count: u64, effort: u64)
-    requires { ⌜ (grammarRefusal (now file) ≡ none) × (1 ≤ n) × (n ≤ 96) ⌝ }
-{
-    let t = compile(file);
-    let chain = chain_rules(file);
-    let mut w = first_queue(start(file));
-    let mut path = [0u16; MOST_STEPS];
-    let mut turns = no_turns();
+// Writes the text for what was read of the files, page by page: after each page, less of it is left.
+fn print_text(file: &[u8], bytes: &[u8], even: bool) {
     let mut space = io::large_buffer();
     let out: &mut [u8] = &mut space;
-    let mut place = report::put_count(count, effort, out, 0);
-    let mut at = first_standing(n);
+    let mut text = first_page(file, bytes, even, out);
     loop {
-        let pen = Pen {
-            at: at,
-            place: place,
-        };
-        let next = print_page(
-            &t,
-            &chain,
-            sentence,
-            &mut w,
-            &mut path,
-            &mut turns,
-            out,
-            pen,
-        );
-        let Next::After(s) = next else {
+        let end = text.end;
+        if !write_text(&out[0..end]) {
             return;
-        };
-        at = s;
-        place = 0;
-    }
-}
-
-// Prints what the program answers for what it read of its files.
-fn print_all(file: &[u8], sentence: &[u32], n: u8, even: bool) {
-    let v = report::program_verdict(file, sentence, n as u64, even);
-    match v {
-        CountVerdict::Counted(count, effort) => {
-            print_listing(file, sentence, n as usize, count, effort);
         }
-        CountVerdict::NotCounted(r) => {
-            print_refusal(r);
+        if !text.more {
+            return;
         }
+        text = next_page(text, out);
     }
 }
 
 fn main() {
     let mut file = [0u8; GRAMMAR_BYTES];
     let mut bytes = [0u8; SENTENCE_BYTES];
-    let mut words = [0u32; SENTENCE_WORDS];
     let m = load_grammar(&mut file);
     let s = load_sentence(&mut bytes);
     let b = s.bytes;
-    let k = report::read_words(&bytes[0..b], &mut words);
-    print_all(
-        &file[0..m],
-        &words[0..k],
-        report::read_limit(&bytes[0..b]),
-        s.even,
-    );
+    print_text(&file[0..m], &bytes[0..b], s.even);
 }

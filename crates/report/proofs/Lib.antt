@@ -1,5 +1,3 @@
-pub mod Digits
-pub mod Placed
 pub mod Pairs
 pub mod Whole
-pub mod Pages
+pub mod Printing

@@ -1,3 +1,2 @@
-pub mod Text
 pub mod Whole
-pub mod Page
+pub mod Printing

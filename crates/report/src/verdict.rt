@@ -1,25 +1,30 @@
-// The program's verdict.
+// What the program tests before it counts.
 ghost use mathlib.Core.Path.{_≡_};
-ghost use Rattle.report.specs.Whole.{verdictOf};
-use analyses::count;
-use model::CountVerdict;
+ghost use Rattle.model.specs.Verdict.{tested};
+ghost use Rattle.report.specs.Whole.{testsOf};
+use analyses::limits_refusal;
 use model::Refusal;
 use model::Tested;
 use reader::grammar_refusal;
+use sentences::sentence_refusal;
 
 // "effort limit 1,000,000"
-const EFFORT_LIMIT: u64 = 1000000;
+pub const EFFORT_LIMIT: u64 = 1000000;
 
-// The refusal of the grammar, of a sentence file of even length, or of the count with the program's effort limit; else count and effort.
-pub fn program_verdict(file: &[u8], sentence: &[u32], n: u64, even: bool) -> CountVerdict
-    ensures { λ v. ⌜ v ≡ verdictOf (now (file .entry)) (now (sentence .entry)) n even ⌝ }
+// The refusal of the grammar, of a sentence file of even length, of the limits or of the sentence; or none of them.
+pub fn program_tests(file: &[u8], sentence: &[u32], n: u64, even: bool) -> Tested
+    ensures { λ t. ⌜ t ≡ tested (testsOf (now (file .entry)) (now (sentence .entry)) n even) ⌝ }
 {
     let grammar = grammar_refusal(file);
-    if let Tested::Met(r) = grammar {
-        return CountVerdict::NotCounted(r);
-    }
+    let Tested::Passed = grammar else {
+        return grammar;
+    };
     if even {
-        return CountVerdict::NotCounted(Refusal::Analysis(11, 0));
+        return Tested::Met(Refusal::Analysis(11, 0));
     }
-    count(file, sentence, n, EFFORT_LIMIT)
+    let limits = limits_refusal(n, EFFORT_LIMIT);
+    let Tested::Passed = limits else {
+        return limits;
+    };
+    sentence_refusal(file, sentence)
 }

@@ -30,7 +30,7 @@ returns : tie.Need-returns Inv-loop μ-loop
 returns c =
     let i = c .before .before .loop in
     let a = c .before .before .before .before .args in
-    (i .inv .few, i .inv .room, words-end (a .bytes .now) (i .words) (i .k) (i .inv) (c .if1 .taken))
+    record { long = i .inv .room; words-are = words-end (a .bytes .now) (i .words) (i .k) (i .inv) (c .if1 .taken) }
 
 mul-two-bytes : tie.Need-mul-two-bytes Inv-loop μ-loop
 mul-two-bytes c = search needs
@@ -67,7 +67,7 @@ returns-2 : tie.Need-returns-2 Inv-loop μ-loop
 returns-2 c =
     let i = c .before .loop in
     let a = c .before .before .before .args in
-    (i .inv .few, i .inv .room, words-full (a .bytes .now) (i .words) (i .k) (i .inv) (c .loop-test .left))
+    record { long = i .inv .room; words-are = words-full (a .bytes .now) (i .words) (i .k) (i .inv) (c .loop-test .left) }
 
 pub read-words-spec : {M : Type 1} → statement M
 read-words-spec =
