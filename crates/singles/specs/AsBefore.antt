@@ -37,8 +37,8 @@ pub record PartsAsBefore (g : Grammar) (ws : List ℕ) : Type 0 where
   pub live-prefixes : (n : ℕ) → live g (singles ws) n ≡ before.live g ws n
   pub listed : (n : ℕ) → listing g (singles ws) n ≡ before.listing g ws n
 
--- every call on the grammar file and these words as single words answers what it answered before, where this was refused of a grammar file and this grammar was
--- the one that it held
+-- every call that is given a sentence answers, for the grammar file and these words as single words, what it answered before by what was refused of the file
+-- (`refused`) and by the grammar that it held (`g`)
 module _ (file : List ℕ) (refused : Option Refusal) (g : Grammar) (ws : List ℕ) where
   pub record AsBefore : Type 0 where
     pub checks-trace : (trace : List ℕ) → checkTraceVerdict file (singles ws) trace ≡ before.checkTraceVerdict refused g ws trace
