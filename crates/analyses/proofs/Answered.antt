@@ -1,4 +1,4 @@
--- Demand 3 for the answers of the calls, from their promises.
+-- Demand 3 for the answers of the calls, from their promises (`answered`).
 -- Assumes nothing.
 use mathlib.Core.Path.{_≡_, sym, _∙_}
 use mathlib.Core.Option.{none}
@@ -8,14 +8,14 @@ use Rattle.model.specs.GrammarFile.{grammarRefusal, grammarOf}
 use Rattle.model.specs.Trace.{sentenceRefusal}
 use Rattle.model.specs.Counting.{limitsRefusal, listing}
 use Rattle.model.proofs.Demands.{demand-3}
-use Rattle.analyses.specs.Answers.{Answers, Demand3Answered}
+use Rattle.analyses.specs.Answers.{Answers, Demand3AnsweredFor, Demand3Answered}
 
 -- an accepted grammar file, a sentence that neither 11 nor 29 meets, and limits in range
 module _ (file : List ℕ) (accepted : grammarRefusal file ≡ none) (sentence : List ℕ) (spoken : sentenceRefusal (grammarOf file) sentence ≡ none)
     (n limit : ℕ) (ranges : limitsRefusal n limit ≡ none) where
   -- demand 3 for whatever answers as the calls promise
-  pub answered : (answers : Answers file sentence n limit) → Demand3Answered file sentence n limit answers
-  answered answers =
+  by-promise : (answers : Answers file sentence n limit) → Demand3AnsweredFor file sentence n limit answers
+  by-promise answers =
       let d = demand-3 file accepted sentence spoken n limit ranges in
       record {
         prefixes = d .prefixes;
@@ -43,3 +43,6 @@ module _ (file : List ℕ) (accepted : grammarRefusal file ≡ none) (sentence :
             let e = d .no-entry h out room m k in
             (answers .entry-promised m out .0 ∙ e .0, answers .entry-promised m out .1 ∙ e .1);
       }
+
+pub answered : Demand3Answered
+answered = by-promise

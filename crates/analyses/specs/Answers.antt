@@ -4,12 +4,15 @@
 use mathlib.Core.Path.{_≡_}
 use Prim.Native.Nat.{ℕ, _<_, _≤_}
 use mathlib.Core.List.{List, [], _++_, map, List·Memᴰ}
+use mathlib.Core.Option.{none}
 use lib.ListN.{length, getD, drop}
 use Rattle.model.specs.declared.Refusal.{Refusal}
 use Rattle.model.specs.declared.Verdict.{Verdict}
 use Rattle.model.specs.declared.CountVerdict.{CountVerdict}
-use Rattle.model.specs.GrammarFile.{grammarOf}
+use Rattle.model.specs.GrammarFile.{grammarRefusal, grammarOf}
+use Rattle.model.specs.Trace.{sentenceRefusal}
 use Rattle.model.specs.Tree.{Tree, preorder}
+use Rattle.model.specs.Counting.{limitsRefusal}
 use Rattle.model.specs.LivePrefixes.{Live, InOrder, Different}
 use Rattle.model.specs.Calls.{countCall, entryVerdict, entryOutput}
 use Rattle.model.specs.Demands.{_⇔_, Analysis, Belongs, traceOfTree}
@@ -27,8 +30,9 @@ module _ (file sentence : List ℕ) (n limit : ℕ) where
   abbrev pub Writes : List ℕ → List ℕ → Verdict × List ℕ → Type 0
   Writes trace out answer = (answer .0 ≡ Verdict.Accepted (length trace)) × (answer .1 ≡ trace ++ drop (length trace) out)
 
-  -- Demand 3, "one claim about the count and the whole listing"
-  pub record Demand3Answered (answers : Answers) : Type 0 where
+  -- Demand 3, "one claim about the count and the whole listing", for one grammar file, sentence, node limit and effort limit; for which ones is said in
+  -- `Demand3Answered`
+  pub record Demand3AnsweredFor (answers : Answers) : Type 0 where
     -- the live prefixes, none twice, and the trees with at most n nodes that derive the sentence, none twice
     pub prefixes : List (List ℕ)
     pub prefixes-are : (p : List ℕ) → List·Memᴰ p prefixes ⇔ Live (grammarOf file) sentence n p
@@ -52,3 +56,11 @@ module _ (file sentence : List ℕ) (n limit : ℕ) where
     pub entries : length prefixes ≤ limit → (out : List ℕ) → 96 ≤ length out → (m : ℕ) → m < length trees → Writes (getD traces m []) out (answers .entry m out)
     pub no-entry : length prefixes ≤ limit → (out : List ℕ) → 96 ≤ length out → (m : ℕ) → length trees ≤ m
         → (answers .entry m out .0 ≡ Verdict.Refused (Refusal.Desk 26 0)) × (answers .entry m out .1 ≡ out)
+
+-- Demand 3 of the calls' answers, whole: "All of this demand holds for every accepted grammar, every sentence of at most 96 of its words, every node limit N
+-- from 1 to 96 and every effort limit from 1 to 1,000,000,000", since paper 5 of document 02 "for every sentence that meets neither 11 nor 29"; and for all
+-- answers that are as the two calls promise
+abbrev pub Demand3Answered : Type 0
+Demand3Answered =
+    (file : List ℕ) → grammarRefusal file ≡ none → (sentence : List ℕ) → sentenceRefusal (grammarOf file) sentence ≡ none
+    → (n limit : ℕ) → limitsRefusal n limit ≡ none → (answers : Answers file sentence n limit) → Demand3AnsweredFor file sentence n limit answers

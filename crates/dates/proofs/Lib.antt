@@ -1,5 +1,6 @@
 pub mod Months
 pub mod OneDate
+pub mod BackAndForth
 pub mod OpeningMonth
 pub mod YearsAndMonths
 pub mod OpenOrNot

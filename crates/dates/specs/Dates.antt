@@ -1,8 +1,8 @@
 -- The day a deposit opens (document 02, paper 3): the opening day, the refusals in their order, the outcome of each call, and what is proved of them.
 -- Assumes nothing.
 use mathlib.Core.Path.{_≡_}
-use Prim.Native.Nat.{ℕ, zero, suc, min, _<_}
-use mathlib.Core.Bool.{Bool, true, not}
+use Prim.Native.Nat.{ℕ, zero, suc, min, _<_, _≤_}
+use mathlib.Core.Bool.{Bool, true, false, not}
 use mathlib.Core.List.{List, [], _∷_}
 use mathlib.Core.Option.{Option, none, some}
 use lib.Dec.{ltb, leb}
@@ -11,7 +11,7 @@ use Rattle.model.specs.declared.Verdict.{Verdict}
 use Rattle.model.specs.Base.{if_then_else_, _orElse_}
 use Rattle.model.specs.Verdict.{refuseIf, verdict, Answer, values, refusalAnswer, verdictAnswer}
 use Rattle.model.specs.Refusals.{Test, ofDesk, _andThen_}
-use Rattle.model.specs.Demands.{Decided}
+use Rattle.model.specs.Demands.{_⇔_, Decided}
 use Rattle.calendar.specs.declared.Date.{Date}
 use Rattle.calendar.specs.Calendar.{date, monthLength, lastYear, days, isDate, dayNumber, dateOf, Month, monthOf, nextMonth, BothWays}
 use Rattle.dates.specs.declared.DateVerdict.{DateVerdict}
@@ -130,3 +130,24 @@ pub record OneDate : Type 0 where
       → (openingRefusal d shorter ≡ none) × (dayNumber (opening d shorter) < dayNumber (opening d longer))
   -- the opening day is after the last date exactly when its number is that of no day of the span
   pub after-last : (d : Date) (term : ℕ) → isDate d ≡ true → tooLate d term ≡ noDay (dayNumber (opening d term))
+
+-- The answers of the call for a date's number and of the call for a number's date, as `day_number` and `date_of` promise
+pub record DateAnswers : Type 0 where
+  pub number-of : Date → Verdict
+  pub date-of : ℕ → DateVerdict
+  pub number-promised : (d : Date) → number-of d ≡ numberVerdict d
+  pub date-promised : (n : ℕ) → date-of n ≡ dateCall n
+
+-- "The calls give a date's number, a number's one date": the two calls one after the other, for all answers that are as they promise
+pub record BackAndForth : Type 0 where
+  -- a day number of the span has a date, and that date has that number
+  pub number-back : (answers : DateAnswers) (n : ℕ) → n < days → (d : Date) × (answers .date-of n ≡ Dated d) × (answers .number-of d ≡ Verdict.Accepted n)
+  -- a date of the span has a number, and that number has that date
+  pub date-back : (answers : DateAnswers) (d : Date) → isDate d ≡ true → (n : ℕ) × (answers .number-of d ≡ Verdict.Accepted n) × (answers .date-of n ≡ Dated d)
+  -- it is the number's one date: no other date has that number, and no other number has that date
+  pub one : (answers : DateAnswers) (d : Date) (n : ℕ) → (answers .number-of d ≡ Verdict.Accepted n) ⇔ (answers .date-of n ≡ Dated d)
+  -- all else is 27 in the one call and not given by the other: "no such date, or a date or day number outside that span"
+  pub no-date : (answers : DateAnswers) (d : Date) → isDate d ≡ false
+      → (answers .number-of d ≡ Verdict.Refused (Refusal.Desk 27 0)) × ((n : ℕ) → answers .date-of n ≡ Dated d → ⊥)
+  pub no-day : (answers : DateAnswers) (n : ℕ) → days ≤ n
+      → (answers .date-of n ≡ NotDated (Refusal.Desk 27 0)) × ((d : Date) → answers .number-of d ≡ Verdict.Accepted n → ⊥)

@@ -1,4 +1,4 @@
--- Demands 2 and 3 of document 01, for every grammar file that the reader accepts and every sentence that neither 11 nor 29 meets.
+-- Demands 2 and 3 of document 01 (`demand-2`, `demand-3`).
 -- Assumes nothing.
 use mathlib.Core.Path.{_≡_, refl, sym, ap, subst, _∙_}
 use mathlib.Core.Bool.{Bool, true, false, not}
@@ -22,7 +22,7 @@ use Rattle.model.specs.Tree.{Tree, preorder, derives, nodesRefusal, tree
 use Rattle.model.specs.Conversions.{BelongsTo, traceOf, treeOf}
 use Rattle.model.specs.Counting.{start, live, effort, listing, count, entry, limitsRefusal}
 use Rattle.model.specs.Calls.{written, checkTraceVerdict, checkTreeVerdict, countCall, entryVerdict, entryOutput}
-use Rattle.model.specs.Demands.{_⇔_, Recognized, Derivation, ToTree, ToTrace, Demand2, Analysis, traceOfTree, Belongs, Demand3}
+use Rattle.model.specs.Demands.{_⇔_, Recognized, Derivation, ToTree, ToTrace, Demand2For, Demand2, Analysis, traceOfTree, Belongs, Demand3For, Demand3}
 use Rattle.model.proofs.Tests.{none-some}
 use Rattle.model.proofs.Verdicts.{none-accepted}
 use Rattle.model.proofs.Live.{live-lists}
@@ -150,8 +150,8 @@ module _ (file : List ℕ) (accepted : grammarRefusal file ≡ none) (sentence :
         back = ap (treeOf g sentence) (sym h) ∙ tree-back g right sentence (d .tree) (d .derived) ∙ d .listed;
       }
 
-  pub demand-2 : Demand2 file sentence
-  demand-2 =
+  holds-2 : Demand2For file sentence
+  holds-2 =
       record {
         traces = λ p l. (λ e. trace-only g right sentence p (trace-passed p e), λ h. trace-passes p (trace-all g right sentence p l h));
         trees = λ p l. (λ e. accepted-derives g sentence p (tree-passed p e), λ h. tree-passes p (tree-all g right sentence p l h));
@@ -215,8 +215,8 @@ module _ (file : List ℕ) (accepted : grammarRefusal file ≡ none) (sentence :
         let e : ltb limit (effort g sentence n) ≡ true = lt-ltb limit (effort g sentence n) h in
         rw (accepted, r, ranges, spoken, e)
 
-    pub demand-3 : Demand3 file sentence n limit
-    demand-3 =
+    holds-3 : Demand3For file sentence n limit
+    holds-3 =
         let a = analyses g right sentence n in
         let l = live-lists g sentence n in
         let o = listing-lists g sentence n .ordered in
@@ -239,3 +239,9 @@ module _ (file : List ℕ) (accepted : grammarRefusal file ≡ none) (sentence :
           entry-is = λ h out room m k. entry-by h out room m false (lt-leb (count g sentence n) m (omega (arith, a .counted)));
           no-entry = λ h out room m k. entry-by h out room m true (le-leb (count g sentence n) m (omega (arith, a .counted)));
         }
+
+pub demand-2 : Demand2
+demand-2 = holds-2
+
+pub demand-3 : Demand3
+demand-3 = holds-3

@@ -1,10 +1,9 @@
--- The three demands, as statements about the calls. Demand 1 holds for every input (proofs/Refusals.antt), demands 2 and 3 for every grammar file that the
--- reader accepts and, "a fitting yield standing for an equal one" (document 02, paper 5), for every sentence that neither 11 nor 29 meets
--- (proofs/Demands.antt). Each is quoted before its record.
+-- The three demands, as statements about the calls: `Demand1` (proved in proofs/Refusals.antt), `Demand2` and `Demand3` (in proofs/Demands.antt). Each is
+-- quoted before its record.
 -- Assumes nothing.
 use mathlib.Core.Path.{_≡_}
 use Prim.Native.Nat.{ℕ, _<_, _≤_}
-use mathlib.Core.Option.{some}
+use mathlib.Core.Option.{none, some}
 use mathlib.Core.Bool.{true, false}
 use mathlib.Core.List.{List, [], _∷_, _++_, map, List·Memᴰ}
 use lib.Dec.{T}
@@ -13,12 +12,12 @@ use Rattle.model.specs.declared.Refusal.{Refusal}
 use Rattle.model.specs.declared.Verdict.{Verdict}
 use Rattle.model.specs.declared.CountVerdict.{CountVerdict}
 use Rattle.model.specs.Grammar.{Grammar}
-use Rattle.model.specs.GrammarFile.{grammarOf, rulesOf, categoriesOf}
+use Rattle.model.specs.GrammarFile.{grammarRefusal, grammarOf, rulesOf, categoriesOf}
 use Rattle.model.specs.Step.{State}
-use Rattle.model.specs.Trace.{noNode, run}
+use Rattle.model.specs.Trace.{noNode, run, sentenceRefusal}
 use Rattle.model.specs.Tree.{Tree, preorder, derives}
 use Rattle.model.specs.Conversions.{BelongsTo, treeOf, traceOf}
-use Rattle.model.specs.Counting.{start, listing, count, effort, entry}
+use Rattle.model.specs.Counting.{start, listing, count, effort, entry, limitsRefusal}
 use Rattle.model.specs.LivePrefixes.{Live, InOrder, Different}
 use Rattle.model.specs.Verdict.{Author, Answer, values, refusal, verdictAnswer, countAnswer}
 use Rattle.model.specs.Writer.{Heading, fileOf}
@@ -130,13 +129,19 @@ module _ (file sentence : List ℕ) where
   -- 96 steps is accepted exactly when its steps lead from the start prediction to no words and no predictions left. A tree of at most 96 nodes is accepted
   -- exactly when the grammar derives the sentence by it. For accepted ones, trace to tree to trace gives back the trace; tree to trace to tree gives back
   -- the tree."
-  pub record Demand2 : Type 0 where
+  -- For one grammar file and one sentence; for which ones is said in `Demand2`.
+  pub record Demand2For : Type 0 where
     pub traces : (trace : List ℕ) → length trace ≤ 96
         → (checkTraceVerdict file sentence trace ≡ Verdict.Accepted (length trace)) ⇔ Recognized (grammarOf file) sentence trace
     pub trees : (list : List ℕ) → length list ≤ 96
         → (checkTreeVerdict file sentence list ≡ Verdict.Accepted (length list)) ⇔ Derivation (grammarOf file) sentence list
     pub to-tree : (trace : List ℕ) → checkTraceVerdict file sentence trace ≡ Verdict.Accepted (length trace) → ToTree trace
     pub to-trace : (list : List ℕ) → checkTreeVerdict file sentence list ≡ Verdict.Accepted (length list) → ToTrace list
+
+-- Demand 2 whole: for every grammar file that the reader accepts and, "a fitting yield standing for an equal one, for every sentence that meets neither 11 nor
+-- 29" (document 02, paper 5)
+abbrev pub Demand2 : Type 0
+Demand2 = (file : List ℕ) → grammarRefusal file ≡ none → (sentence : List ℕ) → sentenceRefusal (grammarOf file) sentence ≡ none → Demand2For file sentence
 
 -- a tree that is counted: it derives the sentence and has at most n nodes
 pub record Analysis (g : Grammar) (sentence : List ℕ) (n : ℕ) (tree : Tree) : Type 0 where
@@ -157,7 +162,8 @@ pub record Belongs (g : Grammar) (sentence : List ℕ) (tree : Tree) : Type 0 wh
 -- effort limit allows. Where that limit suffices, the count returned is the number of different trees with at most N nodes that derive the sentence from the
 -- start category, and the effort returned is the number of live prefixes. The listing then has exactly as many entries as the count says. They are the
 -- traces of those trees, each tree's exactly once, in dictionary order of rule numbers, and each has as many steps as its tree has nodes."
-pub record Demand3 (file sentence : List ℕ) (n limit : ℕ) : Type 0 where
+-- For one grammar file, sentence, node limit and effort limit; for which ones is said in `Demand3`.
+pub record Demand3For (file sentence : List ℕ) (n limit : ℕ) : Type 0 where
   -- the live prefixes: those and no others, none twice
   pub prefixes : List (List ℕ)
   pub prefixes-are : (p : List ℕ) → List·Memᴰ p prefixes ⇔ Live (grammarOf file) sentence n p
@@ -186,3 +192,11 @@ pub record Demand3 (file sentence : List ℕ) (n limit : ℕ) : Type 0 where
       ≡ getD (listing (grammarOf file) sentence n) m [] ++ drop (length (getD (listing (grammarOf file) sentence n) m [])) out)
   pub no-entry : length prefixes ≤ limit → (out : List ℕ) → 96 ≤ length out → (m : ℕ) → length trees ≤ m
       → (entryVerdict file sentence n limit m out ≡ Verdict.Refused (Refusal.Desk 26 0)) × (entryOutput file sentence n limit m out ≡ out)
+
+-- Demand 3 whole: "All of this demand holds for every accepted grammar, every sentence of at most 96 of its words, every node limit N from 1 to 96 and every
+-- effort limit from 1 to 1,000,000,000"; since paper 5 of document 02 "for every sentence that meets neither 11 nor 29". What is asked is that no test of the
+-- count before 25 meets it: the grammar's, 24, 11 and 29. An entry has 23 besides, for which `Demand3For` asks room in the output.
+abbrev pub Demand3 : Type 0
+Demand3 =
+    (file : List ℕ) → grammarRefusal file ≡ none → (sentence : List ℕ) → sentenceRefusal (grammarOf file) sentence ≡ none
+    → (n limit : ℕ) → limitsRefusal n limit ≡ none → Demand3For file sentence n limit

@@ -1,5 +1,5 @@
--- A file that was accepted before and has a double is refused by 10, at the first rule that is an earlier one with its daughters in some order; so is every call
--- that is given it.
+-- A file that was accepted between papers 1 and 4 and has a double is refused by 10, at the first rule that is an earlier one with its daughters in some
+-- order; so is every call that is given it.
 -- Assumes nothing.
 use mathlib.Core.Path.{_≡_, refl, sym, ap, ap₂, _∙_}
 use mathlib.Core.Bool.{Bool, not}
@@ -23,8 +23,8 @@ use Rattle.model.specs.Counting.{limitsRefusal, effortRefusal, entryRefusal, co
 use Rattle.model.specs.Calls.{written, roomRefusal}
 use Rattle.model.specs.Program.{sentenceIn, limitIn, programLimit, printed}
 use Rattle.weights.specs.Weights.{weightSum}
-use Rattle.old_files.specs.OldFiles.{grammarRefusalBefore, writerTests, Lost, FirstDouble}
-use Rattle.old_files.proofs.Before.{tenth, fresh, is-repeated, not-repeated, refused-at}
+use Rattle.old_files.specs.OldFiles.{grammarRefusalBetween, writerTests, Lost, FirstDouble}
+use Rattle.old_files.proofs.Between.{tenth, fresh, is-repeated, not-repeated, refused-at}
 
 -- the first of tests, where those before it are not met
 first-met : (f : ℕ → Option Refusal) (from n i : ℕ) {r : Refusal} → from ≤ i → i < from + n → ((k : ℕ) → from ≤ k → k < i → f k ≡ none) → f i ≡ some r
@@ -61,14 +61,14 @@ module _ (h : Heading) (records : List ℕ) (r : Refusal) where
   nothing-written : (rest : Option Refusal) (list out : List ℕ) → written (tests orElse rest) list out ≡ out
   nothing-written rest list out = ap (λ (o : Option Refusal). written (o orElse rest) list out) (met .1)
 
-module _ (file : List ℕ) (before : grammarRefusalBefore file ≡ none) (bytes : T (allBytes file)) (i : ℕ) (double : FirstDouble file i) where
+module _ (file : List ℕ) (between : grammarRefusalBetween file ≡ none) (bytes : T (allBytes file)) (i : ℕ) (double : FirstDouble (grammarOf file) i) where
   refused : grammarRefusal file ≡ some (Refusal.Grammar 10 i)
   refused =
-      let (here, again) = is-repeated file before bytes i (double .double) in
-      refused-at file before i
+      let (here, again) = is-repeated file between bytes i (double .double) in
+      refused-at file between i
       (first-met (ruleRefusal file) 0 (rulesOf file) i (omega arith) (omega arith)
-      (λ k lo hi. fresh file before k (omega arith) (not-repeated file before k (omega arith) (double .first k hi)))
-      (tenth file before i here ∙ ap (λ (b : Bool). refuseIf b (Refusal.Grammar 10 i)) again))
+      (λ k lo hi. fresh file between k (omega arith) (not-repeated file between k (omega arith) (double .first k hi)))
+      (tenth file between i here ∙ ap (λ (b : Bool). refuseIf b (Refusal.Grammar 10 i)) again))
 
   -- what depends on the refusal of the file
   refused-by : {A : Type 0} (f : Option Refusal → A) → f (grammarRefusal file) ≡ f (some (Refusal.Grammar 10 i))

@@ -1,1 +1,2 @@
 pub mod OldFiles
+pub mod OwnAnswers

@@ -24,7 +24,7 @@ use Rattle.weights.specs.Weights.{weightSum}
 use Rattle.model.specs.Program.{limitIn, programLimit, printed, pairs, program}
 use Rattle.singles.specs.OldSentences.{sentenceRefusal as oldSentence, traceRefusal as oldTraceRefusal, treeRefusal as oldTreeRefusal, treeOf as oldTreeOf, traceOf as oldTraceOf, live as oldLive, complete as oldComplete, listing as oldListing, pairs as oldPairs, program as oldProgram}
 use Rattle.model.proofs.Search.{keep-same}
-use Rattle.singles.specs.AsBefore.{Below, Words, PartsAsBefore, AsBefore, SingleWords}
+use Rattle.singles.specs.AsBefore.{Below, Words, PartsAsBefore, AsBefore, SumsAsBefore, SingleWords}
 use Rattle.singles.proofs.Sentences.{sentence-same, string-same}
 use Rattle.singles.proofs.Steps.{steps-same, trace-same, placed-same, live-same, ended-same}
 
@@ -98,13 +98,11 @@ module _ (file ws : List ℕ) (h : Words ws) where
       ap₂ _orElse_ (sentence-same g ws h)
       (ap₂ _orElse_ (effort-refused n limit) (ap (λ (l : List (List ℕ)). refuseIf (leb (length l) m) (Refusal.Desk 26 0)) (listing-as-before g ws h n)))
 
-  as-before : AsBefore file ws
+  as-before : AsBefore file (grammarRefusal file) g ws
   as-before =
       record {
         checks-trace = λ trace. ap (λ (o : Option Refusal). verdict o (length trace)) (checks-trace trace);
         checks-tree = λ tree. ap (λ (o : Option Refusal). verdict o (length tree)) (checks-tree tree);
-        weighs-trace = λ trace. ap (λ (o : Option Refusal). verdict o (weightSum g trace)) (checks-trace trace);
-        weighs-tree = λ tree. ap (λ (o : Option Refusal). verdict o (weightSum g tree)) (checks-tree tree);
         to-tree = λ trace out. converts out (length trace) (trace-refused g ws h trace) (tree-made g ws h trace);
         to-trace = λ tree out. converts out (length tree) (tree-refused g ws h tree) (trace-made g ws h tree);
         counts = λ n limit.
@@ -114,6 +112,13 @@ module _ (file ws : List ℕ) (h : Words ws) where
           ap₂ (λ (o : Option Refusal) (l : List (List ℕ)). verdict (grammarRefusal file orElse roomRefusal out orElse limitsRefusal n limit orElse o) (length (getD l m []))) (entry-refused n limit m) (listing-as-before g ws h n),
           ap₂ (λ (o : Option Refusal) (l : List (List ℕ)). written (grammarRefusal file orElse roomRefusal out orElse limitsRefusal n limit orElse o) (getD l m []) out) (entry-refused n limit m) (listing-as-before g ws h n),
         );
+      }
+
+  sums-as-before : SumsAsBefore file (grammarRefusal file) g ws
+  sums-as-before =
+      record {
+        weighs-trace = λ trace. ap (λ (o : Option Refusal). verdict o (weightSum g trace)) (checks-trace trace);
+        weighs-tree = λ tree. ap (λ (o : Option Refusal). verdict o (weightSum g tree)) (checks-tree tree);
       }
 
 -- the program's file
@@ -128,7 +133,7 @@ pairs-words (a ∷ []) h k = omega arith
 pairs-words (a ∷ b ∷ bs) h zero = omega (arith, h 0, h 1)
 pairs-words (a ∷ b ∷ bs) h (suc k) = pairs-words bs (λ j. h (suc (suc j))) k
 
-prints-as-before : (file sentenceFile : List ℕ) → Below 256 sentenceFile → program file sentenceFile ≡ oldProgram file sentenceFile
+prints-as-before : (file sentenceFile : List ℕ) → Below 256 sentenceFile → program file sentenceFile ≡ oldProgram (grammarRefusal file) (grammarOf file) sentenceFile
 prints-as-before file sentenceFile h =
     let g = grammarOf file in
     let n = limitIn sentenceFile in
@@ -144,4 +149,4 @@ prints-as-before file sentenceFile h =
     ((length l ∷ length (oldLive g ws n) ∷ []) ∷ l)) (listing-as-before g ws words n)
 
 pub single-words : SingleWords
-single-words = record { parts = parts-as-before; calls = as-before; prints = prints-as-before }
+single-words = record { parts = parts-as-before; calls = as-before; sums = sums-as-before; prints = prints-as-before }

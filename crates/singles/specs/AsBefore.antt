@@ -4,8 +4,11 @@
 use mathlib.Core.Path.{_≡_}
 use Prim.Native.Nat.{ℕ, _<_}
 use mathlib.Core.List.{List}
+use mathlib.Core.Option.{Option}
 use lib.ListN.{getD}
+use Rattle.model.specs.declared.Refusal.{Refusal}
 use Rattle.model.specs.Grammar.{Grammar}
+use Rattle.model.specs.GrammarFile.{grammarRefusal, grammarOf}
 use Rattle.model.specs.Step.{singles}
 use Rattle.model.specs.Trace.{sentenceRefusal, traceRefusal}
 use Rattle.model.specs.Tree.{treeRefusal}
@@ -34,25 +37,34 @@ pub record PartsAsBefore (g : Grammar) (ws : List ℕ) : Type 0 where
   pub live-prefixes : (n : ℕ) → live g (singles ws) n ≡ before.live g ws n
   pub listed : (n : ℕ) → listing g (singles ws) n ≡ before.listing g ws n
 
--- what is claimed for every grammar file, accepted or not, and every list of words, of any length, known to the grammar or not
-pub record AsBefore (file ws : List ℕ) : Type 0 where
-  pub checks-trace : (trace : List ℕ) → checkTraceVerdict file (singles ws) trace ≡ before.checkTraceVerdict file ws trace
-  pub checks-tree : (tree : List ℕ) → checkTreeVerdict file (singles ws) tree ≡ before.checkTreeVerdict file ws tree
-  pub weighs-trace : (trace : List ℕ) → weighTraceVerdict file (singles ws) trace ≡ before.weighTraceVerdict file ws trace
-  pub weighs-tree : (tree : List ℕ) → weighTreeVerdict file (singles ws) tree ≡ before.weighTreeVerdict file ws tree
-  pub to-tree : (trace out : List ℕ)
-      → (traceToTreeVerdict file (singles ws) trace out ≡ before.traceToTreeVerdict file ws trace out)
-      × (traceToTreeOutput file (singles ws) trace out ≡ before.traceToTreeOutput file ws trace out)
-  pub to-trace : (tree out : List ℕ)
-      → (treeToTraceVerdict file (singles ws) tree out ≡ before.treeToTraceVerdict file ws tree out)
-      × (treeToTraceOutput file (singles ws) tree out ≡ before.treeToTraceOutput file ws tree out)
-  pub counts : (n limit : ℕ) → countCall file (singles ws) n limit ≡ before.countCall file ws n limit
-  pub enters : (n limit m : ℕ) (out : List ℕ)
-      → (entryVerdict file (singles ws) n limit m out ≡ before.entryVerdict file ws n limit m out)
-      × (entryOutput file (singles ws) n limit m out ≡ before.entryOutput file ws n limit m out)
+-- every call that is given a sentence answers, for the grammar file and these words as single words, what it answered before by what was refused of the file
+-- (`refused`) and by the grammar that it held (`g`)
+module _ (file : List ℕ) (refused : Option Refusal) (g : Grammar) (ws : List ℕ) where
+  pub record AsBefore : Type 0 where
+    pub checks-trace : (trace : List ℕ) → checkTraceVerdict file (singles ws) trace ≡ before.checkTraceVerdict refused g ws trace
+    pub checks-tree : (tree : List ℕ) → checkTreeVerdict file (singles ws) tree ≡ before.checkTreeVerdict refused g ws tree
+    pub to-tree : (trace out : List ℕ)
+        → (traceToTreeVerdict file (singles ws) trace out ≡ before.traceToTreeVerdict refused g ws trace out)
+        × (traceToTreeOutput file (singles ws) trace out ≡ before.traceToTreeOutput refused g ws trace out)
+    pub to-trace : (tree out : List ℕ)
+        → (treeToTraceVerdict file (singles ws) tree out ≡ before.treeToTraceVerdict refused g ws tree out)
+        × (treeToTraceOutput file (singles ws) tree out ≡ before.treeToTraceOutput refused g ws tree out)
+    pub counts : (n limit : ℕ) → countCall file (singles ws) n limit ≡ before.countCall refused g ws n limit
+    pub enters : (n limit m : ℕ) (out : List ℕ)
+        → (entryVerdict file (singles ws) n limit m out ≡ before.entryVerdict refused g ws n limit m out)
+        × (entryOutput file (singles ws) n limit m out ≡ before.entryOutput refused g ws n limit m out)
 
+  -- the two calls of paper 1
+  pub record SumsAsBefore : Type 0 where
+    pub weighs-trace : (trace : List ℕ) → weighTraceVerdict file (singles ws) trace ≡ before.weighTraceVerdict refused g ws trace
+    pub weighs-tree : (tree : List ℕ) → weighTreeVerdict file (singles ws) tree ≡ before.weighTreeVerdict refused g ws tree
+
+-- what is claimed for every grammar file, accepted or not, and every list of words, of any length, known to the grammar or not: what is refused of a grammar
+-- file, and the grammar that it holds, are those of today
 pub record SingleWords : Type 0 where
   pub parts : (g : Grammar) (ws : List ℕ) → Words ws → PartsAsBefore g ws
-  pub calls : (file ws : List ℕ) → Words ws → AsBefore file ws
+  pub calls : (file ws : List ℕ) → Words ws → AsBefore file (grammarRefusal file) (grammarOf file) ws
+  pub sums : (file ws : List ℕ) → Words ws → SumsAsBefore file (grammarRefusal file) (grammarOf file) ws
   -- for all bytes of the two files
-  pub prints : (file sentenceFile : List ℕ) → Below 256 sentenceFile → program file sentenceFile ≡ before.program file sentenceFile
+  pub prints : (file sentenceFile : List ℕ) → Below 256 sentenceFile
+      → program file sentenceFile ≡ before.program (grammarRefusal file) (grammarOf file) sentenceFile

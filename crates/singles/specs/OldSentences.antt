@@ -1,6 +1,7 @@
 -- What the calls answered before document 02's paper 5: a sentence was a list of words, and a word was read just if it was the next one. Only what looks at a
--- sentence, or calls what does, is here, under the name of the definition that took its place; short ones are written out where they are used. Everything else is
--- that of `model` and `weights`.
+-- sentence, or calls what does, is here, under the name of the definition that took its place; short ones are written out where they are used. Everything
+-- else is that of `model` and `weights`. What a call answered is said for what is refused of a grammar file and the grammar that it holds, whatever these
+-- are: of today's grammar files they are `grammarRefusal file` and `grammarOf file` of `model`; of older ones they are in the crate `old_files`.
 -- Assumes nothing.
 use Prim.Native.Nat.{ℕ, zero, suc, _+_, _-_, _*_, _%_}
 use mathlib.Core.Bool.{Bool, false, not}
@@ -14,7 +15,6 @@ use Rattle.model.specs.declared.CountVerdict.{CountVerdict}
 use Rattle.model.specs.Base.{if_then_else_, _orElse_, each, keep, numbersFrom, sameList}
 use Rattle.model.specs.Verdict.{refuseIf, verdict, countVerdict}
 use Rattle.model.specs.Grammar.{Rule, Grammar, emptyWord, ruleAt, isLexical}
-use Rattle.model.specs.GrammarFile.{grammarRefusal, grammarOf}
 use Rattle.model.specs.Step.{Prediction, State, Outcome, fails, leads, predict, begin}
 use Rattle.model.specs.Trace.{noNode, lengthRefusal}
 use Rattle.model.specs.Tree.{Tree, yield, treeOfList, nodesRefusal}
@@ -117,13 +117,14 @@ module _ (g : Grammar) where
   abbrev pub listing : List ℕ → ℕ → List (List ℕ)
   listing sentence n = keep (complete sentence) (live sentence n)
 
--- the outcomes of the calls
-module _ (file sentence : List ℕ) where
-  abbrev g : Grammar
-  g = grammarOf file
+  -- "25 effort above the limit"
+  abbrev pub effortRefusal : List ℕ → ℕ → ℕ → Option Refusal
+  effortRefusal sentence n limit = refuseIf (ltb limit (length (live sentence n))) (Refusal.Desk 25 0)
 
+-- the outcomes of the calls, by what is refused of the grammar file and by the grammar that it holds
+module _ (refused : Option Refusal) (g : Grammar) (sentence : List ℕ) where
   abbrev pub checkTraceRefusal : List ℕ → Option Refusal
-  checkTraceRefusal trace = grammarRefusal file orElse sentenceRefusal g sentence orElse traceRefusal g sentence trace
+  checkTraceRefusal trace = refused orElse sentenceRefusal g sentence orElse traceRefusal g sentence trace
 
   abbrev pub checkTraceVerdict : List ℕ → Verdict
   checkTraceVerdict trace = verdict (checkTraceRefusal trace) (length trace)
@@ -132,7 +133,7 @@ module _ (file sentence : List ℕ) where
   weighTraceVerdict trace = verdict (checkTraceRefusal trace) (weightSum g trace)
 
   abbrev pub checkTreeRefusal : List ℕ → Option Refusal
-  checkTreeRefusal tree = grammarRefusal file orElse sentenceRefusal g sentence orElse treeRefusal g sentence tree
+  checkTreeRefusal tree = refused orElse sentenceRefusal g sentence orElse treeRefusal g sentence tree
 
   abbrev pub checkTreeVerdict : List ℕ → Verdict
   checkTreeVerdict tree = verdict (checkTreeRefusal tree) (length tree)
@@ -142,7 +143,7 @@ module _ (file sentence : List ℕ) where
 
   abbrev pub traceToTreeRefusal : List ℕ → List ℕ → Option Refusal
   traceToTreeRefusal trace out =
-      grammarRefusal file orElse roomRefusal out orElse sentenceRefusal g sentence orElse traceRefusal g sentence trace
+      refused orElse roomRefusal out orElse sentenceRefusal g sentence orElse traceRefusal g sentence trace
 
   abbrev pub traceToTreeVerdict : List ℕ → List ℕ → Verdict
   traceToTreeVerdict trace out = verdict (traceToTreeRefusal trace out) (length trace)
@@ -152,7 +153,7 @@ module _ (file sentence : List ℕ) where
 
   abbrev pub treeToTraceRefusal : List ℕ → List ℕ → Option Refusal
   treeToTraceRefusal tree out =
-      grammarRefusal file orElse roomRefusal out orElse sentenceRefusal g sentence orElse treeRefusal g sentence tree
+      refused orElse roomRefusal out orElse sentenceRefusal g sentence orElse treeRefusal g sentence tree
 
   abbrev pub treeToTraceVerdict : List ℕ → List ℕ → Verdict
   treeToTraceVerdict tree out = verdict (treeToTraceRefusal tree out) (length tree)
@@ -160,19 +161,16 @@ module _ (file sentence : List ℕ) where
   abbrev pub treeToTraceOutput : List ℕ → List ℕ → List ℕ
   treeToTraceOutput tree out = written (treeToTraceRefusal tree out) (traceOf g sentence tree) out
 
-  abbrev pub effortRefusal : ℕ → ℕ → Option Refusal
-  effortRefusal n limit = refuseIf (ltb limit (length (live g sentence n))) (Refusal.Desk 25 0)
-
   abbrev pub countRefusal : ℕ → ℕ → Option Refusal
-  countRefusal n limit = grammarRefusal file orElse limitsRefusal n limit orElse sentenceRefusal g sentence orElse effortRefusal n limit
+  countRefusal n limit = refused orElse limitsRefusal n limit orElse sentenceRefusal g sentence orElse effortRefusal g sentence n limit
 
   abbrev pub countCall : ℕ → ℕ → CountVerdict
   countCall n limit = countVerdict (countRefusal n limit) (length (listing g sentence n)) (length (live g sentence n))
 
   abbrev pub entryCallRefusal : ℕ → ℕ → ℕ → List ℕ → Option Refusal
   entryCallRefusal n limit m out =
-      grammarRefusal file orElse roomRefusal out orElse limitsRefusal n limit orElse sentenceRefusal g sentence
-      orElse effortRefusal n limit orElse refuseIf (leb (length (listing g sentence n)) m) (Refusal.Desk 26 0)
+      refused orElse roomRefusal out orElse limitsRefusal n limit orElse sentenceRefusal g sentence
+      orElse effortRefusal g sentence n limit orElse refuseIf (leb (length (listing g sentence n)) m) (Refusal.Desk 26 0)
 
   abbrev pub entryVerdict : ℕ → ℕ → ℕ → List ℕ → Verdict
   entryVerdict n limit m out = verdict (entryCallRefusal n limit m out) (length (getD (listing g sentence n) m []))
@@ -186,13 +184,12 @@ pairs [] = []
 pairs (a ∷ []) = []
 pairs (a ∷ b ∷ bs) = (a + 256 * b) ∷ pairs bs
 
-abbrev pub program : List ℕ → List ℕ → List ℕ
-program file sentenceFile =
-    let g = grammarOf file in
+abbrev pub program : Option Refusal → Grammar → List ℕ → List ℕ
+program refused g sentenceFile =
     let sentence = pairs (drop 1 sentenceFile) in
     let n = limitIn sentenceFile in
     printed
-    (grammarRefusal file
+    (refused
     orElse refuseIf (eqb (length sentenceFile % 2) 0) (Refusal.Analysis 11 0)
-    orElse countRefusal file sentence n programLimit)
+    orElse countRefusal refused g sentence n programLimit)
     ((length (listing g sentence n) ∷ length (live g sentence n) ∷ []) ∷ listing g sentence n)

@@ -1,4 +1,4 @@
--- Trace to tree to trace, and tree to trace to tree, are identities on what the calls accept.
+-- Trace to tree to trace, and tree to trace to tree, are identities on what the calls accept (`round-trips`).
 -- Assumes nothing.
 use mathlib.Core.Path.{_≡_, refl, ap, _∙_}
 use mathlib.Core.Option.{Option, none, some}
@@ -21,7 +21,7 @@ use Rattle.model.specs.Calls.{written, roomRefusal, checkTraceVerdict, checkTre
 use Rattle.model.proofs.Tests.{first-of, rest-of}
 use Rattle.model.proofs.Verdicts.{none-accepted, passed}
 use Rattle.model.proofs.Demands.{demand-2}
-use Rattle.unfold.specs.RoundTrips.{TraceBack, TreeBack}
+use Rattle.unfold.specs.RoundTrips.{TraceBack, TreeBack, RoundTrips}
 
 -- an accepted verdict gives the number
 the-number : (o : Option Refusal) (n m : ℕ) → verdict o n ≡ Verdict.Accepted m → n ≡ m
@@ -120,3 +120,6 @@ module _ (file sentence : List ℕ) where
             ∙ ap (λ (x : List ℕ). x ++ drop (length x) other) (d .back)
             ∙ ap (λ (m : ℕ). tree ++ drop m other) l;
       }
+
+pub round-trips : RoundTrips
+round-trips = record { traces = trace-back; trees = tree-back }

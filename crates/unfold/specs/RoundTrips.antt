@@ -1,5 +1,4 @@
--- The round trips of demand 2 as statements about the outcomes of the calls: "For accepted ones, trace to tree to trace gives back the trace; tree to trace
--- to tree gives back the tree." They hold for every file, sentence, list and output (proofs/RoundTrips.antt).
+-- The round trips of demand 2 as a statement about the outcomes of the calls (`RoundTrips`, proved in proofs/RoundTrips.antt).
 -- Assumes nothing.
 use mathlib.Core.Path.{_≡_}
 use mathlib.Core.List.{List, _++_}
@@ -32,3 +31,11 @@ module _ (file sentence : List ℕ) where
     pub trace-accepted : checkTraceVerdict file sentence (traceWritten tree out n) ≡ Verdict.Accepted n
     pub back-accepted : (other : List ℕ) → 96 ≤ length other → traceToTreeVerdict file sentence (traceWritten tree out n) other ≡ Verdict.Accepted n
     pub back : (other : List ℕ) → 96 ≤ length other → traceToTreeOutput file sentence (traceWritten tree out n) other ≡ tree ++ drop n other
+
+-- "For accepted ones, trace to tree to trace gives back the trace; tree to trace to tree gives back the tree.": for every file, sentence, list and output with
+-- which the conversion is accepted, and whatever number it is accepted with
+pub record RoundTrips : Type 0 where
+  pub traces : (file sentence trace out : List ℕ) (n : ℕ) → traceToTreeVerdict file sentence trace out ≡ Verdict.Accepted n
+      → TraceBack file sentence trace out n
+  pub trees : (file sentence tree out : List ℕ) (n : ℕ) → treeToTraceVerdict file sentence tree out ≡ Verdict.Accepted n
+      → TreeBack file sentence tree out n
