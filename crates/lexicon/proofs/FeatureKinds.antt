@@ -6,10 +6,10 @@ use Prim.Native.Nat.{ℕ, _+_, _%_, _<_, _≤_}
 use native.Mathlib.Omega.{arith}
 use lib.Dec.{leb, eqb}
 use borrow.Author.Tests.{le-leb, lt-leb, eq-eqb, ne-eqb, eqb-true, eqb-false}
-use Rattle.model.specs.Base.{if_then_else_}
 use Rattle.model.specs.GrammarFile.{within}
 use Rattle.model.proofs.Tests.{within-low, not-both}
 use Rattle.lexicon.specs.Features.{isCategory, isLicenseeOf}
+use Rattle.minimalist.proofs.Meaning.{kindBy}
 use Rattle.minimalist.specs.Lexicon.{Feature, category, selector, licensor, licensee, refusal30, featureOf, isFeature, selects, licenses, isLicensor, isLicensee}
 
 pub and-off : (a : Bool) → a && false ≡ false
@@ -80,9 +80,6 @@ categoryKind (selector n) = false
 categoryKind (licensor n) = false
 categoryKind (licensee n) = false
 categoryKind refusal30 = false
-
-abbrev kindBy : ℕ → Bool → Bool → Bool → Bool → Feature
-kindBy b p q r s = if p then category b else (if q then selector (b % 16) else (if r then licensor (b % 16) else (if s then licensee (b % 16) else refusal30)))
 
 module _ (b : ℕ) where
   pub some-feature : someFeature (featureOf b) ≡ isFeature b

@@ -1,6 +1,5 @@
 -- `forms::move_row` meets its contract.
 -- Assumes nothing.
-use native.Mathlib.Omega.{arith}
 use Rattle.minimalist.specs.Lexicon.{isLicensor}
 use borrow.Author.Tests.{not-true, not-false}
 use mathlib.Core.Path.{sym, ap, _∙_}
