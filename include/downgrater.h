@@ -2,7 +2,8 @@
  *
  * A slice is a pointer and then a length in elements; where the length is 0 the pointer may be null. Every function asks for valid pointers, for an output
  * that overlaps no input, and for nothing else: it refuses instead of failing, and a refused call changes no buffer. An output keeps what it held past the
- * last entry written. The functions keep no state and may be called from several threads; they need less than DG_STACK_BYTES of stack.
+ * last entry written. The functions keep no state and may be called from several threads; they need less than DG_STACK_BYTES of stack, and call memcpy and memset
+ * alone.
  *
  * Every call returns one number, its answer:
  *

@@ -1,7 +1,8 @@
 #!/usr/bin/env python3
-"""Writes the grammar files of crates/worked_examples/data: the copy grammar, without weights and with,
+"""Writes the files of crates/worked_examples/data. The grammars: the copy grammar, without weights and with,
 the pair grammar, one with categories that have no tree, one with rules that differ although their daughters
-are the same in some order, and one damaged file for each refusal 1 to 10, of 9 two, of 10 four.
+are the same in some order, and one damaged file for each refusal 1 to 10, of 9 two, of 10 four. The lexicons:
+that of example 2 of W11-0605, and the same with its last entry once more.
 
 Usage: tools/example_grammars.py (at the repository's root)
 """
@@ -124,6 +125,27 @@ FILES = {
     "shuffled_rule": copy(COPY + [SHUFFLED]),
     "exchanged_daughters": blocks([1], S, 1, [PAIR[0], record(S, [S, S], components=[[(1, 0), (0, 0)]]), PAIR[1]]),
 }
+
+
+def entry(word, *features):
+    """The 8 bytes of an entry of a lexicon."""
+    return [word % 256, word // 256] + list(features) + [0] * (6 - len(features))
+
+
+# Categories: D 1, V 2, C 3, so that =D, =V, =C are 17, 18, 19; +wh 33, -wh 49. Words: likes 0, knows 1, Mary 2, John 3, who 4.
+EMPTY = 65535
+EXAMPLE_2 = [
+    entry(0, 17, 17, 2),
+    entry(1, 19, 17, 2),
+    entry(EMPTY, 18, 3),
+    entry(EMPTY, 18, 33, 3),
+    entry(2, 1),
+    entry(3, 1),
+    entry(4, 1, 49),
+]
+
+FILES["example_2"] = EXAMPLE_2
+FILES["repeated_entry"] = EXAMPLE_2 + EXAMPLE_2[6:]
 
 folder = "crates/worked_examples/data"
 os.makedirs(folder, exist_ok=True)

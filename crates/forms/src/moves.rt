@@ -1,8 +1,10 @@
 // The move of a form, as rows: the fourth and the fifth scheme.
 ghost use mathlib.Core.Path.{_≡_};
-ghost use Prim.Native.Nat.{_<_, _≤_, _/_, _%_};
+ghost use mathlib.Core.Bool.{true};
+ghost use Prim.Native.Nat.{_+_, _<_, _≤_, _/_, _%_};
 ghost use lib.ListN.{length};
 ghost use Rattle.model.specs.Base.{occurrences};
+ghost use Rattle.minimalist.specs.Lexicon.{isLicensor};
 ghost use Rattle.forms.specs.Rows.{firstsIn, placeIn, landByte, stayByte, moveByte, FilledBy, SaysMove};
 use crate::forms::CELL;
 use crate::forms::ROW;
@@ -10,8 +12,8 @@ use crate::forms::movers;
 use crate::merges::rest_byte;
 use grammar::byte;
 use grammar::less;
-use lexicon::PARTNER;
 use lexicon::is_licensor;
+use lexicon::licenses;
 
 // What a move of the first chain answers by the fourth scheme: 8 times its number, plus 1.
 const FIRST_LANDS: usize = 33;
@@ -19,15 +21,15 @@ const FIRST_LANDS: usize = 33;
 // The same by the fifth scheme.
 const FIRST_STAYS: usize = 41;
 
-// How many of the n moving chains begin with the byte m.
-fn how_many(row: &[u8], n: usize, m: u8) -> usize
-    requires { ⌜ n < 256 ⌝ }
-    ensures { λ r. ⌜ r ≡ occurrences m (firstsIn (now (row .entry)) 0 n) ⌝ }
+// How many of the n moving chains begin with the licensee of the licensor p.
+fn how_many(row: &[u8], n: usize, p: u8) -> usize
+    requires { ⌜ (n < 256) × (isLicensor p ≡ true) ⌝ }
+    ensures { λ r. ⌜ r ≡ occurrences (p + 16) (firstsIn (now (row .entry)) 0 n) ⌝ }
 {
     let mut found: usize = 0;
     let mut j: usize = 0;
     while j < n {
-        if m == byte(row, CELL * (j + 1)) {
+        if licenses(p, byte(row, CELL * (j + 1))) {
             found += 1;
         }
         j += 1;
@@ -35,14 +37,14 @@ fn how_many(row: &[u8], n: usize, m: u8) -> usize
     found
 }
 
-// The place of the first of the n moving chains that begins with the byte m; n if there is none.
-fn first_begins(row: &[u8], n: usize, m: u8) -> usize
-    requires { ⌜ n < 256 ⌝ }
-    ensures { λ r. ⌜ (r ≡ placeIn m (firstsIn (now (row .entry)) 0 n)) × (r < 256) ⌝ }
+// The place of the first of the n moving chains that begins with the licensee of the licensor p; n if there is none.
+fn first_begins(row: &[u8], n: usize, p: u8) -> usize
+    requires { ⌜ (n < 256) × (isLicensor p ≡ true) ⌝ }
+    ensures { λ r. ⌜ (r ≡ placeIn (p + 16) (firstsIn (now (row .entry)) 0 n)) × (r < 256) ⌝ }
 {
     let mut j: usize = 0;
     while j < n {
-        if m == byte(row, CELL * (j + 1)) {
+        if licenses(p, byte(row, CELL * (j + 1))) {
             return j;
         }
         j += 1;
@@ -114,10 +116,10 @@ pub fn move_row(a: &[u8], row: &mut [u8]) -> u8
         return 0;
     }
     let n = movers(a);
-    if how_many(a, n, f + PARTNER) != 1 {
+    if how_many(a, n, f) != 1 {
         return 0;
     }
-    let t = first_begins(a, n, f + PARTNER);
+    let t = first_begins(a, n, f);
     if byte(a, CELL * (t + 1) + 1) == 0 {
         put_move(a, n, t, true, row);
         return ((FIRST_LANDS + t) % 256) as u8;

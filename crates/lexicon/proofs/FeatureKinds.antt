@@ -6,11 +6,11 @@ use Prim.Native.Nat.{ℕ, _+_, _%_, _<_, _≤_}
 use native.Mathlib.Omega.{arith}
 use lib.Dec.{leb, eqb}
 use borrow.Author.Tests.{le-leb, lt-leb, eq-eqb, ne-eqb, eqb-true, eqb-false}
-use Rattle.model.specs.Base.{if_then_else_}
 use Rattle.model.specs.GrammarFile.{within}
-use Rattle.model.proofs.Tests.{within-low}
-use Rattle.lexicon.specs.Features.{isCategory}
-use Rattle.minimalist.specs.Lexicon.{Feature, category, selector, licensor, licensee, noFeature, featureOf, isFeature, selects, isLicensor, isLicensee}
+use Rattle.model.proofs.Tests.{within-low, not-both}
+use Rattle.lexicon.specs.Features.{isCategory, isLicenseeOf}
+use Rattle.minimalist.proofs.Meaning.{kindBy}
+use Rattle.minimalist.specs.Lexicon.{Feature, category, selector, licensor, licensee, refusal30, featureOf, isFeature, selects, licenses, isLicensor, isLicensee}
 
 pub and-off : (a : Bool) → a && false ≡ false
 and-off true = refl
@@ -42,7 +42,7 @@ module _ (b : ℕ) where
   pub is-licensee : 49 ≤ b → b ≤ 51 → licensee (b % 16) ≡ featureOf b
   is-licensee h k = rw (over 1 15 b (omega arith), over 17 31 b (omega arith), over 33 35 b (omega arith), inside 49 51 b h k)
 
-  pub is-none : within 1 15 b ≡ false → within 17 31 b ≡ false → within 33 35 b ≡ false → within 49 51 b ≡ false → noFeature ≡ featureOf b
+  pub is-none : within 1 15 b ≡ false → within 17 31 b ≡ false → within 33 35 b ≡ false → within 49 51 b ≡ false → refusal30 ≡ featureOf b
   is-none p q r s = rw (p, q, r, s)
 
 -- the tests by the kind
@@ -51,38 +51,35 @@ someFeature (category n) = true
 someFeature (selector n) = true
 someFeature (licensor n) = true
 someFeature (licensee n) = true
-someFeature noFeature = false
+someFeature refusal30 = false
 
 abbrev pub licensorKind : Feature → Bool
 licensorKind (category n) = false
 licensorKind (selector n) = false
 licensorKind (licensor n) = true
 licensorKind (licensee n) = false
-licensorKind noFeature = false
+licensorKind refusal30 = false
 
 abbrev pub licenseeKind : Feature → Bool
 licenseeKind (category n) = false
 licenseeKind (selector n) = false
 licenseeKind (licensor n) = false
 licenseeKind (licensee n) = true
-licenseeKind noFeature = false
+licenseeKind refusal30 = false
 
 abbrev pub selectorKind : Feature → Bool
 selectorKind (category n) = false
 selectorKind (selector n) = true
 selectorKind (licensor n) = false
 selectorKind (licensee n) = false
-selectorKind noFeature = false
+selectorKind refusal30 = false
 
 abbrev pub categoryKind : Feature → Bool
 categoryKind (category n) = true
 categoryKind (selector n) = false
 categoryKind (licensor n) = false
 categoryKind (licensee n) = false
-categoryKind noFeature = false
-
-abbrev kindBy : ℕ → Bool → Bool → Bool → Bool → Feature
-kindBy b p q r s = if p then category b else (if q then selector (b % 16) else (if r then licensor (b % 16) else (if s then licensee (b % 16) else noFeature)))
+categoryKind refusal30 = false
 
 module _ (b : ℕ) where
   pub some-feature : someFeature (featureOf b) ≡ isFeature b
@@ -145,7 +142,15 @@ numberIn (category n) = n
 numberIn (selector n) = n
 numberIn (licensor n) = n
 numberIn (licensee n) = n
-numberIn noFeature = 0
+numberIn refusal30 = 0
+
+-- numbers that are the same exactly where others are
+same-where : (x y u v : ℕ) → (x ≡ y → u ≡ v) → (u ≡ v → x ≡ y) → eqb x y ≡ eqb u v
+same-where x y u v to from = go (eqb x y) refl
+  where
+    go : (t : Bool) → eqb x y ≡ t → t ≡ eqb u v
+    go true e = sym (eq-eqb u v (to (eqb-true x y e)))
+    go false e = sym (ne-eqb u v (λ q. eqb-false x y e (from q)))
 
 -- the selector of a category
 module _ (s f : ℕ) where
@@ -155,37 +160,30 @@ module _ (s f : ℕ) where
   pub no-category : categoryKind (featureOf f) ≡ false → selects s f ≡ false
   no-category e = go (within 17 31 s) refl
     where
-      out : within 1 15 f ≡ false
-      out = sym (category-kind f) ∙ e
-
-      go : (p : Bool) → within 17 31 s ≡ p → p && eqb s (f + 16) ≡ false
+      go : (t : Bool) → within 17 31 s ≡ t → t && eqb s (f + 16) ≡ false
       go false w = refl
-      go true w = ne-eqb s (f + 16) (λ q. let z : _≡_ {A = Bool} true false = sym (inside 1 15 f (omega (arith, (bounds 17 31 s w) .0)) (omega (arith, (bounds 17 31 s w) .1))) ∙ out in let n : _≡_ {A = ℕ} 0 1 = cc in absurd (omega arith))
+      go true w =
+          let sb = bounds 17 31 s w in
+          ne-eqb s (f + 16) (λ q. not-both (sym (inside 1 15 f (omega (arith, sb .0)) (omega (arith, sb .1))) ∙ sym (category-kind f) ∙ e))
 
   pub partners : {x y : ℕ} → featureOf s ≡ selector x → featureOf f ≡ category y → eqb x y ≡ selects s f
-  partners {x} {y} e g = go (eqb x y) refl
+  partners {x} {y} e g =
+      sym (rw ws (sym (same-where x y s (f + 16) (λ q. omega (arith, xs, ys, q, sb .0, sb .1)) (λ q. omega (arith, xs, ys, q, fb .0, fb .1)))))
     where
       ws : within 17 31 s ≡ true
       ws = sym (selector-kind s) ∙ ap selectorKind e
-
-      wf : within 1 15 f ≡ true
-      wf = sym (category-kind f) ∙ ap categoryKind g
 
       sb : (17 ≤ s) × (s ≤ 31)
       sb = bounds 17 31 s ws
 
       fb : (1 ≤ f) × (f ≤ 15)
-      fb = bounds 1 15 f wf
+      fb = bounds 1 15 f (sym (category-kind f) ∙ ap categoryKind g)
 
       xs : s % 16 ≡ x
       xs = ap numberIn (is-selector s (sb .0) (sb .1) ∙ e)
 
       ys : f ≡ y
       ys = ap numberIn (is-category f (fb .0) (fb .1) ∙ g)
-
-      go : (t : Bool) → eqb x y ≡ t → t ≡ selects s f
-      go true t = let q = eqb-true x y t in sym (rw ws (eq-eqb s (f + 16) (omega (arith, xs, ys, q, sb .0, sb .1))))
-      go false t = sym (rw ws (ne-eqb s (f + 16) (λ q. eqb-false x y t (omega (arith, xs, ys, q, fb .0, fb .1)))))
 
   pub selector-of : {x : ℕ} → featureOf s ≡ selector x → isCategory x (featureOf f) ≡ selects s f
   selector-of {x} e = go (featureOf f) refl
@@ -195,4 +193,54 @@ module _ (s f : ℕ) where
       go (selector y) g = sym (no-category (ap categoryKind g))
       go (licensor y) g = sym (no-category (ap categoryKind g))
       go (licensee y) g = sym (no-category (ap categoryKind g))
-      go noFeature g = sym (no-category (ap categoryKind g))
+      go refusal30 g = sym (no-category (ap categoryKind g))
+
+-- the licensee of a licensor
+module _ (p m : ℕ) where
+  pub no-licensor : licensorKind (featureOf p) ≡ false → licenses p m ≡ false
+  no-licensor e = rw (sym (licensor-kind p) ∙ e)
+
+  pub no-licensee : licenseeKind (featureOf m) ≡ false → licenses p m ≡ false
+  no-licensee e = go (within 33 35 p) refl
+    where
+      go : (t : Bool) → within 33 35 p ≡ t → t && eqb m (p + 16) ≡ false
+      go false w = refl
+      go true w =
+          let pb = bounds 33 35 p w in
+          ne-eqb m (p + 16) (λ q. not-both (sym (inside 49 51 m (omega (arith, pb .0)) (omega (arith, pb .1))) ∙ sym (licensee-kind m) ∙ e))
+
+  pub licensed : {x y : ℕ} → featureOf p ≡ licensor x → featureOf m ≡ licensee y → eqb x y ≡ licenses p m
+  licensed {x} {y} e g =
+      sym (rw wp (sym (same-where x y m (p + 16) (λ q. omega (arith, xs, ys, q, pb .0, pb .1, mb .0, mb .1)) (λ q. omega (arith, xs, ys, q)))))
+    where
+      wp : within 33 35 p ≡ true
+      wp = sym (licensor-kind p) ∙ ap licensorKind e
+
+      pb : (33 ≤ p) × (p ≤ 35)
+      pb = bounds 33 35 p wp
+
+      mb : (49 ≤ m) × (m ≤ 51)
+      mb = bounds 49 51 m (sym (licensee-kind m) ∙ ap licenseeKind g)
+
+      xs : p % 16 ≡ x
+      xs = ap numberIn (is-licensor p (pb .0) (pb .1) ∙ e)
+
+      ys : m % 16 ≡ y
+      ys = ap numberIn (is-licensee m (mb .0) (mb .1) ∙ g)
+
+  pub licensor-of : {x : ℕ} → featureOf p ≡ licensor x → isLicenseeOf x (featureOf m) ≡ licenses p m
+  licensor-of {x} e = go (featureOf m) refl
+    where
+      go : (k : Feature) → featureOf m ≡ k → isLicenseeOf x k ≡ licenses p m
+      go (category y) g = sym (no-licensee (ap licenseeKind g))
+      go (selector y) g = sym (no-licensee (ap licenseeKind g))
+      go (licensor y) g = sym (no-licensee (ap licenseeKind g))
+      go (licensee y) g = licensed e g
+      go refusal30 g = sym (no-licensee (ap licenseeKind g))
+
+  -- of a licensor: the byte 16 above it, and no other
+  pub licensed-byte : isLicensor p ≡ true → licenses p m ≡ true → p + 16 ≡ m
+  licensed-byte l e = sym (eqb-true m (p + 16) (sym (rw l refl) ∙ e))
+
+  pub other-byte : isLicensor p ≡ true → licenses p m ≡ false → p + 16 ≡ m → ⊥
+  other-byte l e q = eqb-false m (p + 16) (sym (rw l refl) ∙ e) (sym q)

@@ -3,7 +3,7 @@ ghost use mathlib.Core.Path.{_≡_};
 ghost use lib.ListN.{length};
 ghost use Rattle.model.specs.Base.{every, anyBelow};
 ghost use Rattle.model.specs.Verdict.{tested};
-ghost use Rattle.minimalist.specs.Lexicon.{isFeature, beforeZero, entryBytes, wrongEntry, wrongLexicon, repeatedEntry, entriesRefusal};
+ghost use Rattle.minimalist.specs.Lexicon.{isFeature, beforeZero, entryBytes, wordIn, wrongEntry, wrongLexicon, repeatedEntry, entriesRefusal};
 use crate::features::is_feature;
 use grammar::few_zeros;
 use grammar::fields;
@@ -12,6 +12,7 @@ use grammar::two_bytes;
 use model::EMPTY_WORD;
 use model::Refusal;
 use model::Tested;
+use model::Word;
 
 // The bytes of an entry.
 pub const ENTRY: usize = 8;
@@ -30,6 +31,13 @@ pub fn entry_bytes(bytes: &[u8], i: u16) -> &[u8]
     ensures { λ e. ⌜ now e ≡ entryBytes (now (bytes .entry)) i ⌝ }
 {
     fields(bytes, ENTRY * (i as usize), ENTRY)
+}
+
+// The word of an entry, from its 8 bytes.
+pub fn entry_word(e: &[u8]) -> Word
+    ensures { λ w. ⌜ w .0 ≡ wordIn (now (e .entry)) ⌝ }
+{
+    Word(two_bytes(e, 0))
 }
 
 // How many bytes are before the first 0.
@@ -78,11 +86,11 @@ fn entry_wrong(e: &[u8], words: u32) -> bool
     if !few_zeros(six, n, 6) {
         return true;
     }
-    let word = two_bytes(e, 0);
-    if (word as u32) < words {
+    let word = entry_word(e);
+    if (word.0 as u32) < words {
         return false;
     }
-    word != EMPTY_WORD
+    word.0 != EMPTY_WORD
 }
 
 // Whether an entry of the first n is wrong.

@@ -1,18 +1,15 @@
 // The feature bytes of an entry (document 02, paper 6).
 ghost use mathlib.Core.Path.{_≡_};
-ghost use Rattle.minimalist.specs.Lexicon.{featureOf, isFeature, selects, isLicensor, isLicensee};
-ghost use Rattle.lexicon.specs.Features.{asFeature, isCategory};
+ghost use Rattle.minimalist.specs.Lexicon.{featureOf, isFeature, selects, licenses, isLicensor, isLicensee};
+ghost use Rattle.lexicon.specs.Features.{asFeature, isCategory, isLicenseeOf};
 
-// How far a selector or licensee is above its partner.
-pub const PARTNER: u8 = 16;
-
-// A feature: its kind, and a number that partners share.
+// A feature: its kind, and a number that partners share; or another byte, which refusal 30 meets.
 pub enum Feature {
     Category(u8),
     Selector(u8),
     Licensor(u8),
     Licensee(u8),
-    Nothing,
+    Refusal30,
 }
 
 // The feature of a byte.
@@ -24,7 +21,7 @@ pub fn feature_of(b: u8) -> Feature
         17..=31 => Feature::Selector(b % 16),
         33..=35 => Feature::Licensor(b % 16),
         49..=51 => Feature::Licensee(b % 16),
-        _ => Feature::Nothing,
+        _ => Feature::Refusal30,
     }
 }
 
@@ -37,7 +34,7 @@ pub fn is_feature(b: u8) -> bool
         Feature::Selector(_) => true,
         Feature::Licensor(_) => true,
         Feature::Licensee(_) => true,
-        Feature::Nothing => false,
+        Feature::Refusal30 => false,
     }
 }
 
@@ -50,7 +47,7 @@ fn is_category(f: Feature, x: u8) -> bool
         Feature::Selector(_) => false,
         Feature::Licensor(_) => false,
         Feature::Licensee(_) => false,
-        Feature::Nothing => false,
+        Feature::Refusal30 => false,
     }
 }
 
@@ -63,7 +60,33 @@ pub fn selects(s: u8, f: u8) -> bool
         Feature::Selector(x) => is_category(feature_of(f), x),
         Feature::Licensor(_) => false,
         Feature::Licensee(_) => false,
-        Feature::Nothing => false,
+        Feature::Refusal30 => false,
+    }
+}
+
+// Whether the feature is the licensee of the number x.
+fn is_licensee_of(f: Feature, x: u8) -> bool
+    ensures { λ r. ⌜ r ≡ isLicenseeOf x (asFeature f) ⌝ }
+{
+    match f {
+        Feature::Category(_) => false,
+        Feature::Selector(_) => false,
+        Feature::Licensor(_) => false,
+        Feature::Licensee(y) => x == y,
+        Feature::Refusal30 => false,
+    }
+}
+
+// Whether m is the licensee of the licensor p.
+pub fn licenses(p: u8, m: u8) -> bool
+    ensures { λ r. ⌜ r ≡ licenses p m ⌝ }
+{
+    match feature_of(p) {
+        Feature::Category(_) => false,
+        Feature::Selector(_) => false,
+        Feature::Licensor(x) => is_licensee_of(feature_of(m), x),
+        Feature::Licensee(_) => false,
+        Feature::Refusal30 => false,
     }
 }
 
@@ -76,7 +99,7 @@ pub fn is_licensor(b: u8) -> bool
         Feature::Selector(_) => false,
         Feature::Licensor(_) => true,
         Feature::Licensee(_) => false,
-        Feature::Nothing => false,
+        Feature::Refusal30 => false,
     }
 }
 
@@ -89,6 +112,6 @@ pub fn is_licensee(b: u8) -> bool
         Feature::Selector(_) => false,
         Feature::Licensor(_) => false,
         Feature::Licensee(_) => true,
-        Feature::Nothing => false,
+        Feature::Refusal30 => false,
     }
 }

@@ -91,8 +91,8 @@ module _ (c x y : ℕ) where
 made-record : (r : MadeRule) → Fits r → bytesOf (frontOf r) (shapeOf r) ≡ recordFor (asRule r)
 made-record (Start x) h = refl
 made-record (Entry c w) h = refl
-made-record (Merge c x y s i j) h = merge-right c x y (eqb s 3) (eqb s 1) i j (h .0) (h .1)
-made-record (Move c x s n t) h = move-right c x 0 (eqb s 4) n t (h .0) (h .1)
+made-record (Merge c x y s i j) h = merge-right (c .0) (x .0) (y .0) (eqb s 3) (eqb s 1) i j (h .0) (h .1)
+made-record (Move c x s n t) h = move-right (c .0) (x .0) 0 (eqb s 4) n t (h .0) (h .1)
 
 byte-is : (front : List ℕ) (s : Shape) (p : ℕ) → p < 24 → recordByte front s p ≡ getD (bytesOf front s) p 0
 byte-is front s p h =

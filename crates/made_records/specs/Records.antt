@@ -24,10 +24,10 @@ moveComponents s n t =
 
 -- the rule
 abbrev pub asRule : MadeRule → Rule
-asRule (Start x) = nonlexical 0 (x ∷ []) ((variable 0 0 ∷ []) ∷ [])
-asRule (Entry c w) = lexical c w
-asRule (Merge c x y s i j) = nonlexical c (x ∷ y ∷ []) (mergeComponents s i j)
-asRule (Move c x s n t) = nonlexical c (x ∷ []) (moveComponents s n t)
+asRule (Start x) = nonlexical 0 (x .0 ∷ []) ((variable 0 0 ∷ []) ∷ [])
+asRule (Entry c w) = lexical (c .0) (w .0)
+asRule (Merge c x y s i j) = nonlexical (c .0) (x .0 ∷ y .0 ∷ []) (mergeComponents s i j)
+asRule (Move c x s n t) = nonlexical (c .0) (x .0 ∷ []) (moveComponents s n t)
 
 -- at most three chains move
 abbrev pub Fits : MadeRule → Type 0
@@ -57,10 +57,10 @@ shapeOf (Move c x s n t) = moveShape s n t
 
 -- bytes 0 to 6
 abbrev pub frontOf : MadeRule → List ℕ
-frontOf (Start x) = 0 ∷ 1 ∷ x ∷ 0 ∷ 0 ∷ 0 ∷ 0 ∷ []
-frontOf (Entry c w) = c ∷ 0 ∷ 0 ∷ 0 ∷ 0 ∷ w % 256 ∷ w / 256 % 256 ∷ []
-frontOf (Merge c x y s i j) = c ∷ 2 ∷ x ∷ y ∷ 0 ∷ 0 ∷ 0 ∷ []
-frontOf (Move c x s n t) = c ∷ 1 ∷ x ∷ 0 ∷ 0 ∷ 0 ∷ 0 ∷ []
+frontOf (Start x) = 0 ∷ 1 ∷ x .0 ∷ 0 ∷ 0 ∷ 0 ∷ 0 ∷ []
+frontOf (Entry c w) = c .0 ∷ 0 ∷ 0 ∷ 0 ∷ 0 ∷ w .0 % 256 ∷ w .0 / 256 % 256 ∷ []
+frontOf (Merge c x y s i j) = c .0 ∷ 2 ∷ x .0 ∷ y .0 ∷ 0 ∷ 0 ∷ 0 ∷ []
+frontOf (Move c x s n t) = c .0 ∷ 1 ∷ x .0 ∷ 0 ∷ 0 ∷ 0 ∷ 0 ∷ []
 
 -- the variable of component k + 1; variable v; the length of component k; byte p
 abbrev pub runCode : Shape → ℕ → ℕ

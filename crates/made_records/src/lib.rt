@@ -5,6 +5,8 @@ ghost use lib.ListN.{length};
 ghost use Rattle.made_records.specs.Records.{single, pair, mergeShape, moveShape, frontOf, shapeOf, runCode, codeAt, sizeAt, recordByte, Put, AddsRule};
 use grammar::byte;
 use grammar::less;
+use model::Category;
+use model::Word;
 
 // The most rules; one more stands for too many.
 pub const RULES: usize = 256;
@@ -19,26 +21,26 @@ pub const RECORDS: usize = 6144;
 pub enum MadeRule {
     // from the category of a form of the wanted one to the new start
     Start {
-        daughter: u8,
+        daughter: Category,
     },
     // an entry's
     Entry {
-        category: u8,
-        word: u16,
+        category: Category,
+        word: Word,
     },
     // a merge by scheme 1 to 3, and how many chains move in the selecting and in the selected daughter
     Merge {
-        category: u8,
-        selecting: u8,
-        selected: u8,
+        category: Category,
+        selecting: Category,
+        selected: Category,
         scheme: u8,
         first: u8,
         second: u8,
     },
     // a move by scheme 4 or 5, how many chains move in the daughter, and the number, from 1 on, of the one that is moved
     Move {
-        category: u8,
-        daughter: u8,
+        category: Category,
+        daughter: Category,
         scheme: u8,
         chains: u8,
         chain: u8,
@@ -143,27 +145,27 @@ fn front_of(rule: MadeRule) -> [u8; 7]
     ensures { λ r. ⌜ r ≡ frontOf rule ⌝ }
 {
     match rule {
-        MadeRule::Start { daughter } => [0, 1, daughter, 0, 0, 0, 0],
+        MadeRule::Start { daughter } => [0, 1, daughter.0, 0, 0, 0, 0],
         MadeRule::Entry { category, word } => [
-            category,
+            category.0,
             0,
             0,
             0,
             0,
-            (word % 256) as u8,
-            (word / 256 % 256) as u8,
+            (word.0 % 256) as u8,
+            (word.0 / 256 % 256) as u8,
         ],
         MadeRule::Merge {
             category,
             selecting,
             selected,
             ..
-        } => [category, 2, selecting, selected, 0, 0, 0],
+        } => [category.0, 2, selecting.0, selected.0, 0, 0, 0],
         MadeRule::Move {
             category,
             daughter,
             ..
-        } => [category, 1, daughter, 0, 0, 0, 0],
+        } => [category.0, 1, daughter.0, 0, 0, 0, 0],
     }
 }
 

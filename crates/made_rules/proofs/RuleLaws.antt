@@ -4,13 +4,13 @@ use mathlib.Core.Path.{_≡_, refl, sym, ap, ap₂, subst, _∙_}
 use mathlib.Core.Bool.{Bool, true, false}
 use mathlib.Core.Option.{Option, none, some}
 use mathlib.Core.List.{List, [], _∷_, map}
-use Prim.Native.Nat.{ℕ, zero, suc, _+_, _*_, _/_, _%_, _<_, _≤_}
+use Prim.Native.Nat.{ℕ, zero, suc, _+_, _/_, _%_, _<_, _≤_}
 use native.Mathlib.Omega.{arith}
 use lib.ListN.{length, getD, drop}
 use borrow.Author.Tests.{lt-ltb, le-ltb}
 use Rattle.model.specs.Grammar.{Variable, Rule, variable, lexical, nonlexical}
 use Rattle.minimalist.specs.Once.{Once}
-use Rattle.minimalist.specs.Lexicon.{entryOf}
+use Rattle.minimalist.specs.Lexicon.{entryOf, wordIn}
 use Rattle.minimalist.specs.Schemes.{Form, Instance, mergeScheme, moveScheme, lexicalForm}
 use Rattle.minimalist.specs.Made.{startForm, mergeRule, moveRule}
 use Rattle.minimalist.specs.Closure.{ruleIf}
@@ -22,6 +22,8 @@ use Rattle.derivable.specs.Tables.{rowAt, firstSame, formAt, Holds}
 use Rattle.derivable.proofs.TableLaws.{among-place}
 use Rattle.derivable.proofs.RoundLaws.{entry-small}
 use Rattle.derivable.proofs.SchemeRows.{merge-small, move-small, merge-number, move-number, both-few, merge-is, move-is}
+use Rattle.model.specs.declared.Category.{Category}
+use Rattle.model.specs.declared.Word.{Word}
 use Rattle.made_records.specs.declared.MadeRule.the-variants.{Start, Entry, Merge, Move}
 use Rattle.made_records.specs.Records.{asRule, Fits, mergeComponents, moveComponents, AddsRule}
 use Rattle.made_rules.specs.Listed.{Lists, withStart, withEntry, withMerge, withMove}
@@ -47,16 +49,16 @@ start-small start x h =
     one zero l z = omega arith
     one (suc i) l z = omega arith
 
-module _ {table row : List ℕ} {n c start : ℕ} (x : Bool) (pos : 0 < start) (is-row : row ≡ rowOf (startForm start x)) (is-number : c ≡ firstSame (rowAt table) row 0 n + 1) where
-  there : (forms : List Form) → Holds table n forms → c ≡ suc (placeOf forms (startForm start x))
+module _ {table row : List ℕ} {n start : ℕ} {c : Category} (x : Bool) (pos : 0 < start) (is-row : row ≡ rowOf (startForm start x)) (is-number : c .0 ≡ firstSame (rowAt table) row 0 n + 1) where
+  there : (forms : List Form) → Holds table n forms → c .0 ≡ suc (placeOf forms (startForm start x))
   there forms t = number-is forms t (startForm start x) (start-small start x pos) is-row is-number
 
-  pub start-none : (before : List ℕ) (k : ℕ) → n < c → Lists (withStart start x) table n before k k before
+  pub start-none : (before : List ℕ) (k : ℕ) → n < c .0 → Lists (withStart start x) table n before k k before
   start-none before k h =
       lists-none table n before k
       (λ forms t. rw (among-place forms (startForm start x) ∙ le-ltb (placeOf forms (startForm start x)) (length forms) (omega (arith, there forms t, t .1))))
 
-  pub start-some : {before after : List ℕ} {k r : ℕ} → c ≤ n → AddsRule (Start c) before k r after → Lists (withStart start x) table n before k r after
+  pub start-some : {before after : List ℕ} {k r : ℕ} → c .0 ≤ n → AddsRule (Start c) before k r after → Lists (withStart start x) table n before k r after
   start-some h p =
       lists-one table n (Start c) p
       (λ forms t once. (
@@ -66,8 +68,8 @@ module _ {table row : List ℕ} {n c start : ℕ} (x : Bool) (pos : 0 < start) (
       ))
 
 -- an entry's
-pub entry-rule : (e : List ℕ) {table row before after : List ℕ} {n k r c w : ℕ} → row ≡ rowOf (lexicalForm (entryOf e)) → c ≡ firstSame (rowAt table) row 0 n + 1
-    → w ≡ getD e 0 0 + 256 * getD e 1 0 → AddsRule (Entry c w) before k r after → Lists (withEntry e) table n before k r after
+pub entry-rule : (e : List ℕ) {table row before after : List ℕ} {n k r : ℕ} {c : Category} {w : Word} → row ≡ rowOf (lexicalForm (entryOf e)) → c .0 ≡ firstSame (rowAt table) row 0 n + 1
+    → w .0 ≡ wordIn e → AddsRule (Entry c w) before k r after → Lists (withEntry e) table n before k r after
 entry-rule e {table} {n = n} {c = c} {w = w} is-row is-number is-word p =
     lists-one table n (Entry c w) p
     (λ forms t once. (tt, ap₂ (λ (x y : ℕ). lexical x y ∷ []) (number-is forms t (lexicalForm (entryOf e)) (entry-small e) is-row is-number) is-word))
@@ -95,15 +97,15 @@ module _ {table x y row : List ℕ} {n i j scheme : ℕ} (hi : i < n) (hj : j < 
         go forms t none w m = refl
         go forms t (some s) w m = rw (sym (left (s .result) (small-result forms t s w) (m .1)) ∙ e)
 
-    pub merge-rule : {before after : List ℕ} {k r c u v : ℕ} → (scheme ≡ 0 → ⊥) → out ≡ false → c ≡ firstSame (rowAt table) row 0 n + 1 → u ≡ getD x 7 0 → v ≡ getD y 7 0
-        → AddsRule (Merge c (i + 1) (j + 1) scheme u v) before k r after → Lists (withMerge i j) table n before k r after
-    merge-rule {c = c} {u} {v} d e is-number eu ev p =
-        lists-one table n (Merge c (i + 1) (j + 1) scheme u v) p
+    pub merge-rule : {before after : List ℕ} {k r u v : ℕ} {c f g : Category} → (scheme ≡ 0 → ⊥) → out ≡ false → c .0 ≡ firstSame (rowAt table) row 0 n + 1 → f .0 ≡ i + 1 → g .0 ≡ j + 1
+        → u ≡ getD x 7 0 → v ≡ getD y 7 0 → AddsRule (Merge c f g scheme u v) before k r after → Lists (withMerge i j) table n before k r after
+    merge-rule {u = u} {v} {c} {f} {g} d e is-number ef eg eu ev p =
+        lists-one table n (Merge c f g scheme u v) p
         (λ forms t once. go forms t once (mergeScheme (formAt forms i) (formAt forms j)) refl (merge-is hi hj ex ey says forms t))
       where
         go : (forms : List Form) → Holds table n forms → Once forms → (o : Option Instance) → mergeScheme (formAt forms i) (formAt forms j) ≡ o
             → MergeIs (formAt forms i) (formAt forms j) o scheme row
-            → Fits (Merge c (i + 1) (j + 1) scheme u v) × (asRule (Merge c (i + 1) (j + 1) scheme u v) ∷ [] ≡ map (numberedRule forms) (ruleIf (mergeRule (formAt forms i) (formAt forms j)) o))
+            → Fits (Merge c f g scheme u v) × (asRule (Merge c f g scheme u v) ∷ [] ≡ map (numberedRule forms) (ruleIf (mergeRule (formAt forms i) (formAt forms j)) o))
         go forms t once none w m = absurd (d m)
         go forms t once (some s) w m = (
           (omega (arith, chains-a, few-moving (a .moving) (t .0 .kept i in-i)), omega (arith, chains-b, few-moving (b .moving) (t .0 .kept j in-j))),
@@ -128,14 +130,14 @@ module _ {table x y row : List ℕ} {n i j scheme : ℕ} (hi : i < n) (hj : j < 
             chains-b : v ≡ length (b .moving)
             chains-b = ev ∙ ap (λ (l : List ℕ). getD l 7 0) (ey ∙ t .0 .rows j in-j) ∙ count-at b
 
-            category : c ≡ suc (placeOf forms (s .result))
+            category : c .0 ≡ suc (placeOf forms (s .result))
             category = number-is forms t (s .result) (small-result forms t s w) (m .1) is-number
 
-            daughters : (i + 1) ∷ (j + 1) ∷ [] ≡ suc (placeOf forms a) ∷ suc (placeOf forms b) ∷ []
+            daughters : f .0 ∷ g .0 ∷ [] ≡ suc (placeOf forms a) ∷ suc (placeOf forms b) ∷ []
             daughters =
-                let z : i + 1 ≡ suc (placeOf forms a) = omega (arith, place-once forms once i in-i) in
-                let q : j + 1 ≡ suc (placeOf forms b) = omega (arith, place-once forms once j in-j) in
-                ap₂ (λ (f g : ℕ). f ∷ g ∷ []) z q
+                let z : f .0 ≡ suc (placeOf forms a) = omega (arith, ef, place-once forms once i in-i) in
+                let q : g .0 ≡ suc (placeOf forms b) = omega (arith, eg, place-once forms once j in-j) in
+                ap₂ (λ (k l : ℕ). k ∷ l ∷ []) z q
 
             components : mergeComponents scheme u v ≡ s .components
             components =
@@ -164,15 +166,15 @@ module _ {table x row : List ℕ} {n i code : ℕ} (hi : i < n) (ex : x ≡ rowA
         go forms t none w m = refl
         go forms t (some s) w m = rw (sym (left (s .result) (moved-small forms t s w) (m .1)) ∙ e)
 
-    pub move-rule : {before after : List ℕ} {k r c s u v : ℕ} → (code ≡ 0 → ⊥) → out ≡ false → c ≡ firstSame (rowAt table) row 0 n + 1 → s ≡ code / 8 → u ≡ getD x 7 0
-        → v ≡ code % 8 → AddsRule (Move c (i + 1) s u v) before k r after → Lists (withMove i) table n before k r after
-    move-rule {before} {after} {k} {r} {c} {s} {u} {v} d e is-number es eu ev p =
-        lists-one table n (Move c (i + 1) (code / 8) u (code % 8))
-        (subst (λ (q : ℕ). AddsRule (Move c (i + 1) (code / 8) u q) before k r after) ev (subst (λ (q : ℕ). AddsRule (Move c (i + 1) q u v) before k r after) es p))
+    pub move-rule : {before after : List ℕ} {k r s u v : ℕ} {c f : Category} → (code ≡ 0 → ⊥) → out ≡ false → c .0 ≡ firstSame (rowAt table) row 0 n + 1 → f .0 ≡ i + 1 → s ≡ code / 8
+        → u ≡ getD x 7 0 → v ≡ code % 8 → AddsRule (Move c f s u v) before k r after → Lists (withMove i) table n before k r after
+    move-rule {before} {after} {k} {r} {s} {u} {v} {c} {f} d e is-number ef es eu ev p =
+        lists-one table n (Move c f (code / 8) u (code % 8))
+        (subst (λ (q : ℕ). AddsRule (Move c f (code / 8) u q) before k r after) ev (subst (λ (q : ℕ). AddsRule (Move c f q u v) before k r after) es p))
         (λ forms t once. go forms t once (moveScheme (formAt forms i)) refl (move-is hi ex says forms t))
       where
         go : (forms : List Form) → Holds table n forms → Once forms → (o : Option Instance) → moveScheme (formAt forms i) ≡ o → MoveIs (formAt forms i) o code row
-            → Fits (Move c (i + 1) (code / 8) u (code % 8)) × (asRule (Move c (i + 1) (code / 8) u (code % 8)) ∷ [] ≡ map (numberedRule forms) (ruleIf (moveRule (formAt forms i)) o))
+            → Fits (Move c f (code / 8) u (code % 8)) × (asRule (Move c f (code / 8) u (code % 8)) ∷ [] ≡ map (numberedRule forms) (ruleIf (moveRule (formAt forms i)) o))
         go forms t once none w m = absurd (d m)
         go forms t once (some s) w m = (
           (omega (arith, chains, three), omega (arith, moves .high, three)),
@@ -194,11 +196,11 @@ module _ {table x row : List ℕ} {n i code : ℕ} (hi : i < n) (ex : x ≡ rowA
             chains : u ≡ length (a .moving)
             chains = eu ∙ ap (λ (l : List ℕ). getD l 7 0) (ex ∙ t .0 .rows i in-i) ∙ count-at a
 
-            category : c ≡ suc (placeOf forms (s .result))
+            category : c .0 ≡ suc (placeOf forms (s .result))
             category = number-is forms t (s .result) (moved-small forms t s w) (m .1) is-number
 
-            daughters : (i + 1) ∷ [] ≡ suc (placeOf forms a) ∷ []
-            daughters = let z : i + 1 ≡ suc (placeOf forms a) = omega (arith, place-once forms once i in-i) in ap (λ (f : ℕ). f ∷ []) z
+            daughters : f .0 ∷ [] ≡ suc (placeOf forms a) ∷ []
+            daughters = let z : f .0 ≡ suc (placeOf forms a) = omega (arith, ef, place-once forms once i in-i) in ap (λ (k : ℕ). k ∷ []) z
 
             components : moveComponents (code / 8) u (code % 8) ≡ s .components
             components = ap (λ (q : ℕ). moveComponents (code / 8) q (code % 8)) chains ∙ sym (moves .are)

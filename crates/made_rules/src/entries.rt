@@ -7,8 +7,8 @@ ghost use Rattle.made_rules.specs.Listed.{Lists, withEntry, withEntries}
 use crate::numbers::number_of;
 use forms::ROW;
 use forms::put_entry_row;
-use grammar::two_bytes;
 use lexicon::entry_bytes;
+use lexicon::entry_word;
 use made_records::MadeRule;
 use made_records::add_rule;
 
@@ -25,7 +25,7 @@ fn add_entry_rule(table: &[u8], n: usize, e: &[u8], records: &mut [u8], k: usize
         k,
         MadeRule::Entry {
             category: c,
-            word: two_bytes(e, 0),
+            word: entry_word(e),
         },
     )
 }

@@ -7,30 +7,39 @@ ghost use Rattle.made_rules.specs.Listed.{dimensionByte, Dimensions};
 use derivable::find_row;
 use derivable::row_of;
 use forms::movers;
+use model::Category;
 
 // The most categories.
 pub const CATEGORIES: usize = 64;
 
-// The number of the category whose form has this row; n + 1 if none of the n forms has it.
-pub fn number_of(table: &[u8], n: usize, row: &[u8]) -> u8
-    requires { ⌜ n ≤ 63 ⌝ }
-    ensures { λ r. ⌜ r ≡ firstSame (rowAt (now (table .entry))) (now (row .entry)) 0 n + 1 ⌝ }
+// The category of the form of row i.
+pub fn category_at(i: usize) -> Category
+    requires { ⌜ i ≤ 63 ⌝ }
+    ensures { λ c. ⌜ c .0 ≡ i + 1 ⌝ }
 {
-    (find_row(table, n, row) + 1) as u8
+    Category((i + 1) as u8)
 }
 
-// The dimension of category q, 0 where there is none.
-fn dimension_byte(table: &[u8], n: usize, q: usize) -> u8
-    requires { ⌜ q < 64 ⌝ }
-    ensures { λ r. ⌜ r ≡ dimensionByte (now (table .entry)) n q ⌝ }
+// The category whose form has this row; the one after that of the last form if none of the n forms has it.
+pub fn number_of(table: &[u8], n: usize, row: &[u8]) -> Category
+    requires { ⌜ n ≤ 63 ⌝ }
+    ensures { λ c. ⌜ c .0 ≡ firstSame (rowAt (now (table .entry))) (now (row .entry)) 0 n + 1 ⌝ }
 {
-    if q == 0 {
+    category_at(find_row(table, n, row))
+}
+
+// The dimension of a category, 0 where there is none.
+fn dimension_byte(table: &[u8], n: usize, q: Category) -> u8
+    requires { ⌜ q .0 < 64 ⌝ }
+    ensures { λ r. ⌜ r ≡ dimensionByte (now (table .entry)) n (q .0) ⌝ }
+{
+    if q.0 == 0 {
         return 1;
     }
-    if n < q {
+    if n < q.0 as usize {
         return 0;
     }
-    ((movers(row_of(table, q - 1)) + 1) % 256) as u8
+    ((movers(row_of(table, q.0 as usize - 1)) + 1) % 256) as u8
 }
 
 // Puts the dimensions of the new start and of the n forms.
@@ -40,7 +49,7 @@ pub fn put_dimensions(table: &[u8], n: usize, dims: &mut [u8])
 {
     let mut q: usize = 0;
     while q < CATEGORIES {
-        dims[q] = dimension_byte(table, n, q);
+        dims[q] = dimension_byte(table, n, Category(q as u8));
         q += 1;
     }
 }

@@ -4,6 +4,7 @@ ghost use Prim.Native.Nat.{_<_, _≤_};
 ghost use lib.ListN.{length};
 ghost use Rattle.minimalist.specs.Closure.{schemeRules};
 ghost use Rattle.made_rules.specs.Listed.{Lists, withMerge, withMerges, withMove};
+use crate::numbers::category_at;
 use crate::numbers::number_of;
 use derivable::row_of;
 use forms::ROW;
@@ -36,8 +37,8 @@ fn add_merge_rule(table: &[u8], n: usize, i: usize, j: usize, records: &mut [u8]
         k,
         MadeRule::Merge {
             category: number_of(table, n, &row),
-            selecting: (i + 1) as u8,
-            selected: (j + 1) as u8,
+            selecting: category_at(i),
+            selected: category_at(j),
             scheme,
             first: movers(a) as u8,
             second: movers(b) as u8,
@@ -64,7 +65,7 @@ fn add_move_rule(table: &[u8], n: usize, i: usize, records: &mut [u8], k: usize)
         k,
         MadeRule::Move {
             category: number_of(table, n, &row),
-            daughter: (i + 1) as u8,
+            daughter: category_at(i),
             scheme: scheme_in(code),
             chains: movers(a) as u8,
             chain: chain_in(code),

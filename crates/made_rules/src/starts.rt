@@ -25,7 +25,7 @@ fn add_start(
     let mut row = [0u8; ROW];
     put_start_row(start, lexical, &mut row);
     let c = number_of(table, n, &row);
-    if n < c as usize {
+    if n < c.0 as usize {
         return k;
     }
     add_rule(records, k, MadeRule::Start { daughter: c })

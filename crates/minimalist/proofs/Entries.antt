@@ -1,34 +1,35 @@
 -- What a lexicon that 30 and 10 do not meet has: entries, none twice, whose words exist. So refusal 31 decides whether there is a file as promised.
 -- Assumes nothing.
 use mathlib.Core.Path.{_≡_, refl, ap, sym, subst, _∙_}
-use mathlib.Core.Logic.{_⊎_, inl, inr, ⊎-elim}
-use mathlib.Core.Bool.{Bool, true, false, _&&_, _||_, not}
+use mathlib.Core.Logic.{_⊎_}
+use mathlib.Core.Bool.{Bool, true, false, not}
 use mathlib.Core.Option.{Option, none}
 use mathlib.Core.List.{List, [], _∷_, _++_, map, List·Memᴰ}
 use Prim.Native.Nat.{ℕ, zero, suc, _+_, _-_, _*_, _/_, _%_, _<_, _≤_}
 use native.Mathlib.Omega.{arith}
 use native.Mathlib.Decide.{ℕ-discrete, decLt}
-use lib.Dec.{T, leb, eqb, eqb→eq}
+use lib.Dec.{T, eqb}
 use lib.ListN.{length, getD, drop, length-append, List·getD-eq-default}
 use lib.Seq.{ext-getD, getD-drop}
-use borrow.Author.Tests.{leb-false}
 use Rattle.model.specs.declared.Refusal.{Refusal}
-use Rattle.model.specs.Base.{if_then_else_, firstFrom, every, numbersFrom, anyBelow, sameList}
+use Rattle.model.specs.Base.{if_then_else_, firstFrom, numbersFrom, sameList}
 use Rattle.model.specs.Verdict.{refuseIf}
 use Rattle.model.specs.Grammar.{emptyWord}
 use Rattle.model.specs.WellFormed.{WellFormed}
-use Rattle.model.specs.GrammarFile.{within, allZero, fields}
+use Rattle.model.specs.GrammarFile.{allZero, fields}
 use Rattle.model.specs.Writer.{allBytes, little2, padded}
-use Rattle.model.proofs.Tests.{or-l, or-r, and-l, and-r, and-false, not-off, no-refusal, first-of, rest-of, first-none, any-none, within-low, list-same}
+use Rattle.model.proofs.Tests.{no-refusal, first-of, rest-of, first-none, any-none, list-same}
 use Rattle.model.proofs.Lists.{map-out}
 use Rattle.model.proofs.Once.{numbers-low}
 use Rattle.model.proofs.ByteLists.{fields-length, fields-at, after-front, padded-length, padded-at, zeros-at, Bytes, bytes-at, bytes-fields, two-again}
 use Rattle.model.specs.Demands.{_⇔_}
 use Rattle.minimalist.specs.Once.{Once}
-use Rattle.minimalist.specs.Lexicon.{Entry, isFeature, entryBytes, wordIn, beforeZero, featuresIn, entryOf, entries, lexiconOf, wrongEntry, wrongLexicon, repeatedEntry, entriesRefusal}
+use Rattle.minimalist.specs.Lexicon.{Entry, entryBytes, wordIn, beforeZero, featuresIn, entryOf, entries, lexiconOf, wrongLexicon, repeatedEntry, entriesRefusal}
+use Rattle.minimalist.specs.Meaning.{RightEntry, RightLexicon}
 use Rattle.minimalist.specs.Made.{MadeFrom, TooLarge}
 use Rattle.minimalist.specs.Closure.{formsOf, tooLarge}
 use Rattle.minimalist.specs.Numbering.{madeGrammar}
+use Rattle.minimalist.proofs.Meaning.{rest-zero, lexicon-meant}
 use Rattle.minimalist.proofs.Size.{size-tested, fits}
 
 -- the features are the bytes before the first 0
@@ -91,50 +92,34 @@ module _ (bytes : List ℕ) (words start : ℕ) (all : T (allBytes bytes)) (acce
   right : wrongLexicon bytes words start ≡ false
   right = no-refusal (wrongLexicon bytes words start) (Refusal.Grammar 30 0) (first-of (refuseIf (wrongLexicon bytes words start) (Refusal.Grammar 30 0)) repeats accepted)
 
-  abbrev numbers : Bool
-  numbers = eqb (length bytes % 8) 0 && within 1 32 n && within 1 4096 words && within 1 15 start
-
-  tests : T numbers
-  tests = not-off numbers (or-l (not numbers) (anyBelow (λ i. wrongEntry words (entryBytes bytes i)) n) right)
-
-  three-tests : T (eqb (length bytes % 8) 0 && within 1 32 n && within 1 4096 words)
-  three-tests = and-l (eqb (length bytes % 8) 0 && within 1 32 n && within 1 4096 words) (within 1 15 start) tests
-
-  two-tests : T (eqb (length bytes % 8) 0 && within 1 32 n)
-  two-tests = and-l (eqb (length bytes % 8) 0 && within 1 32 n) (within 1 4096 words) three-tests
+  lex : RightLexicon bytes words start
+  lex = lexicon-meant bytes words start right
 
   pub words-in : (1 ≤ words) × (words ≤ 4096)
-  words-in = within-low 1 4096 words (and-r (eqb (length bytes % 8) 0 && within 1 32 n) (within 1 4096 words) three-tests)
+  words-in = lex .words-range
 
   pub start-in : (1 ≤ start) × (start ≤ 15)
-  start-in = within-low 1 15 start (and-r (eqb (length bytes % 8) 0 && within 1 32 n && within 1 4096 words) (within 1 15 start) tests)
+  start-in = lex .start-range
+
+  count-is : n ≡ lex .count
+  count-is = omega (arith, lex .bytes-each)
 
   pub entries-in : (1 ≤ n) × (n ≤ 32)
-  entries-in = within-low 1 32 n (and-r (eqb (length bytes % 8) 0) (within 1 32 n) two-tests)
+  entries-in = (omega (arith, count-is, lex .count-range .0), omega (arith, count-is, lex .count-range .1))
 
   whole : length bytes ≡ 8 * n
-  whole = let r = eqb→eq (length bytes % 8) 0 (and-l (eqb (length bytes % 8) 0) (within 1 32 n) two-tests) in omega arith
+  whole = omega (arith, lex .bytes-each)
 
-  entry-right : (i : ℕ) → i < n → wrongEntry words (entryBytes bytes i) ≡ false
-  entry-right i h = any-none (λ i. wrongEntry words (entryBytes bytes i)) n (or-r (not numbers) (anyBelow (λ i. wrongEntry words (entryBytes bytes i)) n) right) i h
+  entry-right : (i : ℕ) → i < n → RightEntry words (entryBytes bytes i)
+  entry-right i h = lex .entries-right i (omega (arith, count-is))
 
   back : (i : ℕ) → i < n → entryFor (entryOf (entryBytes bytes i)) ≡ entryBytes bytes i
   back i h =
       let e = entryBytes bytes i in
-      let a = eqb (length (featuresIn e)) 0 || not (every isFeature (featuresIn e)) in
-      let c = allZero (drop (length (featuresIn e)) (fields e 2 6)) in
-      let d = leb words (wordIn e) && not (eqb (wordIn e) emptyWord) in
-      entry-again e (fields-length bytes (8 * i) 8 (omega (arith, whole))) (bytes-fields bytes (8 * i) 8 (bytes-at bytes all))
-      (not-off c (or-r a (not c) (or-l (a || not c) d (entry-right i h))))
+      entry-again e (fields-length bytes (8 * i) 8 (omega (arith, whole))) (bytes-fields bytes (8 * i) 8 (bytes-at bytes all)) (rest-zero words e (entry-right i h))
 
   word-known : (i : ℕ) → i < n → (entryOf (entryBytes bytes i) .word < words) ⊎ (entryOf (entryBytes bytes i) .word ≡ emptyWord)
-  word-known i h =
-      let e = entryBytes bytes i in
-      let a = eqb (length (featuresIn e)) 0 || not (every isFeature (featuresIn e)) in
-      let c = allZero (drop (length (featuresIn e)) (fields e 2 6)) in
-      let d = leb words (wordIn e) && not (eqb (wordIn e) emptyWord) in
-      ⊎-elim (λ f. inl (leb-false words (wordIn e) f)) (λ f. inr (eqb→eq (wordIn e) emptyWord (not-off (eqb (wordIn e) emptyWord) f)))
-      (and-false (leb words (wordIn e)) (not (eqb (wordIn e) emptyWord)) (or-r (a || not c) d (entry-right i h)))
+  word-known i h = entry-right i h .word-exists
 
   no-repeat : (i j : ℕ) → 0 ≤ i → i < j → j < 0 + n → entryOf (entryBytes bytes i) ≡ entryOf (entryBytes bytes j) → ⊥
   no-repeat i j lo h k e =

@@ -14,4 +14,5 @@ pub mod MadeFiles
 pub mod Entries
 pub mod SameLength
 pub mod MakeGrammar
+pub mod Meaning
 pub mod Examples

@@ -12,15 +12,16 @@ use Rattle.model.specs.Verdict.{refuseIf}
 use Rattle.model.specs.Grammar.{emptyWord}
 use Rattle.model.specs.GrammarFile.{within, allZero, fields}
 
--- "1 to 15 a category, 17 to 31 its selector, 33 to 35 a licensor, 49 to 51 its licensee": the kind of a feature byte, and a number that partners share
+-- "1 to 15 a category, 17 to 31 its selector, 33 to 35 a licensor, 49 to 51 its licensee": the kind of a feature byte, and a number that partners share; refusal 30
+-- meets an entry "with another byte"
 pub data Feature : Type 0 where
   category selector licensor licensee : ℕ → Feature
-  noFeature : Feature
+  refusal30 : Feature
 
 abbrev pub featureOf : ℕ → Feature
 featureOf b =
     if within 1 15 b then category b
-    else (if within 17 31 b then selector (b % 16) else (if within 33 35 b then licensor (b % 16) else (if within 49 51 b then licensee (b % 16) else noFeature)))
+    else (if within 17 31 b then selector (b % 16) else (if within 33 35 b then licensor (b % 16) else (if within 49 51 b then licensee (b % 16) else refusal30)))
 
 abbrev pub isFeature : ℕ → Bool
 isFeature b = within 1 15 b || within 17 31 b || within 33 35 b || within 49 51 b
@@ -28,6 +29,9 @@ isFeature b = within 1 15 b || within 17 31 b || within 33 35 b || within 49 51 
 -- "a selector or licensee is 16 above its partner": s is the selector of category f; m is the licensee of licensor p
 abbrev pub selects : ℕ → ℕ → Bool
 selects s f = within 17 31 s && eqb s (f + 16)
+
+abbrev pub licenses : ℕ → ℕ → Bool
+licenses p m = within 33 35 p && eqb m (p + 16)
 
 abbrev pub isLicensor : ℕ → Bool
 isLicensor p = within 33 35 p

@@ -6,4 +6,5 @@ pub mod Made
 pub mod Closure
 pub mod Numbering
 pub mod MakeGrammar
+pub mod Meaning
 pub mod Examples

@@ -1,8 +1,9 @@
-// Runs the calls on the grammar files of data/: the worked examples of document 01 (K3 to K10), sums of weights, and a damaged file for each refusal 1 to 10;
-// words heard unclearly; and the calls on dates. Each answer is on a line: its numbers, or R with the refusal's number and place.
+// Runs the calls on the files of data/: the worked examples of document 01 (K3 to K10), sums of weights, and a damaged file for each refusal 1 to 10; words heard
+// unclearly; the calls on dates; and the grammar of a lexicon. Each answer is on a line: its numbers, or R with the refusal's number and place.
 mod conversions;
 mod counts;
 mod figures;
+mod lexicons;
 mod opening_days;
 mod reading;
 mod show;
@@ -48,4 +49,6 @@ fn main() {
     unclear::run(copy, weighted);
     title(b"dates and opening days");
     opening_days::run();
+    title(b"lexicons");
+    lexicons::run();
 }

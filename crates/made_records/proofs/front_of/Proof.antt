@@ -27,7 +27,7 @@ returns : tie.Need-returns
 returns c = sym (rw (c .before .rule .given .1))
 
 returns-2 : tie.Need-returns-2
-returns-2 c = sym (rw (c .before .rule2 .given .1))
+returns-2 c = sym (rw (c .before .before .before .rule2 .given .1))
 
 returns-3 : tie.Need-returns-3
 returns-3 c = sym (rw (c .before .rule3 .given .1))

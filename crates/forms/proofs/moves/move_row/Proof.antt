@@ -1,8 +1,6 @@
 -- `forms::move_row` meets its contract.
 -- Assumes nothing.
-use native.Mathlib.Omega.{arith}
 use Rattle.minimalist.specs.Lexicon.{isLicensor}
-use Rattle.lexicon.proofs.FeatureKinds.{bounds}
 use borrow.Author.Tests.{not-true, not-false}
 use mathlib.Core.Path.{sym, ap, _∙_}
 use Rattle.forms.proofs.MoveForms.{says-no-licensor, says-not-one, says-ends, says-stays}
@@ -24,11 +22,8 @@ returns c =
 movers-requires : tie.Need-movers-requires
 movers-requires c κs = search needs
 
-add-how-many : tie.Need-add-how-many
-add-how-many c = omega (arith, (bounds 33 35 (c .before .before .before .byte .result) (sym (c .before .before .is-licensor .ensures) ∙ not-false _ (c .before .if1 .left))) .1)
-
 how-many-requires : tie.Need-how-many-requires
-how-many-requires c κs = search needs
+how-many-requires c κs = (search needs, sym (c .before .before .is-licensor .ensures) ∙ not-false _ (c .before .if1 .left))
 
 returns-2 : tie.Need-returns-2
 returns-2 c =
@@ -39,11 +34,8 @@ returns-2 c =
     let licensor = sym (k .before .before .is-licensor .ensures) ∙ not-false _ (k .before .if1 .left) in
     says-not-one x (f .result) (n .result) (f .ensures) (n .ensures .0) licensor _ (λ z. c .if2 .taken (c .before .how-many .ensures ∙ z))
 
-add-first-begins : tie.Need-add-first-begins
-add-first-begins c = omega (arith, (bounds 33 35 (c .before .before .before .before .before .byte .result) (sym (c .before .before .before .before .is-licensor .ensures) ∙ not-false _ (c .before .before .before .if1 .left))) .1)
-
 first-begins-requires : tie.Need-first-begins-requires
-first-begins-requires c κs = search needs
+first-begins-requires c κs = (search needs, sym (c .before .before .before .before .is-licensor .ensures) ∙ not-false _ (c .before .before .before .if1 .left))
 
 add-byte : tie.Need-add-byte
 add-byte c = search needs
@@ -111,10 +103,8 @@ move-row-spec =
     is-licensor-requires
     returns
     movers-requires
-    add-how-many
     how-many-requires
     returns-2
-    add-first-begins
     first-begins-requires
     add-byte
     mul-byte

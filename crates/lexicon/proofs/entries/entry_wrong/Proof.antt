@@ -57,39 +57,39 @@ returns-3 c =
     let features = sym (c .before .before .before .all-features .ensures ∙ features-found w e six n s m) ∙ not-false _ (c .before .before .if2 .left) in
     sym (wrong-rest w e some features (sym (c .before .few-zeros .ensures ∙ rest-found w e six n s m) ∙ not-true _ (c .if3 .taken)))
 
-two-bytes-requires : tie.Need-two-bytes-requires
-two-bytes-requires c κs = search needs
+entry-word-requires : tie.Need-entry-word-requires
+entry-word-requires c κs = search needs
 
 cast-if4 : tie.Need-cast-if4
 cast-if4 c = search needs
 
 returns-4 : tie.Need-returns-4
 returns-4 c =
-    let z = c .before .before .before .before .before .before .before in
+    let z = c .before .before .before .before .before .before .before .before in
     let e = z .before .before .before .args .e .now in
     let w = z .before .before .before .args .words in
     let n = z .before-zero .result in
     let six = z .before .fields .result .now in
     let s = z .before .fields .ensures in
     let m = z .before-zero .ensures in
-    let some : length (featuresIn e) ≡ 0 → ⊥ = λ q. c .before .before .before .before .before .before .if1 .left (number-is w e six n s m ∙ q) in
-    let features = sym (c .before .before .before .before .before .all-features .ensures ∙ features-found w e six n s m) ∙ not-false _ (c .before .before .before .before .if2 .left) in
-    let rest = sym (c .before .before .before .few-zeros .ensures ∙ rest-found w e six n s m) ∙ not-false _ (c .before .before .if3 .left) in
+    let some : length (featuresIn e) ≡ 0 → ⊥ = λ q. c .before .before .before .before .before .before .before .if1 .left (number-is w e six n s m ∙ q) in
+    let features = sym (c .before .before .before .before .before .before .all-features .ensures ∙ features-found w e six n s m) ∙ not-false _ (c .before .before .before .before .before .if2 .left) in
+    let rest = sym (c .before .before .before .before .few-zeros .ensures ∙ rest-found w e six n s m) ∙ not-false _ (c .before .before .before .if3 .left) in
     sym (sym (by-word w e some features rest) ∙ word-fits w (wordIn e) (omega arith))
 
 returns-5 : tie.Need-returns-5
 returns-5 c =
-    let z = c .before .before .before .before .before .before .before in
+    let z = c .before .before .before .before .before .before .before .before .before in
     let e = z .before .before .before .args .e .now in
     let w = z .before .before .before .args .words in
     let n = z .before-zero .result in
     let six = z .before .fields .result .now in
     let s = z .before .fields .ensures in
     let m = z .before-zero .ensures in
-    let some : length (featuresIn e) ≡ 0 → ⊥ = λ q. c .before .before .before .before .before .before .if1 .left (number-is w e six n s m ∙ q) in
-    let features = sym (c .before .before .before .before .before .all-features .ensures ∙ features-found w e six n s m) ∙ not-false _ (c .before .before .before .before .if2 .left) in
-    let rest = sym (c .before .before .before .few-zeros .ensures ∙ rest-found w e six n s m) ∙ not-false _ (c .before .before .if3 .left) in
-    word-over w (wordIn e) (c .before .two-bytes .result) (c .before .two-bytes .ensures) (c .if4 .left) ∙ by-word w e some features rest
+    let some : length (featuresIn e) ≡ 0 → ⊥ = λ q. c .before .before .before .before .before .before .before .before .if1 .left (number-is w e six n s m ∙ q) in
+    let features = sym (c .before .before .before .before .before .before .before .all-features .ensures ∙ features-found w e six n s m) ∙ not-false _ (c .before .before .before .before .before .before .if2 .left) in
+    let rest = sym (c .before .before .before .before .before .few-zeros .ensures ∙ rest-found w e six n s m) ∙ not-false _ (c .before .before .before .before .if3 .left) in
+    word-over w (wordIn e) (c .before .before .before .entry-word .result .0) (c .before .before .before .entry-word .ensures) (c .before .if4 .left) ∙ by-word w e some features rest
 
 pub entry-wrong-spec : {M : Type 1} → statement M
 entry-wrong-spec =
@@ -102,7 +102,7 @@ entry-wrong-spec =
     returns-2
     few-zeros-requires
     returns-3
-    two-bytes-requires
+    entry-word-requires
     cast-if4
     returns-4
     returns-5)

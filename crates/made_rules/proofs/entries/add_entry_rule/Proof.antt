@@ -17,8 +17,8 @@ slice-aggregate-number-of c = search needs
 number-of-requires : tie.Need-number-of-requires
 number-of-requires c κs = search needs
 
-two-bytes-requires : tie.Need-two-bytes-requires
-two-bytes-requires c κs = search needs
+entry-word-requires : tie.Need-entry-word-requires
+entry-word-requires c κs = search needs
 
 add-rule-requires : tie.Need-add-rule-requires
 add-rule-requires c κs = search needs
@@ -29,7 +29,7 @@ same-length c = search needs
 returns : tie.Need-returns
 returns c =
     let a = c .before .before .before .before .before .before .before .before .before .before .before .before .before .args in
-    entry-rule (a .e .now) (c .before .before .before .before .before .before .before .before .put-entry-row .ensures) (c .before .before .before .before .before .number-of .ensures) (c .before .before .before .two-bytes .ensures) (c .before .before .add-rule .ensures)
+    entry-rule (a .e .now) (c .before .before .before .before .before .before .before .before .put-entry-row .ensures) (c .before .before .before .before .before .number-of .ensures) (c .before .before .before .entry-word .ensures) (c .before .before .add-rule .ensures)
 
 pub add-entry-rule-spec : {M : Type 1} → statement M
 add-entry-rule-spec =
@@ -39,7 +39,7 @@ add-entry-rule-spec =
     put-entry-row-requires
     slice-aggregate-number-of
     number-of-requires
-    two-bytes-requires
+    entry-word-requires
     add-rule-requires
     same-length
     returns)

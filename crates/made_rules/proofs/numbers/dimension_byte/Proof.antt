@@ -12,8 +12,14 @@ use Rattle.made_rules.proofs.numbers.dimension_byte.Tie as tie
 returns : tie.Need-returns
 returns c = sym (rw (eq-eqb _ _ (c .if1 .taken)))
 
+cast-if2 : tie.Need-cast-if2
+cast-if2 c = search needs
+
 returns-2 : tie.Need-returns-2
-returns-2 c = sym (rw (ne-eqb _ _ (c .before .if1 .left), lt-ltb _ _ (c .if2 .taken)))
+returns-2 c = sym (rw (ne-eqb _ _ (c .before .before .if1 .left), lt-ltb _ _ (c .if2 .taken)))
+
+cast-row-of : tie.Need-cast-row-of
+cast-row-of c = search needs
 
 sub-row-of : tie.Need-sub-row-of
 sub-row-of c = search needs
@@ -31,14 +37,16 @@ cast-result : tie.Need-cast-result
 cast-result c = search needs
 
 returns-3 : tie.Need-returns-3
-returns-3 c = ap (λ (x : ℕ). (x + 1) % 256) (c .movers .ensures .0 ∙ ap (λ (l : List ℕ). getD l 7 0) (c .before .row-of .ensures)) ∙ sym (rw (ne-eqb _ _ (c .before .before .before .if1 .left), le-ltb _ _ (c .before .before .if2 .left)))
+returns-3 c = ap (λ (x : ℕ). (x + 1) % 256) (c .movers .ensures .0 ∙ ap (λ (l : List ℕ). getD l 7 0) (c .before .row-of .ensures)) ∙ sym (rw (ne-eqb _ _ (c .before .before .before .before .before .if1 .left), le-ltb _ _ (c .before .before .before .if2 .left)))
 
 pub dimension-byte-spec : {M : Type 1} → statement M
 dimension-byte-spec =
     tie.close
     (tie.spec
     returns
+    cast-if2
     returns-2
+    cast-row-of
     sub-row-of
     row-of-requires
     movers-requires

@@ -20,6 +20,9 @@ abbrev μ-loop : tie.MeasureT-loop
 loop-holds : tie.Need-loop-holds Inv-loop μ-loop
 loop-holds c = (omega arith, omega arith, λ p h. let z : ⊥ = omega arith in absurd z)
 
+cast-t7 : tie.Need-cast-t7 Inv-loop μ-loop
+cast-t7 c = search needs
+
 dimension-byte-requires : tie.Need-dimension-byte-requires Inv-loop μ-loop
 dimension-byte-requires c κs = search needs
 
@@ -54,6 +57,7 @@ put-dimensions-spec =
     Inv-loop
     μ-loop
     loop-holds
+    cast-t7
     dimension-byte-requires
     slice-write-dims
     add-q

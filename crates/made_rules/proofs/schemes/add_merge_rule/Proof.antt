@@ -40,29 +40,23 @@ slice-aggregate-number-of c = search needs
 number-of-requires : tie.Need-number-of-requires
 number-of-requires c κs = search needs
 
-add-t22 : tie.Need-add-t22
-add-t22 c = search needs
+category-at-requires : tie.Need-category-at-requires
+category-at-requires c κs = search needs
 
-cast-t23 : tie.Need-cast-t23
-cast-t23 c = search needs
-
-add-t24 : tie.Need-add-t24
-add-t24 c = search needs
-
-cast-t25 : tie.Need-cast-t25
-cast-t25 c = search needs
+category-at-requires-2 : tie.Need-category-at-requires-2
+category-at-requires-2 c κs = search needs
 
 movers-requires : tie.Need-movers-requires
 movers-requires c κs = search needs
 
-cast-t27 : tie.Need-cast-t27
-cast-t27 c = search needs
+cast-t25 : tie.Need-cast-t25
+cast-t25 c = search needs
 
 movers-requires-2 : tie.Need-movers-requires-2
 movers-requires-2 c κs = search needs
 
-cast-t29 : tie.Need-cast-t29
-cast-t29 c = search needs
+cast-t27 : tie.Need-cast-t27
+cast-t27 c = search needs
 
 add-rule-requires : tie.Need-add-rule-requires
 add-rule-requires c κs = search needs
@@ -72,8 +66,8 @@ same-length c = search needs
 
 returns-3 : tie.Need-returns-3
 returns-3 c =
-    let a = c .before .before .before .before .before .before .before .before .before .before .before .before .before .before .before .before .before .before .before .args in
-    merge-rule {n = a .n} {i = a .i} {j = a .j} (omega arith) (omega arith) (c .before .before .before .before .before .before .before .before .before .before .before .before .before .before .before .before .row-of .ensures) (c .before .before .before .before .before .before .before .before .before .before .before .before .before .before .before .row-of2 .ensures) (c .before .before .before .before .before .before .before .before .before .before .before .before .before .merge-rows .ensures) (c .before .before .before .before .before .before .before .before .before .left-out .ensures) (c .before .before .before .before .before .before .before .before .before .before .before .if1 .left) (c .before .before .before .before .before .before .before .before .if2 .left) (c .before .before .before .before .before .number-of .ensures) (c .before .before .before .before .movers .ensures .0) (c .before .before .before .movers2 .ensures .0) (c .before .before .add-rule .ensures)
+    let a = c .before .before .before .before .before .before .before .before .before .before .before .before .before .before .before .before .before .before .before .before .before .args in
+    merge-rule {n = a .n} {i = a .i} {j = a .j} (omega arith) (omega arith) (c .before .before .before .before .before .before .before .before .before .before .before .before .before .before .before .before .before .before .row-of .ensures) (c .before .before .before .before .before .before .before .before .before .before .before .before .before .before .before .before .before .row-of2 .ensures) (c .before .before .before .before .before .before .before .before .before .before .before .before .before .before .before .merge-rows .ensures) (c .before .before .before .before .before .before .before .before .before .before .before .left-out .ensures) (c .before .before .before .before .before .before .before .before .before .before .before .before .before .if1 .left) (c .before .before .before .before .before .before .before .before .before .before .if2 .left) (c .before .before .before .before .before .before .before .number-of .ensures) (c .before .before .before .before .before .before .category-at .ensures) (c .before .before .before .before .before .category-at2 .ensures) (c .before .before .before .before .movers .ensures .0) (c .before .before .before .movers2 .ensures .0) (c .before .before .add-rule .ensures)
 
 pub add-merge-rule-spec : {M : Type 1} → statement M
 add-merge-rule-spec =
@@ -89,14 +83,12 @@ add-merge-rule-spec =
     returns-2
     slice-aggregate-number-of
     number-of-requires
-    add-t22
-    cast-t23
-    add-t24
-    cast-t25
+    category-at-requires
+    category-at-requires-2
     movers-requires
-    cast-t27
+    cast-t25
     movers-requires-2
-    cast-t29
+    cast-t27
     add-rule-requires
     same-length
     returns-3)

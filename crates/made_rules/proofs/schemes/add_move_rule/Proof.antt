@@ -37,11 +37,8 @@ slice-aggregate-number-of c = search needs
 number-of-requires : tie.Need-number-of-requires
 number-of-requires c κs = search needs
 
-add-t20 : tie.Need-add-t20
-add-t20 c = search needs
-
-cast-t21 : tie.Need-cast-t21
-cast-t21 c = search needs
+category-at-requires : tie.Need-category-at-requires
+category-at-requires c κs = search needs
 
 scheme-in-requires : tie.Need-scheme-in-requires
 scheme-in-requires c κs = search needs
@@ -49,8 +46,8 @@ scheme-in-requires c κs = search needs
 movers-requires : tie.Need-movers-requires
 movers-requires c κs = search needs
 
-cast-t24 : tie.Need-cast-t24
-cast-t24 c = search needs
+cast-t23 : tie.Need-cast-t23
+cast-t23 c = search needs
 
 chain-in-requires : tie.Need-chain-in-requires
 chain-in-requires c κs = search needs
@@ -63,9 +60,9 @@ same-length c = search needs
 
 returns-3 : tie.Need-returns-3
 returns-3 c =
-    let a = c .before .before .before .before .before .before .before .before .before .before .before .before .before .before .before .before .before .before .before .args in
-    move-rule {n = a .n} {i = a .i} (omega arith) (c .before .before .before .before .before .before .before .before .before .before .before .before .before .before .before .before .row-of .ensures) (c .before .before .before .before .before .before .before .before .before .before .before .before .before .before .move-row .ensures) (c .before .before .before .before .before .before .before .before .before .before .left-out .ensures) (c .before .before .before .before .before .before .before .before .before .before .before .before .if1 .left) (c .before .before .before .before .before .before .before .before .before .if2 .left)
-    (c .before .before .before .before .before .before .number-of .ensures) (c .before .before .before .before .before .scheme-in .ensures) (c .before .before .before .before .movers .ensures .0) (c .before .before .before .chain-in .ensures) (c .before .before .add-rule .ensures)
+    let a = c .before .before .before .before .before .before .before .before .before .before .before .before .before .before .before .before .before .before .before .before .args in
+    move-rule {n = a .n} {i = a .i} (omega arith) (c .before .before .before .before .before .before .before .before .before .before .before .before .before .before .before .before .before .row-of .ensures) (c .before .before .before .before .before .before .before .before .before .before .before .before .before .before .before .move-row .ensures) (c .before .before .before .before .before .before .before .before .before .before .before .left-out .ensures) (c .before .before .before .before .before .before .before .before .before .before .before .before .before .if1 .left) (c .before .before .before .before .before .before .before .before .before .before .if2 .left)
+    (c .before .before .before .before .before .before .before .number-of .ensures) (c .before .before .before .before .before .before .category-at .ensures) (c .before .before .before .before .before .scheme-in .ensures) (c .before .before .before .before .movers .ensures .0) (c .before .before .before .chain-in .ensures) (c .before .before .add-rule .ensures)
 
 pub add-move-rule-spec : {M : Type 1} → statement M
 add-move-rule-spec =
@@ -80,11 +77,10 @@ add-move-rule-spec =
     returns-2
     slice-aggregate-number-of
     number-of-requires
-    add-t20
-    cast-t21
+    category-at-requires
     scheme-in-requires
     movers-requires
-    cast-t24
+    cast-t23
     chain-in-requires
     add-rule-requires
     same-length

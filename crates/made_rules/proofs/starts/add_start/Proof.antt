@@ -23,8 +23,8 @@ cast-if1 c = search needs
 
 returns : tie.Need-returns
 returns c =
-    let a = c .before .before .before .before .before .before .before .before .args in
-    start-none {n = a .n} {start = a .start} (a .lexical) (omega arith) (c .before .before .before .before .put-start-row .ensures) (c .before .number-of .ensures) (a .records .now) (a .k) (c .if1 .taken)
+    let a = c .before .before .before .before .before .before .before .before .before .args in
+    start-none {n = a .n} {start = a .start} (a .lexical) (omega arith) (c .before .before .before .before .before .put-start-row .ensures) (c .before .before .number-of .ensures) (a .records .now) (a .k) (c .if1 .taken)
 
 add-rule-requires : tie.Need-add-rule-requires
 add-rule-requires c κs = search needs
@@ -34,8 +34,8 @@ same-length c = search needs
 
 returns-2 : tie.Need-returns-2
 returns-2 c =
-    let a = c .before .before .before .before .before .before .before .before .before .before .before .before .args in
-    start-some {n = a .n} {start = a .start} (a .lexical) (omega arith) (c .before .before .before .before .before .before .before .before .put-start-row .ensures) (c .before .before .before .before .before .number-of .ensures) (c .before .before .before .before .if1 .left) (c .before .before .add-rule .ensures)
+    let a = c .before .before .before .before .before .before .before .before .before .before .before .before .before .args in
+    start-some {n = a .n} {start = a .start} (a .lexical) (omega arith) (c .before .before .before .before .before .before .before .before .before .put-start-row .ensures) (c .before .before .before .before .before .before .number-of .ensures) (c .before .before .before .before .if1 .left) (c .before .before .add-rule .ensures)
 
 pub add-start-spec : {M : Type 1} → statement M
 add-start-spec =
