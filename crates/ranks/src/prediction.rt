@@ -1,5 +1,6 @@
-// A prediction as one number: least rank, number, category, and the rank of each of 4 components, 9 bits each; the rank of component 0 stands again
-// where there is no component. How it is packed is known in this file alone. A rank is below 256: one bit of its 9 is free.
+// A prediction as one number: from above its least rank, its number, its category, and the ranks of components 3 to 0, the category in 6 bits, each other in 9;
+// the rank of component 0 stands again where there is no component. A rank is below 256: one bit of its 9 is free. The functions of this file alone take such a
+// number apart or put it together; `queue` compares two whole ones, of which the one with the lesser least rank is the lesser.
 ghost use mathlib.Core.Path.{_≡_};
 ghost use mathlib.Core.List.{[], _∷_};
 ghost use Prim.Native.Nat.{_+_, _*_, _<_};

@@ -1,5 +1,6 @@
-// The rules of a grammar as a table, made once for a call: CELLS cells a rule, which begin at the place that `place_of` gives. How a cell is packed is known
-// by the constants of this file, by which the table is made too (crate `rule_table`).
+// The rules of a grammar as a table, made once for a call: CELLS cells a rule, which begin at the place that `place_of` gives. The constants of this file say
+// how cells are packed: the table is made by them (crate `rule_table`) and read by them, here and in `daughters`. What is a prediction is packed as
+// `prediction` says.
 ghost use mathlib.Core.Path.{_≡_};
 ghost use Prim.Native.Nat.{_+_, _*_, _/_, _%_, _<_, _≤_};
 ghost use lib.ListN.{getD};
@@ -31,17 +32,21 @@ pub const CATEGORIES: u64 = 64;
 
 const WORDS: u64 = 65536;
 
-// Cell 1 has the lengths of the components, each below this.
+// Cell 1 has the lengths of the components of a nonlexical rule.
 const LENGTHS: usize = 1;
 
+// Each length is below this, and this is 1 in the place of the second.
 pub const LENGTH: u64 = 65536;
 
-// From cell 2 on each daughter has two cells: it as a prediction with positions for ranks, and then where its components stand.
+// From cell 2 on each daughter of a rule of dimension 2 or more has two cells: it as a prediction with positions for ranks, and then where its components
+// stand. A rule of dimension 1 has its daughters ready made, in rising order, in the first of each two cells, and 0 in the second. A lexical rule has 0 in
+// all.
 const FIRST_DAUGHTER: usize = 2;
 
 const FIRST_PLACES: usize = 3;
 
-// The second has, from below, the daughter's dimension, and of each of its components the component of the rule: 1 in the place of each of these.
+// The second of a daughter's two cells has, from below, the daughter's dimension, and of each of its components the component of the rule: 1 in the place of
+// each of these.
 pub const PLACE0: u64 = 8;
 
 pub const PLACE1: u64 = 64;

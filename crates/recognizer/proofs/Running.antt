@@ -165,10 +165,10 @@ module _ {g : Grammar} {t sentence w : List ℕ} {at : Standing} (trace : List �
           let c = step-counts (numberAt k) g (runs .ready .well) S s r (leads .leads-to) in
           ap frontNumber (queue-front g w (at .from) (at .to) held (omega (arith, c .some-left, queue-length g w (at .from) (at .to) held)))
 
-      pub taken-further : (before last : List ℕ) (x : ℕ) → x ≡ unpacked (getD w (at .from) 0) .number
+      pub taken-further : (before last : List ℕ) (x : ℕ)
           → (refusalNumbered g sentence (next .steps) (stateIn g sentence w′ next) (drop (next .steps) trace) ≡ none → last ≡ sets (set before (at .steps) x) (next .steps) (takenNumbered g (next .steps) (stateIn g sentence w′ next) (drop (next .steps) trace)))
-          → refusal ≡ none → last ≡ sets before (at .steps) (takenNumbered g (at .steps) (stateIn g sentence w at) (drop (at .steps) trace))
-      taken-further before last x e h a =
+          → x ≡ unpacked (getD w (at .from) 0) .number → refusal ≡ none → last ≡ sets before (at .steps) (takenNumbered g (at .steps) (stateIn g sentence w at) (drop (at .steps) trace))
+      taken-further before last x h e a =
           h (sym further ∙ a)
           ∙ ap₂ (λ (i y : ℕ). sets (set before k y) i (takenNumbered g (next .steps) s (drop (next .steps) trace))) (steps-are ∙ add-one k) (e ∙ sym front-is)
           ∙ sym (ap (sets before k) taken-first)

@@ -1,5 +1,6 @@
 -- `steps::opens` meets its contract.
 -- Assumes nothing.
+use native.Mathlib.Omega.{arith}
 use Rattle.steps.proofs.Applying.{opens-lexical, opens-long, opens-fits}
 use borrow.Author.Needs.{needs}
 use Rattle.steps.proofs.opens.Statement.{statement}
@@ -31,12 +32,12 @@ add-if2 c = search needs
 returns-2 : tie.Need-returns-2
 returns-2 c =
     let a = c .before .before .before .before .before .before .before .args in
-    opens-long (a .t .now) (a .sentence .now) (a .at) (a .r .0) _ _ (c .before .before .before .before .before .place-of .ensures) (c .before .before .before .before .daughters .ensures .0) (c .before .before .before .if1 .left) (c .if2 .taken)
+    opens-long (a .t .now) (a .sentence .now) (a .at) (a .r .0) _ _ (c .before .before .before .before .before .place-of .ensures) (c .before .before .before .before .daughters .ensures .0) (c .before .before .before .if1 .left) (omega (arith, c .if2 .taken))
 
 returns-3 : tie.Need-returns-3
 returns-3 c =
     let a = c .before .before .before .before .before .before .before .args in
-    opens-fits (a .t .now) (a .sentence .now) (a .at) (a .r .0) _ _ (c .before .before .before .before .before .place-of .ensures) (c .before .before .before .before .daughters .ensures .0) (c .before .before .before .if1 .left) (c .if2 .left)
+    opens-fits (a .t .now) (a .sentence .now) (a .at) (a .r .0) _ _ (c .before .before .before .before .before .place-of .ensures) (c .before .before .before .before .daughters .ensures .0) (c .before .before .before .if1 .left) (omega (arith, c .if2 .left))
 
 pub opens-spec : {M : Type 1} → statement M
 opens-spec =

@@ -93,10 +93,16 @@ enum-known-s : tie.Need-enum-known-s Inv-loop μ-loop
 enum-known-s c = search needs
 
 mul-trace : tie.Need-mul-trace Inv-loop μ-loop
-mul-trace c = search needs
+mul-trace c =
+    let here = c .before .before .before .before .before .before .before .before .before .before .before .before .if1 .taken in
+    let node = node-inside (c .before .before .before .before .before .before .before .before .before .before .before .before .before .before .loop .inv) here (c .before .before .before .before .before .before .before .before .before .before .if2 .left) (c .before .before .before .before .before .before .before .front-node .result) (c .before .before .before .before .before .before .before .front-node .ensures) in
+    omega (arith, c .before .before .before .before .before .before .before .before .before .before .before .before .before .before .before .before .before .before .before .before .before .before .pre .1, here, node)
 
 element-write-trace : tie.Need-element-write-trace Inv-loop μ-loop
-element-write-trace c = search needs
+element-write-trace c =
+    let here = c .before .before .before .before .before .before .before .before .before .before .before .before .if1 .taken in
+    let node = node-inside (c .before .before .before .before .before .before .before .before .before .before .before .before .before .before .loop .inv) here (c .before .before .before .before .before .before .before .before .before .before .if2 .left) (c .before .before .before .before .before .before .before .front-node .result) (c .before .before .before .before .before .before .before .front-node .ensures) in
+    omega (arith, c .before .before .before .before .before .before .before .before .before .before .before .before .before .before .before .before .before .before .before .before .before .before .pre .1, here, node)
 
 place-of-requires : tie.Need-place-of-requires Inv-loop μ-loop
 place-of-requires c κs = search needs

@@ -51,17 +51,18 @@ run-returns : (t : ℕ) → run-lts.Need-returns (calls t) (run-at t) run.Post
 run-returns t c =
     let a = c .before .before .before .before .before .args in
     let p = c .before .before .before .before .before .pre .1 in
-    let e = words-left (a .trace .now) (p .0) (c .before .if1 .taken) (c .if2 .taken) in
+    let e = words-left (a .trace .now) (p .0) (omega (arith, c .before .if1 .taken)) (omega (arith, c .if2 .taken)) in
     record { answer = refused _ (length (a .trace .now)) (Refusal.Analysis 18 (a .at .read)) e; taken = λ z. none-some (sym e ∙ z) }
 
 run-returns-2 : (t : ℕ) → run-lts.Need-returns-2 (calls t) (run-at t) run.Post
 run-returns-2 t c =
     let a = c .before .before .before .before .before .args in
     let p = c .before .before .before .before .before .pre .1 in
-    let e = all-read (a .trace .now) (p .0) (c .before .if1 .taken) (c .if2 .left) in
+    let ended : length (a .trace .now) ≤ a .at .steps = omega (arith, c .before .if1 .taken) in
+    let e = all-read (a .trace .now) (p .0) ended (omega (arith, c .if2 .left)) in
     record {
-      answer = accepted _ (length (a .trace .now)) (a .at .steps) e (omega (arith, p .0 .whole));
-      taken = λ z. sym (ap (sets (a .taken .now) (a .at .steps)) (none-taken (a .trace .now) (p .0) (c .before .if1 .taken)));
+      answer = accepted _ (length (a .trace .now)) _ e (omega (arith, p .0 .whole, ended));
+      taken = λ z. sym (ap (sets (a .taken .now) (a .at .steps)) (none-taken (a .trace .now) (p .0) ended));
     }
 
 run-mul-number : (t : ℕ) → run-lts.Need-mul-number (calls t) (run-at t) run.Post
@@ -116,7 +117,7 @@ run-run-requires t c κs =
     let more = c .before .before .before .before .before .before .before .before .before .before .if1 .left in
     let leads = leads-of t (c .before .before) in (
       omega (arith, c .before .before .before .before .before .before .before .before .before .before .before .before .before .before .pre .0, left-falls (length (a .trace .now)) (p .0) more _ leads),
-      (runs-further (length (a .trace .now)) (p .0) more _ leads, p .1, length-set (a .taken .now) (a .at .steps) (c .before .before .before .before .before .before .before .before .number .result) ∙ p .2),
+      (runs-further (length (a .trace .now)) (p .0) more _ leads, p .1, length-set (a .taken .now) (a .at .steps) _ ∙ p .2),
     )
 
 run-returns-3 : (t : ℕ) → run-lts.Need-returns-3 (calls t) (run-at t) run.Post
@@ -142,7 +143,7 @@ run-returns-5 t c =
     let leads = leads-of t (c .before .before .before) in
     record {
       answer = verdict-further (a .trace .now) (p .0) more leads (c .run .result) (c .run .ensures .answer);
-      taken = taken-further (a .trace .now) (p .0) more leads (a .taken .now) (c .run .last .1 .1 .1 .1 .1 .1 .0) (c .before .before .before .before .before .before .before .before .before .number .result) (c .before .before .before .before .before .before .before .before .before .number .ensures) (c .run .ensures .taken);
+      taken = taken-further (a .trace .now) (p .0) more leads (a .taken .now) (c .run .last .1 .1 .1 .1 .1 .1 .0) _ (c .run .ensures .taken) (c .before .before .before .before .before .before .before .before .before .number .ensures);
     }
 
 pub +run-spec : {M : Type 1} → statement M

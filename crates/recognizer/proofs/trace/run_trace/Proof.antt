@@ -15,7 +15,7 @@ returns : tie.Need-returns
 returns c =
     let a = c .before .before .before .before .args in
     let p = c .before .before .before .before .pre in
-    let e = trace-long (a .file .now) (a .sentence .now) (a .trace .now) (p .0) (c .if1 .taken) in
+    let e = trace-long (a .file .now) (a .sentence .now) (a .trace .now) (p .0) (omega (arith, c .if1 .taken)) in
     record { answer = refused _ (length (a .trace .now)) (Refusal.Analysis 12 0) e; taken = λ z. none-some (sym e ∙ z) }
 
 returns-2 : tie.Need-returns-2
