@@ -1,7 +1,7 @@
 -- From live prefix to live prefix up to the next entry: the entries after a list are the complete ones of the live prefixes after it.
 -- Assumes nothing.
 use mathlib.Core.Path.{_≡_, refl, sym, ap, subst, _∙_}
-use mathlib.Core.Bool.{Bool, true, false, _&&_}
+use mathlib.Core.Bool.{Bool, true, false}
 use mathlib.Core.List.{List, [], _∷_}
 use Prim.Native.Nat.{ℕ, _<_}
 use lib.ListN.{length, take}
@@ -93,46 +93,12 @@ module _ (g : Grammar) (t chain sentence w₀ path₀ turns₀ : List ℕ) (at :
       (complete-at g t chain sentence w′ path′ next (coming .walking .trailed) ∙ sym e)
       (rw (so .same-steps) at (coming .comes))
 
--- the same before the test whether the walk has come to an entry: the entries after `here`, and `here` before them if it is one that the walk moved on to
-pub record StandsFor (g : Grammar) (t chain sentence w₀ path₀ turns₀ : List ℕ) (at : Standing) (w path turns : List ℕ) (here : Standing) (moved : Bool) : Type 0 where
-  pub walking : Walking g t chain sentence w path turns here
-  pub lengths : SameLengths w₀ path₀ turns₀ w path turns
-  pub same-steps : stepsOf here ≡ stepsOf at
-  pub coming : entriesAfter g sentence (stepsOf at) (take (at .steps) path₀)
-      ≡ (if moved && atEnd sentence here then take (here .steps) path ∷ entriesAfter g sentence (stepsOf at) (take (here .steps) path) else entriesAfter g sentence (stepsOf at) (take (here .steps) path))
-
 module _ (t chain sentence w₀ path₀ turns₀ : List ℕ) (at : Standing) where
-  pub record Stands (w path turns : List ℕ) (here : Standing) (moved : Bool) : Type 0 where
-    pub of-grammar : (g : Grammar) → Walking g t chain sentence w₀ path₀ turns₀ at → StandsFor g t chain sentence w₀ path₀ turns₀ at w path turns here moved
-
-  -- where the walk began, and has not moved on
-  pub stands-first : Stands w₀ path₀ turns₀ at false
-  stands-first = record { of-grammar = λ g walking. record { walking = walking; lengths = record { kept = refl; path-kept = refl; turns-kept = refl }; same-steps = refl; coming = refl } }
-
   pub record NoneSoFar (w path turns : List ℕ) (here : Standing) : Type 0 where
     pub of-grammar : (g : Grammar) → Walking g t chain sentence w₀ path₀ turns₀ at → NoneSoFarFor g t chain sentence w₀ path₀ turns₀ at w path turns here
 
-  -- by the test
-  module _ (w path turns : List ℕ) (here : Standing) (moved : Bool) (stands : Stands w path turns here moved) where
-    abbrev shown : Grammar → Bool → List (List ℕ)
-    shown g b =
-        if b then take (here .steps) path ∷ entriesAfter g sentence (stepsOf at) (take (here .steps) path) else entriesAfter g sentence (stepsOf at) (take (here .steps) path)
-
-    pub stands-meets : true ≡ (moved && atEnd sentence here) → WalkedToEntry t chain sentence w₀ path₀ turns₀ w path turns at (Came here)
-    stands-meets e =
-        record {
-          of-grammar = λ g walking.
-              let h = stands .of-grammar g walking in
-              record { lengths = h .lengths; says = record { walking = h .walking; same-steps = h .same-steps; comes = h .coming ∙ ap (shown g) (sym e) } };
-        }
-
-    pub stands-passes : false ≡ (moved && atEnd sentence here) → NoneSoFar w path turns here
-    stands-passes e =
-        record {
-          of-grammar = λ g walking.
-              let h = stands .of-grammar g walking in
-              record { walking = h .walking; lengths = h .lengths; same-steps = h .same-steps; passed = h .coming ∙ ap (shown g) (sym e) };
-        }
+  pub none-begins : NoneSoFar w₀ path₀ turns₀ at
+  none-begins = record { of-grammar = λ g walking. record { walking = walking; lengths = record { kept = refl; path-kept = refl; turns-kept = refl }; same-steps = refl; passed = refl } }
 
   module _ (w path turns : List ℕ) (here : Standing) (so : NoneSoFar w path turns here) where
     pub none-walks : Walks t chain sentence w₀ path₀ turns₀ at → Walks t chain sentence w path turns here
@@ -156,8 +122,25 @@ module _ (t chain sentence w₀ path₀ turns₀ : List ℕ) (at : Standing) whe
           }
 
       module _ (next : Standing) (walked : WalkedOn t chain sentence w path turns w′ path′ turns′ here (Came next)) where
-        pub none-comes : Stands w′ path′ turns′ next true
-        none-comes =
+        pub none-meets : true ≡ atEnd sentence next → WalkedToEntry t chain sentence w₀ path₀ turns₀ w′ path′ turns′ at (Came next)
+        none-meets e =
+            record {
+              of-grammar = λ g walking.
+                  let h = so .of-grammar g walking in
+                  let f = walked .of-grammar g (h .walking) in
+                  record {
+                    lengths = lengths-then w₀ path₀ turns₀ w path turns w′ path′ turns′ (h .lengths) (f .lengths);
+                    says =
+                        record {
+                          walking = f .says .walking;
+                          same-steps = f .says .same-steps ∙ h .same-steps;
+                          comes = among g t chain sentence w₀ path₀ turns₀ at w path turns here h w′ path′ turns′ next (f .says) true e;
+                        };
+                  };
+            }
+
+        pub none-passes : false ≡ atEnd sentence next → NoneSoFar w′ path′ turns′ next
+        none-passes e =
             record {
               of-grammar = λ g walking.
                   let h = so .of-grammar g walking in
@@ -166,7 +149,7 @@ module _ (t chain sentence w₀ path₀ turns₀ : List ℕ) (at : Standing) whe
                     walking = f .says .walking;
                     lengths = lengths-then w₀ path₀ turns₀ w path turns w′ path′ turns′ (h .lengths) (f .lengths);
                     same-steps = f .says .same-steps ∙ h .same-steps;
-                    coming = among g t chain sentence w₀ path₀ turns₀ at w path turns here h w′ path′ turns′ next (f .says) (atEnd sentence next) refl;
+                    passed = among g t chain sentence w₀ path₀ turns₀ at w path turns here h w′ path′ turns′ next (f .says) false e;
                   };
             }
 

@@ -1,8 +1,5 @@
 // The listing as a stream: the next entry, by the walk over the live prefixes.
-ghost use mathlib.Core.Bool.{_&&_};
-ghost use mathlib.Core.Path.{_≡_};
 ghost use Rattle.walk.specs.Prefixes.{Walks};
-ghost use Rattle.walk.specs.Walking.{atEnd};
 ghost use Rattle.listing.specs.Stream.{WalkedToEntry};
 use model::MOST_STEPS;
 use ranks::queue::ROOM;
@@ -13,16 +10,6 @@ use walk::TURNS;
 use walk::Walked;
 use walk::at_end;
 use walk::next;
-
-// Whether the walk has come to an entry: it has moved on, and the prefix where it stands is complete.
-fn comes_to_entry(sentence: &[u32], here: Standing, moved: bool) -> bool
-    ensures { λ b. ⌜ b ≡ (moved && atEnd (now (sentence .entry)) here) ⌝ }
-{
-    if moved {
-        return at_end(sentence, here);
-    }
-    false
-}
 
 // The next entry of the listing, in dictionary order, after the live prefix that path[0..at.steps] holds: of the live prefixes after it, the first that is
 // complete.
@@ -39,16 +26,14 @@ pub fn next_entry(
     ensures { λ s. ⌜ WalkedToEntry (now (t .entry)) (now (chain .entry)) (now (sentence .entry)) (now (w .entry)) (now (path .entry)) (now (turns .entry)) (now (w .exit)) (now (path .exit)) (now (turns .exit)) at s ⌝ }
 {
     let mut here = at;
-    let mut moved = false;
     loop {
-        if comes_to_entry(sentence, here, moved) {
-            return Walked::Came(here);
-        }
         let s = next(t, chain, sentence, w, path, turns, here);
         match s {
             Walked::Came(n) => {
+                if at_end(sentence, n) {
+                    return Walked::Came(n);
+                }
                 here = n;
-                moved = true;
             }
             Walked::Ended => {
                 return Walked::Ended;

@@ -48,7 +48,8 @@ fn put_next(
     requires { ⌜ Walks (now t) (now chain) (now sentence) (now w) (now path) (now turns) (pen .at) × (pen .place + 576 < length (now out)) ⌝ }
     ensures { λ l. ⌜ WroteLine (now (t .entry)) (now (chain .entry)) (now (sentence .entry)) (now (w .entry)) (now (path .entry)) (now (turns .entry)) (now (out .entry)) pen (now (w .exit)) (now (path .exit)) (now (turns .exit)) (now (out .exit)) l ⌝ }
 {
-    let s = next_entry(t, chain, sentence, w, path, turns, pen.at);
+    let at = pen.at;
+    let s = next_entry(t, chain, sentence, w, path, turns, at);
     match s {
         Walked::Came(n) => {
             let k = n.steps;

@@ -18,7 +18,7 @@ enum-known-s c = search needs
 
 put-line-requires : tie.Need-put-line-requires
 put-line-requires c κs =
-    let s = c .before .before .before .before .before .before .before .before .before .before .before in
+    let s = c .before .before .before .before .before .before .before .before .before .before .before .before in
     let a = s .args in
     next-fits (a .t .now) (a .chain .now) (a .sentence .now) (a .w .now) (a .path .now) (a .turns .now) _ _ _ (a .pen) _ (rw (c .before .before .before .s .given .1) at (c .before .before .before .before .before .next-entry .ensures)) (s .pre .0) (length (a .out .now)) (s .pre .1)
 
@@ -30,13 +30,13 @@ same-length c = search needs
 
 returns : tie.Need-returns
 returns c =
-    let s = c .before .before .before .before .before .before .before .before .before .before .before .before .before .before in
+    let s = c .before .before .before .before .before .before .before .before .before .before .before .before .before .before .before in
     let a = s .args in
     says-next (a .t .now) (a .chain .now) (a .sentence .now) (a .w .now) (a .path .now) (a .turns .now) _ _ _ (a .pen) _ (rw (c .before .before .before .before .before .before .s .given .1) at (c .before .before .before .before .before .before .before .before .next-entry .ensures)) (c .before .before .put-line .ensures)
 
 returns-2 : tie.Need-returns-2
 returns-2 c =
-    let s = c .before .before .before .before .before .before .before .before in
+    let s = c .before .before .before .before .before .before .before .before .before in
     let a = s .args in
     says-last (a .t .now) (a .chain .now) (a .sentence .now) (a .w .now) (a .path .now) (a .turns .now) _ _ _ (a .pen) (rw (c .enum-told .given .1) at (c .before .before .next-entry .ensures)) (a .out .now)
 
