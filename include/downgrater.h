@@ -28,8 +28,8 @@ extern "C" {
 
 /* The version: 10,000 times the first number, 100 times the second, and the third. The second number is that of the last of the archive's change requests (the papers
  * of document 02) that the library has. dg_version is of the library that is linked: where it is not DG_VERSION, this header is that of another one. */
-#define DG_VERSION 10701
-#define DG_VERSION_TEXT "1.7.1"
+#define DG_VERSION 10702
+#define DG_VERSION_TEXT "1.7.2"
 uint32_t dg_version(void);
 
 /* The compiler warns of a call whose answer is not used, where it can. */

@@ -2,7 +2,7 @@
 ghost use mathlib.Core.Path.{_≡_};
 ghost use Rattle.downgrater.specs.Exports.{version};
 
-const VERSION: u32 = 10701;
+const VERSION: u32 = 10702;
 
 // The version of the library that is linked.
 #[no_mangle]
