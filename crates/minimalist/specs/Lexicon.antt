@@ -12,8 +12,8 @@ use Rattle.model.specs.Verdict.{refuseIf}
 use Rattle.model.specs.Grammar.{emptyWord}
 use Rattle.model.specs.GrammarFile.{within, allZero, fields}
 
--- "1 to 15 a category, 17 to 31 its selector, 33 to 35 a licensor, 49 to 51 its licensee": the kind of a feature byte, and a number that partners share; refusal 30
--- meets an entry "with another byte"
+-- "1 to 15 a category, 17 to 31 its selector, 33 to 35 a licensor, 49 to 51 its licensee": the kind of a feature byte, and a number that partners share;
+-- refusal 30 meets an entry "with another byte"
 pub data Feature : Type 0 where
   category selector licensor licensee : ℕ → Feature
   refusal30 : Feature

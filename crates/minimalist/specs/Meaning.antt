@@ -1,5 +1,5 @@
--- What a feature byte is, what refusals 30 and 10 meet and which categories are left out, said a second time, by the words of paper 6 of document 02 and without
--- computing anything; and that the computed tests agree with it (`LexiconsMean`).
+-- What a feature byte is, what refusals 30 and 10 meet and which categories are left out, said a second time, by the words of paper 6 of document 02 and
+-- without the computed tests; where an entry's bytes and its word stand is as `Lexicon` has it. That the computed tests agree is `LexiconsMean`.
 -- Assumes nothing.
 use mathlib.Core.Path.{_≡_}
 use mathlib.Core.Logic.{_⊎_}
@@ -14,8 +14,8 @@ use Rattle.model.specs.Demands.{_⇔_}
 use Rattle.minimalist.specs.Lexicon.{Feature, category, selector, licensor, licensee, refusal30, featureOf, isFeature, selects, licenses, isLicensor, isLicensee, entryBytes, wordIn, featuresIn, wrongEntry, wrongLexicon, repeatedEntry}
 use Rattle.minimalist.specs.Schemes.{Form, leftOut}
 
--- "1 to 15 a category, 17 to 31 its selector, 33 to 35 a licensor, 49 to 51 its licensee; a selector or licensee is 16 above its partner": what a byte is, with a
--- number that it shares with its partner
+-- "1 to 15 a category, 17 to 31 its selector, 33 to 35 a licensor, 49 to 51 its licensee; a selector or licensee is 16 above its partner": what a byte is,
+-- with a number that it shares with its partner
 pub data Means : ℕ → Feature → Type 0 where
   a-category : (b : ℕ) → 1 ≤ b → b ≤ 15 → Means b (category b)
   its-selector : (b n : ℕ) → Means b (category n) → Means (b + 16) (selector n)
@@ -52,8 +52,8 @@ pub data LeftOut (a : Form) : Type 0 where
   -- "if a moving chain begins with anything but a licensee"
   no-licensee : (f : ℕ) (α : List ℕ) → List·Memᴰ (f ∷ α) (a .moving) → ((n : ℕ) → Means f (licensee n) → ⊥) → LeftOut a
   -- "if two moving chains begin with the same licensee": the chains at places i and j
-  same-licensee : (i j m n : ℕ) (α β : List ℕ) → i < j → j < length (a .moving) → getD (a .moving) i [] ≡ m ∷ α → getD (a .moving) j [] ≡ m ∷ β → Means m (licensee n)
-      → LeftOut a
+  same-licensee : (i j m n : ℕ) (α β : List ℕ) → i < j → j < length (a .moving) → getD (a .moving) i [] ≡ m ∷ α → getD (a .moving) j [] ≡ m ∷ β
+      → Means m (licensee n) → LeftOut a
 
 pub record LexiconsMean : Type 0 where
   -- the kind and number of a byte, and "another byte", which 30 meets

@@ -158,7 +158,7 @@ module _ (file : List ℕ) (refused : Option Refusal) (g : Grammar) where
         orElse entryRefusal g sentence n m in
         (entryVerdict file sentence n limit m out ≡ verdict o (length (entry g sentence n m)))
         × (entryOutput file sentence n limit m out ≡ written o (entry g sentence n m) out)
-    -- the program tests the grammar, then the sentence file's length, then as the count, which tests the grammar again
+    -- as `programRefusal` has it: the grammar, the sentence file's length, and then the tests of the count, of which the grammar's is the first
     pub program-prints : (sentenceFile : List ℕ)
         → let sentence = sentenceIn sentenceFile in
         let n = limitIn sentenceFile in

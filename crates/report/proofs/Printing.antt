@@ -4,7 +4,7 @@ use mathlib.Core.Path.{_≡_, refl, sym, ap, ap₂, subst, _∙_}
 use mathlib.Core.Bool.{Bool, true, false}
 use mathlib.Core.List.{List, [], _∷_, _++_, append-assoc, append-nil}
 use mathlib.Core.Option.{Option, none, some}
-use Prim.Native.Nat.{ℕ, _+_, _<_, _≤_}
+use Prim.Native.Nat.{ℕ, _+_, _<_}
 use native.Mathlib.Omega.{arith}
 use lib.ListN.{length, take, drop, length-append}
 use lib.Seq.{sets-eq, take-at, length-take-le}
@@ -36,7 +36,7 @@ use Rattle.pages.specs.declared.Page.{Page}
 use Rattle.pages.specs.Page.{linesAfter, FilledPage}
 use Rattle.report.specs.Whole.{wordsIn, WordsRead, testsOf, refusalOf, textBy, textOf}
 use Rattle.report.specs.declared.program.Text.{Text}
-use Rattle.report.specs.Printing.{leftOf, toCome, GoesOn, PageOf, PutFrom, Whole, MayGoOn, PutPage, NextPage, TablesOf, Begun, CountedPage, RefusedPage, FirstPage}
+use Rattle.report.specs.Printing.{leftOf, toCome, GoesOn, PageOf, PutFrom, EndsAt, MayGoOn, PutPage, NextPage, TablesOf, Begun, CountedPage, RefusedPage, FirstPage}
 
 -- what is put at the front of a buffer stands there
 put-front : {before after l : List ℕ} {r : ℕ} → Put before after 0 l r → take r after ≡ l
@@ -55,14 +55,14 @@ module _ (g : Grammar) (sentence : List ℕ) (n : ℕ) where
   left-some text e = ap (λ (b : Bool). if b then linesAfter g sentence n (take (text .at .steps) (text .path)) else []) e
 
   -- the last page
-  pub page-whole : {before after l toPrint : List ℕ} {p : ℕ} {text : Text} → Put before after 0 l p → Whole p text → toPrint ≡ l → PageOf g sentence n toPrint after text
+  pub page-whole : {before after l toPrint : List ℕ} {p : ℕ} {text : Text} → Put before after 0 l p → EndsAt p text → toPrint ≡ l → PageOf g sentence n toPrint after text
   page-whole {before} {after} {l} {toPrint} {p} {text} put whole e =
       let front : take (text .end) after ≡ l = ap (λ (k : ℕ). take k after) (whole .end-is) ∙ put-front put in
       record {
         within = omega (arith, whole .end-is, put .within);
         joined = e ∙ sym (ap₂ (λ (x y : List ℕ). x ++ y) front (left-none text (whole .no-more)) ∙ append-nil l);
         goes-on = λ t. absurd (not-both (sym t ∙ whole .no-more));
-        some = λ t. absurd (not-both (sym t ∙ whole .no-more));
+        not-empty = λ t. absurd (not-both (sym t ∙ whole .no-more));
       }
 
   -- a page that begins with a text and goes on with lines of what is left
@@ -78,7 +78,7 @@ module _ (g : Grammar) (sentence : List ℕ) (n : ℕ) where
             ∙ sym (append-assoc first (from .lines) (leftOf g sentence n next))
             ∙ sym (ap (λ (x : List ℕ). x ++ leftOf g sentence n next) (put-front whole));
         goes-on = from .goes-on;
-        some = λ t. omega (arith, whole .place, length-append first (from .lines), from .some t);
+        not-empty = λ t. omega (arith, whole .place, length-append first (from .lines), from .not-empty t);
       }
 
   -- after each page less is to come
@@ -91,7 +91,7 @@ module _ (g : Grammar) (sentence : List ℕ) (n : ℕ) where
 
       go : (b : Bool) → next .more ≡ b → toCome g sentence n next < toCome g sentence n text
       go true e =
-          omega (arith, flag text true m, flag next true e, page .some e, ap length (page .joined), length-append (take (next .end) out) (leftOf g sentence n next), length-take-le (next .end) out (page .within))
+          omega (arith, flag text true m, flag next true e, page .not-empty e, ap length (page .joined), length-append (take (next .end) out) (leftOf g sentence n next), length-take-le (next .end) out (page .within))
       go false e = omega (arith, flag text true m, flag next false e, ap length (left-none next e))
 
 -- a page of lines alone
@@ -132,14 +132,14 @@ module _ (text : Text) (place : ℕ) (before w path turns after words : List ℕ
                   left-some g sentence n text (on .more-is)
                   ∙ subst (λ (k : ℕ). linesAfter g sentence k (take (text .at .steps) (text .path)) ≡ v .0 .text ++ linesAfter g sentence k (take (next .at .steps) path)) steps (v .0 .lines);
               goes-on = λ t. record { more-is = refl; sentence-is = on .sentence-is; walking = v .0 .walking; steps-are = v .0 .same-steps ∙ steps };
-              some = λ t. omega (arith, v .1, v .0 .put .place, put-long (v .0 .put), room);
+              not-empty = λ t. omega (arith, v .1, v .0 .put .place, put-long (v .0 .put), room);
             };
       }
 
   -- and where it ends
   pub put-last : (p : ℕ) (next : Text)
       → FilledPage (text .table) (text .chain) words (text .queues) (text .path) (text .turns) before pen w path turns after (Page.Last p)
-      → Whole p next → PutPage text place before after next
+      → EndsAt p next → PutPage text place before after next
   put-last p next filled whole =
       record {
         of-grammar = λ g sentence n on.
@@ -154,7 +154,7 @@ module _ (text : Text) (place : ℕ) (before w path turns after words : List ℕ
                   ∙ subst (λ (k : ℕ). linesAfter g sentence k (take (text .at .steps) (text .path)) ≡ v .0) steps (v .2)
                   ∙ sym (ap (λ (x : List ℕ). v .0 ++ x) (left-none g sentence n next (whole .no-more)) ∙ append-nil (v .0));
               goes-on = λ t. absurd (not-both (sym t ∙ whole .no-more));
-              some = λ t. absurd (not-both (sym t ∙ whole .no-more));
+              not-empty = λ t. absurd (not-both (sym t ∙ whole .no-more));
             };
       }
 
@@ -208,12 +208,12 @@ module _ (file words : List ℕ) (spoken n : ℕ) (v : CountVerdict) (before bet
       (counted-text g sentence n cost a b (sym so ∙ e)
       ∙ ap (λ (l : List ℕ). line (a ∷ b ∷ []) ++ l) (sym (left-some g sentence n text (begun .goes-on .more-is) ∙ ap (λ (k : ℕ). linesAfter g sentence n (take k (text .path))) (begun .at-start))))
 
-  pub costly-page : {r : Refusal} {text : Text} → v ≡ CountVerdict.NotCounted r → Whole place text → CountedPage file words spoken n between text
+  pub costly-page : {r : Refusal} {text : Text} → v ≡ CountVerdict.NotCounted r → EndsAt place text → CountedPage file words spoken n between text
   costly-page {r} e whole =
       page-whole g sentence n (subst (λ (x : CountVerdict). Put before between 0 (verdictLine x) place) e put) whole (refused-text g sentence n cost r (sym so ∙ e))
 
 -- the line of a refusal
-pub refused-page : (r : Refusal) {before after : List ℕ} {place : ℕ} {text : Text} → Put before after 0 (verdictLine (CountVerdict.NotCounted r)) place → Whole place text
+pub refused-page : (r : Refusal) {before after : List ℕ} {place : ℕ} {text : Text} → Put before after 0 (verdictLine (CountVerdict.NotCounted r)) place → EndsAt place text
     → RefusedPage r after text
 refused-page r {before} {after} {place} {text} put whole =
     record {
@@ -259,5 +259,5 @@ module _ (file bytes : List ℕ) (even : Bool) {words : List ℕ} {spoken : ℕ}
         within = page .within;
         joined = t ∙ sym (ap₂ (λ (x y : List ℕ). x ++ y) (page .line-is) (left-none g (wordsIn bytes) (limitIn bytes) text (page .no-more)) ∙ append-nil (printed (some r) []));
         goes-on = λ m. absurd (not-both (sym m ∙ page .no-more));
-        some = λ m. absurd (not-both (sym m ∙ page .no-more));
+        not-empty = λ m. absurd (not-both (sym m ∙ page .no-more));
       }

@@ -2,9 +2,9 @@
 -- Assumes nothing.
 use mathlib.Core.Path.{_≡_, refl, sym, ap, ap₂, _∙_}
 use mathlib.Core.Bool.{Bool, true, false, not, _&&_}
-use mathlib.Core.List.{List, [], _∷_, _++_, append-nil}
+use mathlib.Core.List.{List, [], _∷_, _++_}
 use mathlib.Core.Option.{Option, none, some}
-use Prim.Native.Nat.{ℕ, zero, suc, _+_, _*_, _%_, _<_, _≤_}
+use Prim.Native.Nat.{ℕ, zero, suc, _+_, _*_, _%_, _<_}
 use native.Mathlib.Omega.{arith}
 use borrow.Author.Tests.{lt-ltb, leb-true, leb-false}
 use lib.Dec.{T, eqb, leb, eqb→eq}
@@ -18,11 +18,11 @@ use Rattle.model.specs.GrammarFile.{grammarRefusal, grammarOf, wrongLength, wit
 use Rattle.model.specs.Trace.{sentenceRefusal, placesRefusal}
 use Rattle.model.specs.Counting.{count, effort, listing, limitsRefusal, effortRefusal}
 use Rattle.model.specs.Step.{single}
-use Rattle.model.specs.Program.{pairs, sentenceIn, limitIn, programLimit, programRefusal, printed, program}
+use Rattle.model.specs.Program.{pairs, sentenceIn, limitIn, programLimit, printed, program}
 use Rattle.model.proofs.Tests.{stop, and-l, and-r, within-low}
 use Rattle.pages.specs.Page.{linesAfter}
-use Rattle.report.specs.Whole.{wordsIn, refusalOf, textBy, textOf, ReadOf, WholeText}
-use Rattle.report.specs.Printing.{leftOf, Pages, last, more, PrintsPages}
+use Rattle.report.specs.Whole.{wordsIn, refusalOf, textBy, WholeText}
+use Rattle.report.specs.Printing.{Pages, last, more, PrintsPages}
 
 -- the text for a grammar file, a sentence, a node limit and the parity of the sentence file
 abbrev textFor : List ℕ → List ℕ → ℕ → Bool → List ℕ
@@ -105,7 +105,7 @@ first-bytes : (s bytes : List ℕ) → bytes ≡ take 195 s → (limitIn bytes �
 first-bytes [] bytes e = (ap limitIn e, ap wordsIn e)
 first-bytes (b ∷ s) bytes e = (ap limitIn e, ap wordsIn e ∙ pairs-take 97 s)
 
--- document 01's program tests the grammar again where it counts
+-- `programRefusal` has the grammar's test again among those of the count
 again : (g p l w e : Option Refusal) → (g orElse p orElse l orElse w) orElse e ≡ g orElse p orElse (g orElse l orElse w orElse e)
 again (some x) p l w e = refl
 again none (some x) l w e = refl

@@ -42,7 +42,7 @@ module _ (g : Grammar) (sentence : List ℕ) (n : ℕ) where
     pub within : text .end ≤ length out
     pub joined : toPrint ≡ take (text .end) out ++ leftOf text
     pub goes-on : text .more ≡ true → GoesOn text
-    pub some : text .more ≡ true → 0 < text .end
+    pub not-empty : text .more ≡ true → 0 < text .end
 
   -- lines of what was left are put from a place of the buffer on, and the rest is left
   pub record PutFrom (text : Text) (place : ℕ) (before after : List ℕ) (next : Text) : Type 0 where
@@ -50,10 +50,10 @@ module _ (g : Grammar) (sentence : List ℕ) (n : ℕ) where
     pub put : Put before after place lines (next .end)
     pub left : leftOf text ≡ lines ++ leftOf next
     pub goes-on : next .more ≡ true → GoesOn next
-    pub some : next .more ≡ true → 0 < length lines
+    pub not-empty : next .more ≡ true → 0 < length lines
 
 -- a text that ends at that place
-pub record Whole (end : ℕ) (text : Text) : Type 0 where
+pub record EndsAt (end : ℕ) (text : Text) : Type 0 where
   pub end-is : text .end ≡ end
   pub no-more : text .more ≡ false
 

@@ -1,5 +1,5 @@
--- What the program answers and prints for what it reads of its files: of the grammar at most one byte more than an accepted file can have, of the sentence file N
--- and at most one word more than a sentence can have, and whether its length is even. That this is what document 01 says of the whole files is `WholeText`.
+-- What the program prints for what it reads of its files: of the grammar at most one byte more than an accepted file can have, of the sentence file N and at
+-- most one word more than a sentence can have, and whether its length is even. That this is what document 01 says of the whole files is `WholeText`.
 -- Assumes nothing.
 use mathlib.Core.Path.{_≡_}
 use mathlib.Core.Bool.{Bool}
@@ -15,7 +15,7 @@ use Rattle.model.specs.Grammar.{Grammar}
 use Rattle.model.specs.GrammarFile.{grammarRefusal, grammarOf}
 use Rattle.model.specs.Trace.{sentenceRefusal}
 use Rattle.model.specs.Counting.{limitsRefusal, effortRefusal, count, effort, listing}
-use Rattle.model.specs.Program.{sentenceIn, limitIn, programLimit, programRefusal, printed, program}
+use Rattle.model.specs.Program.{sentenceIn, limitIn, programLimit, printed, program}
 
 -- the words read: at most 97
 abbrev pub wordsIn : List ℕ → List ℕ

@@ -1,4 +1,4 @@
-// What the program prints for what it reads of its files, a page at a time (document 01, "Counting and listing"): the line of its verdict, and then the listing.
+// What the program prints for what it reads of its files, a page at a time (document 01, "Counting and listing"): the line of its verdict, then the listing.
 ghost use mathlib.Core.Option.{none};
 ghost use mathlib.Core.Path.{_≡_};
 ghost use Prim.Native.Nat.{_+_, _<_, _≤_};
@@ -7,7 +7,7 @@ ghost use Rattle.model.specs.Counting.{limitsRefusal};
 ghost use Rattle.model.specs.GrammarFile.{grammarRefusal};
 ghost use Rattle.model.specs.Program.{programLimit};
 ghost use Rattle.steps.specs.Steps.{begin};
-ghost use Rattle.report.specs.Printing.{Whole, MayGoOn, PutPage, TablesOf, Begun, CountedPage, RefusedPage, FirstPage, NextPage};
+ghost use Rattle.report.specs.Printing.{EndsAt, MayGoOn, PutPage, TablesOf, Begun, CountedPage, RefusedPage, FirstPage, NextPage};
 use crate::sentence::SENTENCE_WORDS;
 use crate::sentence::first_words;
 use crate::sentence::read_limit;
@@ -51,8 +51,8 @@ pub struct Text {
 }
 
 // A text that ends there.
-fn whole(end: usize) -> Text
-    ensures { λ r. ⌜ Whole end r ⌝ }
+fn ends_at(end: usize) -> Text
+    ensures { λ r. ⌜ EndsAt end r ⌝ }
 {
     let table = [0u64; TABLE];
     let chain = [0u16; CHAIN];
@@ -116,7 +116,7 @@ fn put_page(text: Text, place: usize, out: &mut [u8]) -> Text
                 more: true,
             }
         }
-        Page::Last(end) => whole(end),
+        Page::Last(end) => ends_at(end),
     }
 }
 
@@ -185,7 +185,7 @@ fn counted_page(
         CountVerdict::Counted(_, _) => {
             put_page(begun(file, table, chain, words, spoken, n), place, out)
         }
-        CountVerdict::NotCounted(_) => whole(place),
+        CountVerdict::NotCounted(_) => ends_at(place),
     }
 }
 
@@ -194,7 +194,7 @@ fn refused_page(r: Refusal, out: &mut [u8]) -> Text
     requires { ⌜ 44 ≤ length (now out) ⌝ }
     ensures { λ t. ⌜ RefusedPage r (now (out .exit)) t ⌝ }
 {
-    whole(put_verdict(CountVerdict::NotCounted(r), out, 0))
+    ends_at(put_verdict(CountVerdict::NotCounted(r), out, 0))
 }
 
 // The first page for what is read of the two files: of the grammar file its first bytes, of the sentence file its first bytes and whether its length is even.

@@ -58,7 +58,8 @@ fn made(lexicon: &[u8]) {
     counts(grammar::fields(&out, 0, n as usize));
 }
 
-// 30: a byte left over, "who" beyond the word count, a start past the last category. 31: a start that is not derivable. 23: an output of a byte too few, after 31.
+// 30: a byte short, "who" beyond the word count, a start past the last category. 31: a start that is not derivable. 23: an output that is a byte too short,
+// after 31.
 fn refused(lexicon: &[u8]) {
     let mut out = [0u8; 1023];
     print_verdict(make_grammar::make_grammar(grammar::fields(lexicon, 0, 55), 5, 3, &mut out));

@@ -6,8 +6,7 @@ use Rattle.steps.specs.declared.Standing.{Standing}
 use Rattle.analyses.proofs.Limits.{ranges}
 use Rattle.analyses.proofs.Tables.{start-small}
 use Rattle.report.proofs.Printing.{walk-begins}
-use mathlib.Core.Path.{_≡_, refl, sym, ap, ap₂, _∙_}
-use native.Mathlib.Omega.{arith}
+use mathlib.Core.Path.{refl, ap}
 use borrow.Author.Needs.{needs}
 use Rattle.report.proofs.program.begun.Statement.{statement}
 use Rattle.report.proofs.program.begun.Tie as tie

@@ -5,7 +5,6 @@ use Rattle.model.specs.Program.{programLimit}
 use Rattle.analyses.proofs.Tables.{start-small, file-starts, file-counts}
 use Rattle.lines.proofs.Placed.{put-long, verdict-short}
 use Rattle.report.proofs.Printing.{counted-page, costly-page}
-use mathlib.Core.Path.{_≡_, refl, sym, ap, ap₂, _∙_}
 use native.Mathlib.Omega.{arith}
 use borrow.Author.Needs.{needs}
 use Rattle.report.proofs.program.counted_page.Statement.{statement}
@@ -55,8 +54,8 @@ put-page-requires c κs =
 enum-told-2 : tie.Need-enum-told-2
 enum-told-2 c = search needs
 
-whole-requires : tie.Need-whole-requires
-whole-requires c κs = search needs
+ends-at-requires : tie.Need-ends-at-requires
+ends-at-requires c κs = search needs
 
 same-length : tie.Need-same-length
 same-length c = search needs
@@ -78,7 +77,7 @@ returns-2 c =
     let a = s .args in
     costly-page (a .file .now) (a .t2) (a .spoken) (a .n) (c .before .before .before .before .before .before .before .count-from .result) (a .out .now) _ _ (c .before .before .before .before .before .put-verdict .ensures) _ (c .before .before .before .before .before .before .before .before .before .first-words .ensures)
     (c .before .before .before .before .before .before .before .count-from .ensures .of-grammar (grammarOf (a .file .now)) (file-starts (a .file .now) (s .pre .0) _ _ _ _ (a .n) programLimit _ (c .before .before .before .before .before .before .before .before .before .before .before .before .before .before .before .before .compile .ensures (s .pre .0)) (c .before .before .before .before .before .before .before .before .before .before .before .before .before .before .before .chain-rules .ensures (s .pre .0)) (c .before .before .before .before .before .before .before .before .before .before .before .before .before .before .start .ensures) (c .before .before .before .before .before .before .before .before .before .before .before .before .before .first-queue .ensures) (s .pre .1)))
-    (c .before .enum-told2 .given .1) (c .whole .ensures)
+    (c .before .enum-told2 .given .1) (c .ends-at .ensures)
 
 pub counted-page-spec : {M : Type 1} → statement M
 counted-page-spec =
@@ -96,7 +95,7 @@ counted-page-spec =
     begun-requires
     put-page-requires
     enum-told-2
-    whole-requires
+    ends-at-requires
     same-length
     returns
     same-length-2

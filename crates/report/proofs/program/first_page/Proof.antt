@@ -2,8 +2,6 @@
 -- Assumes nothing.
 use Rattle.model.proofs.Verdicts.{tests-pass, tests-met}
 use Rattle.report.proofs.Printing.{tests-passed, first-counted, first-refused}
-use mathlib.Core.Path.{_≡_, refl, sym, ap, ap₂, _∙_}
-use native.Mathlib.Omega.{arith}
 use borrow.Author.Needs.{needs}
 use Rattle.report.proofs.program.first_page.Statement.{statement}
 use Rattle.report.proofs.program.first_page.Tie as tie

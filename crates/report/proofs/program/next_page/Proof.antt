@@ -1,8 +1,6 @@
 -- `report::next_page` meets its contract.
 -- Assumes nothing.
 use Rattle.report.proofs.Printing.{next-is}
-use mathlib.Core.Path.{_≡_, refl, sym, ap, ap₂, _∙_}
-use native.Mathlib.Omega.{arith}
 use borrow.Author.Needs.{needs}
 use Rattle.report.proofs.program.next_page.Statement.{statement}
 use Rattle.report.proofs.program.next_page.Tie as tie

@@ -1,7 +1,6 @@
 -- `report::put_page` meets its contract.
 -- Assumes nothing.
 use Rattle.report.proofs.Printing.{walks-here, put-more, put-last}
-use mathlib.Core.Path.{_≡_, refl, sym, ap, ap₂, _∙_}
 use native.Mathlib.Omega.{arith}
 use borrow.Author.Needs.{needs}
 use Rattle.report.proofs.program.put_page.Statement.{statement}
@@ -22,8 +21,8 @@ enum-known-page c = search needs
 enum-known-page-2 : tie.Need-enum-known-page-2
 enum-known-page-2 c = search needs
 
-whole-requires : tie.Need-whole-requires
-whole-requires c κs = search needs
+ends-at-requires : tie.Need-ends-at-requires
+ends-at-requires c κs = search needs
 
 same-length : tie.Need-same-length
 same-length c = search needs
@@ -39,7 +38,7 @@ same-length-2 c = search needs
 returns-2 : tie.Need-returns-2
 returns-2 c =
     let s = c .before .before .before .before .before .before .before .before .before .before .before .before .before .before .before .before .before .before .before .before .before .before .before in
-    put-last (s .args .text) (s .args .place) (s .args .out .now) _ _ _ _ _ (c .before .before .before .before .before .before .before .before .before .before .before .first-words .ensures) _ _ (rw (c .before .before .page2 .given .1) at (c .before .before .before .before .before .before .fill .ensures)) (c .whole .ensures)
+    put-last (s .args .text) (s .args .place) (s .args .out .now) _ _ _ _ _ (c .before .before .before .before .before .before .before .before .before .before .before .first-words .ensures) _ _ (rw (c .before .before .page2 .given .1) at (c .before .before .before .before .before .before .fill .ensures)) (c .ends-at .ensures)
 
 pub put-page-spec : {M : Type 1} → statement M
 put-page-spec =
@@ -50,7 +49,7 @@ put-page-spec =
     fill-requires
     enum-known-page
     enum-known-page-2
-    whole-requires
+    ends-at-requires
     same-length
     returns
     same-length-2

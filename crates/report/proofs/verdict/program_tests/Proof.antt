@@ -9,8 +9,7 @@ use Rattle.model.specs.Counting.{limitsRefusal}
 use Rattle.model.specs.Program.{programLimit}
 use Rattle.model.proofs.Tests.{stop}
 use Rattle.model.proofs.Verdicts.{tests-pass, tests-stop, tests-after, met-is}
-use mathlib.Core.Path.{_≡_, refl, sym, ap, ap₂, _∙_}
-use native.Mathlib.Omega.{arith}
+use mathlib.Core.Path.{ap}
 use borrow.Author.Needs.{needs}
 use Rattle.report.proofs.verdict.program_tests.Statement.{statement}
 use Rattle.report.proofs.verdict.program_tests.Tie as tie
