@@ -1,4 +1,6 @@
 // Lent lists of 16-bit numbers: a number of a list, refusal 23, and a list written at the front of an output.
+#![tactic(auto)]
+
 ghost use Rattle.std.specs.Prelude.{◌≡◌, ◌++◌, ◌<◌, ◌≤◌, get_or, length, take, drop};
 ghost use Rattle.model.specs.Verdict.{tested};
 ghost use Rattle.model.specs.Calls.{room_refusal};

@@ -1,4 +1,6 @@
 // The Gregorian calendar from 1 January 2000 to 31 December 2399 by its tables (document 02, paper 3). The rule that they are proved to hold is in specs/.
+#![tactic(auto)]
+
 mod first_days;
 mod leap_years;
 mod months;

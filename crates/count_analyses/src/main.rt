@@ -1,5 +1,7 @@
 // The program: reads the files `grammar` and `sentence` in the working folder, and prints count and effort and then one trace a line; or R with a refusal's
 // number and place (document 01, "Counting and listing").
+#![tactic(auto)]
+
 ghost use Rattle.std.specs.Prelude.{◌≡◌, ◌<◌, ◌≤◌, min, length};
 ghost use Rattle.io.specs.Counts.{IsPrefixLen};
 ghost use Rattle.count_analyses.specs.Pieces.{PieceSays, Appended, ReadingSays, WrittenSays};

@@ -1,4 +1,6 @@
 // The day a deposit opens (document 02, paper 3): a date's number, a number's date, the opening day, and open or not on a day.
+#![tactic(auto)]
+
 mod numbers;
 mod opening;
 mod wide;

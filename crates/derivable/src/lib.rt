@@ -1,4 +1,6 @@
 // The categories derivable from the entries of a lexicon, as a table of rows (document 02, paper 6).
+#![tactic(auto)]
+
 mod rounds;
 mod tables;
 

@@ -1,5 +1,7 @@
 // Whether a rule is an earlier one, its weight and the order of its daughters aside: what refusal 10 tests of two records (document 01; document 02, papers 1
 // and 4). What it means of the rules is in specs/.
+#![tactic(auto)]
+
 ghost use Rattle.std.specs.Prelude.{◌≡◌, get_or};
 ghost use Rattle.model.specs.Base.{any_of, total};
 ghost use Rattle.model.specs.GrammarFile.{fields, same_record, renumbered, same_frame, same_daughters, same_variables, same_in_order, other_orders, same_reordered, same_rule};

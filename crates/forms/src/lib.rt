@@ -1,4 +1,6 @@
 // The categories of a minimalist grammar as rows of bytes: which are left out, merge and move of rows (document 02, paper 6; W11-0605, section 3).
+#![tactic(auto)]
+
 mod forms;
 mod merges;
 mod moves;

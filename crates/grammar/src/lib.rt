@@ -1,4 +1,6 @@
 // The grammar file as bytes: its layout, and the accessors of its heading and of its rules (document 01, "The grammar file").
+#![tactic(auto)]
+
 mod bytes;
 mod layout;
 mod lists;

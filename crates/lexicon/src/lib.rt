@@ -1,4 +1,6 @@
 // The entries of a minimalist lexicon: their feature bytes, refusals 30 and 10 (document 02, paper 6).
+#![tactic(auto)]
+
 mod entries;
 mod features;
 

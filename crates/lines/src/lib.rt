@@ -1,4 +1,6 @@
 // Lines of numbers as text, written into a lent buffer at a place (document 01, "Counting and listing"). Each function answers the place after what it writes.
+#![tactic(auto)]
+
 ghost use Rattle.std.specs.Prelude.{[], ◌∷◌, ◌++◌, ◌≡◌, ◌+◌, ◌*◌, ◌%◌, ◌<◌, ◌≤◌, length, take, drop};
 ghost use Rattle.std.proofs.Math.Option.{some};
 ghost use Rattle.model.specs.Program.{decimal, line, printed, digit_zero};

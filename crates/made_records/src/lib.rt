@@ -1,4 +1,6 @@
 // The records of the rules of the grammar made from a lexicon (document 02, paper 6): 24 bytes each, one after another.
+#![tactic(auto)]
+
 ghost use Rattle.std.specs.Prelude.{◌≡◌, ◌+◌, ◌*◌, ◌<◌, ◌≤◌, length};
 ghost use Rattle.made_records.specs.Records.{single, pair, merge_shape, move_shape, front_of, shape_of, run_code, code_at, size_at, record_byte, Put, AddsRule};
 

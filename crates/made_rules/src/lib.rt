@@ -1,5 +1,7 @@
 // The rules of the grammar made from a lexicon, as records one after another, and the dimensions of its categories (document 02, paper 6). The forms are the
 // rows of a table; category 0 is the new start, and category i + 1 the form of row i.
+#![tactic(auto)]
+
 mod entries;
 mod numbers;
 mod schemes;

@@ -1,4 +1,6 @@
 // The grammar of a minimalist lexicon, as a file (document 02, paper 6).
+#![tactic(auto)]
+
 ghost use Rattle.std.specs.Prelude.{◌≡◌, ◌<◌, ◌≤◌, T, length};
 ghost use Rattle.model.specs.Writer.{all_bytes};
 ghost use Rattle.minimalist.specs.Lexicon.{entries};

@@ -22,7 +22,7 @@ use Rattle.model.specs.Tree.{Tree, preorder, derives, nodes_refusal, tree_of_lis
 use Rattle.model.specs.Conversions.{BelongsTo, trace_of, tree_of}
 use Rattle.model.specs.Counting.{start, live, effort, listing, count, entry, limits_refusal}
 use Rattle.model.specs.Calls.{written, check_trace_verdict, check_tree_verdict, count_call, entry_verdict, entry_output}
-use Rattle.model.specs.Demands.{◌⇔◌, Recognized, Derivation, ToTree, ToTrace, Demand2For, Demand2, Analysis, trace_of_tree, Belongs, Demand3For, Demand3}
+use Rattle.model.specs.Demands.{◌⇔◌, Recognized, Derivation, ToTree, ToTrace, Demand2For, Demand2, trace_of_tree, Belongs, Demand3For, Demand3}
 use Rattle.model.proofs.Tests.{none_some}
 use Rattle.model.proofs.Verdicts.{none_accepted}
 use Rattle.model.proofs.Live.{live_lists}

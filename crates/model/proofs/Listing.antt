@@ -33,7 +33,7 @@ module _ (test : List ℕ → Bool) where
           cases (inl f) = (Memᴰ.head f, rw (f, e) tt)
           cases (inr j) = (Memᴰ.tail (ih j).0, (ih j).1)
 
-  keep_in : {l : List (List ℕ)} {p : List ℕ} → Memᴰ p l → T (test p) → Memᴰ p (keep test l)
+  keep_in : {p : List ℕ} {l : List (List ℕ)} → Memᴰ p l → T (test p) → Memᴰ p (keep test l)
   keep_in {p = p} (Memᴰ.head {x = x} {xs = l} e) t = go (test x) refl
     where
       go : (b : Bool) → test x ≡ b → Memᴰ p (if b then x ∷ keep test l else keep test l)

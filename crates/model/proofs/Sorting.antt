@@ -58,7 +58,7 @@ module _ {A : Type 0} where
       go true m = Memᴰ.tail m
       go false m = Memᴰ.head refl
 
-  pub insert_in : (p : Prediction A) {q : List (Prediction A)} {x : Prediction A} → Memᴰ x q → Memᴰ x (insert p q)
+  pub insert_in : (p : Prediction A) {x : Prediction A} {q : List (Prediction A)} → Memᴰ x q → Memᴰ x (insert p q)
   insert_in p {x = x} (Memᴰ.head {x = y} {xs = q} e) = go (before (least_of y) (least_of p))
     where
       go : (b : Bool) → Memᴰ x (if b then y ∷ insert p q else p ∷ y ∷ q)
@@ -78,7 +78,7 @@ module _ {A : Type 0} where
       go (inl e) ih = Memᴰ.head e
       go (inr n) ih = Memᴰ.tail (ih n)
 
-  pub sort_in : {q : List (Prediction A)} {x : Prediction A} → Memᴰ x q → Memᴰ x (sort q)
+  pub sort_in : {x : Prediction A} {q : List (Prediction A)} → Memᴰ x q → Memᴰ x (sort q)
   sort_in {x = x} (Memᴰ.head {x = p} {xs = q} e) = subst (λ (y : Prediction A). Memᴰ y (insert p (sort q))) (sym e) (insert_self p (sort q))
   sort_in (Memᴰ.tail {x = p} m) = insert_in p (sort_in m)
 

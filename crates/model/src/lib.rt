@@ -1,5 +1,7 @@
 // The words in which the library answers, and the three numberings (document 01, "Who can cause a refusal" and "A grammar").
 // The definitions of document 01 are in specs/, what follows from them in proofs/.
+#![tactic(auto)]
+
 ghost use Rattle.std.specs.Prelude.{◌≡◌};
 ghost use Rattle.model.specs.Verdict.{number, place};
 

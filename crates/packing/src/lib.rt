@@ -1,4 +1,6 @@
 // A verdict as one 64-bit number, for C.
+#![tactic(auto)]
+
 ghost use Rattle.std.specs.Prelude.{◌≡◌};
 ghost use Rattle.packing.specs.Packing.{packed_refusal, Fits, ValueFits, CountsFit, Says, SaysCount, SaysDate};
 

@@ -1,4 +1,6 @@
 // The listing as lines of text, a page at a time (document 01, "Counting and listing").
+#![tactic(auto)]
+
 ghost use Rattle.std.specs.Prelude.{◌+◌, ◌<◌, ◌≤◌, length};
 ghost use Rattle.walk.specs.Prefixes.{Walks};
 ghost use Rattle.pages.specs.Page.{WroteLine, FilledPage};

@@ -1,4 +1,6 @@
 // The reader of the grammar file: the tests of its blocks, its heading and its records (document 01, "The grammar file", refusals 1 to 10).
+#![tactic(auto)]
+
 mod blocks;
 mod heading;
 mod reader;

@@ -1,4 +1,6 @@
 // The tests of one record: refusals 6 to 9, for `rule_tests`. The record and the dimensions are lists of bytes that may stand anywhere.
+#![tactic(auto)]
+
 ghost use Rattle.std.specs.Prelude.{◌≡◌, ◌+◌, leb, length};
 ghost use Rattle.model.specs.Base.{any_below};
 ghost use Rattle.model.specs.Verdict.{tested};

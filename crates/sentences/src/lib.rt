@@ -1,5 +1,7 @@
 // A sentence: its places, each with a lowest and a highest word, whether a word takes a place, and refusals 11 and 29 (document 01, "Who can cause a
 // refusal"; document 02, paper 5).
+#![tactic(auto)]
+
 ghost use Rattle.std.specs.Prelude.{◌≡◌};
 ghost use Rattle.model.specs.GrammarFile.{grammar_of};
 ghost use Rattle.model.specs.Step.{lowest, highest, range, single, word_fits};

@@ -1,4 +1,6 @@
 // One step of the recognizer, whose predictions hold ranks: a rule number applied to the front prediction (document 01, "One step"; document 02, paper 7).
+#![tactic(auto)]
+
 ghost use Rattle.std.specs.Prelude.{◌≡◌, ◌<◌, ◌≤◌};
 ghost use Rattle.model.specs.GrammarFile.{grammar_of};
 ghost use Rattle.ranking.specs.Numbered.{made_at};

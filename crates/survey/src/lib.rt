@@ -1,4 +1,6 @@
 // The survey of categories: for each category 0 if no tree has it as root, else the least height of such a tree.
+#![tactic(auto)]
+
 ghost use Rattle.std.specs.Prelude.{◌≡◌, false, ◌<◌, length, replicate};
 ghost use Rattle.std.proofs.Math.Option.{none};
 ghost use Rattle.model.specs.GrammarFile.{grammar_of, grammar_refusal, rules_of, categories_of, daughters_of, record_of};

@@ -1,4 +1,6 @@
 // The count of analyses and the effort, and entry m of the listing, from the tables of a grammar (document 01, "Counting and listing").
+#![tactic(auto)]
+
 mod calls;
 mod prefixes;
 

@@ -1,4 +1,6 @@
 // The sum of an analysis's weights (document 02, paper 1).
+#![tactic(auto)]
+
 ghost use Rattle.std.specs.Prelude.{◌≡◌, ◌<◌, ◌≤◌, length, get_or};
 ghost use Rattle.weights.specs.Weights.{records_sum, largest_sum, TraceWeighed, TreeWeighed};
 

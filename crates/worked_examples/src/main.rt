@@ -1,5 +1,7 @@
 // Runs the calls on the files of data/: the worked examples of document 01 (K3 to K10), sums of weights, and a damaged file for each refusal 1 to 10; words heard
 // unclearly; the calls on dates; and the grammar of a lexicon. Each answer is on a line: its numbers, or R with the refusal's number and place.
+#![tactic(auto)]
+
 mod conversions;
 mod counts;
 mod figures;

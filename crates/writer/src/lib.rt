@@ -1,4 +1,6 @@
 // The writer of the grammar file: the file of a heading's numbers and the records' bytes (document 01, "Survey and writer").
+#![tactic(auto)]
+
 mod blocks;
 mod heading;
 mod writer;
