@@ -10,7 +10,7 @@ pub use leap_years::{is_leap, year_length};
 pub use months::month_length;
 
 // A date: the year as it is written, month and day counted from 1.
-#[derive(Drop)]
+#[derive(Clone, Copy)]
 pub struct Date {
     pub year: u16,
     pub month: u8,

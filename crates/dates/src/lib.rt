@@ -12,7 +12,7 @@ pub use opening::{is_open, opening_day};
 pub use wide::date_from;
 
 // A date, or a refusal.
-#[derive(Drop)]
+#[derive(Clone, Copy)]
 pub enum DateVerdict {
     Dated(Date),
     NotDated(Refusal),

@@ -11,7 +11,7 @@ ghost use Rattle.doubles.specs.Order.{positions};
 use grammar::{byte, fields, same_bytes, total};
 
 // An order of the daughters: the positions that the first, the second and the third come to.
-#[derive(Drop)]
+#[derive(Clone, Copy)]
 struct Order(u8, u8, u8);
 
 // Whether two records are the same, weight aside.

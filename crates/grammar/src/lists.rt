@@ -95,7 +95,7 @@ fn part_check(bytes: &[u8]) -> u32
 const TURNS: usize = 127;
 
 // Of the bytes at one of the four places of a turn: their sum over the turns taken, and the sum of these sums after each turn.
-#[derive(Drop)]
+#[derive(Clone, Copy)]
 struct Lane {
     sum: u32,
     sums: u32,

@@ -4,7 +4,7 @@ ghost use Rattle.minimalist.specs.Lexicon.{feature_of, is_feature, selects, lice
 ghost use Rattle.lexicon.specs.Features.{as_feature, is_category, is_licensee_of};
 
 // A feature: its kind, and a number that partners share; or another byte, which refusal 30 meets.
-#[derive(Drop)]
+#[derive(Clone, Copy)]
 pub enum Feature {
     Category(u8),
     Selector(u8),

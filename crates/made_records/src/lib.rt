@@ -17,7 +17,7 @@ pub const RECORD: usize = 24;
 pub const RECORDS: usize = 6144;
 
 // A rule of the made grammar.
-#[derive(Drop)]
+#[derive(Clone, Copy)]
 pub enum MadeRule {
     // from the category of a form of the wanted one to the new start
     Start {
@@ -49,7 +49,7 @@ pub enum MadeRule {
 
 // The components of a rule, their variables as bytes. The first has `joined` variables, up to two: `head` and `next`. Each other has one: `low` of them
 // the variables from 1 on, then `high` of them those after `before`.
-#[derive(Drop)]
+#[derive(Clone, Copy)]
 pub struct Shape {
     pub joined: u8,
     pub head: u8,

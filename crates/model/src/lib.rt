@@ -6,7 +6,7 @@ ghost use Rattle.std.specs.Prelude.{◌≡◌};
 ghost use Rattle.model.specs.Verdict.{number, place};
 
 // A refusal says whose it is, the grammar's, the analysis's or the desk's, with its number and its place.
-#[derive(Drop)]
+#[derive(Clone, Copy)]
 pub enum Refusal {
     Grammar(u8, u16),
     Analysis(u8, u16),
@@ -15,37 +15,37 @@ pub enum Refusal {
 
 // A node count (of the reader R, of the survey C, of the writer and of the call that makes a grammar the file's length; of the weighing calls the sum of
 // weights; of the calls on dates a day's number, or 1 or 0), or a refusal.
-#[derive(Drop)]
+#[derive(Clone, Copy)]
 pub enum Verdict {
     Accepted(u64),
     Refused(Refusal),
 }
 
 // What a row of tests answers: none of them meets the input, or the refusal of the first that does.
-#[derive(Drop)]
+#[derive(Clone, Copy)]
 pub enum Tested {
     Passed,
     Met(Refusal),
 }
 
 // The verdict of the count: count and effort, or a refusal.
-#[derive(Drop)]
+#[derive(Clone, Copy)]
 pub enum CountVerdict {
     Counted(u64, u64),
     NotCounted(Refusal),
 }
 
 // Category, word and rule are three numberings, each from 0, with no arithmetic between them.
-#[derive(Drop)]
+#[derive(Clone, Copy)]
 pub struct Category(pub u8);
 
-#[derive(Drop)]
+#[derive(Clone, Copy)]
 pub struct Word(pub u16);
 
 // The number of the empty word, which is none of the grammar's words.
 pub const EMPTY_WORD: u16 = 65535;
 
-#[derive(Drop)]
+#[derive(Clone, Copy)]
 pub struct RuleNumber(pub u16);
 
 // The limits of document 01: how many categories and rules a grammar has at most, and how many words a sentence, how many steps a trace, and how many nodes

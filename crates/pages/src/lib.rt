@@ -17,21 +17,21 @@ use walk::{CHAIN, TURNS, Walked};
 const LINE_BYTES: usize = 576;
 
 // Where the walk over the listing stands, and the place in the text where the writing goes on.
-#[derive(Drop)]
+#[derive(Clone, Copy)]
 pub struct Pen {
     pub at: Standing,
     pub place: usize,
 }
 
 // A line is written, and the pen is after it. Or there is no entry left.
-#[derive(Drop)]
+#[derive(Clone, Copy)]
 pub enum Line {
     Put(Pen),
     Last,
 }
 
 // A page ends where the pen is, and there may be entries after it; or it ends the listing, before a place.
-#[derive(Drop)]
+#[derive(Clone, Copy)]
 pub enum Page {
     More(Pen),
     Last(usize),

@@ -11,7 +11,7 @@ use crate::table::{DIMENSIONS, PLACE0, PLACE1, PLACE2, PLACE3, TABLE, daughter_c
 const COMPONENTS: u64 = 4;
 
 // Three numbers, the lowest first.
-#[derive(Drop)]
+#[derive(Clone, Copy)]
 pub struct Three {
     pub low: u64,
     pub mid: u64,

@@ -10,7 +10,7 @@ ghost use Rattle.ranks.specs.Moves.{moves_ranks, moves_lengths, Bounded, Small};
 use model::Category;
 
 // A number for each of four components.
-#[derive(Drop)]
+#[derive(Clone, Copy)]
 pub struct Four {
     pub c0: u64,
     pub c1: u64,
@@ -20,7 +20,7 @@ pub struct Four {
 
 // The components of the front that move other ranks: the one of rank 0 gives way to len0 variables, the one of rank f1 to len1, and so on; where there is
 // none the length is 1.
-#[derive(Drop)]
+#[derive(Clone, Copy)]
 pub struct Moves {
     pub len0: u64,
     pub f1: u64,

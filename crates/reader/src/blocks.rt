@@ -63,7 +63,7 @@ fn wrong_count(file: &[u8], k: u16) -> bool
 }
 
 // The tests of a block: of its check, of its number and its kind, and of the record count of a rule block.
-#[derive(Drop)]
+#[derive(Clone, Copy)]
 pub enum BlockTest {
     Check,
     Kind,

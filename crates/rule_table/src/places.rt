@@ -14,7 +14,7 @@ const FIRST: usize = 11;
 const VARIABLES: usize = 12;
 
 // The component in which a variable stands, and its position there, from 0.
-#[derive(Drop)]
+#[derive(Clone, Copy)]
 pub struct Stand {
     pub component: u64,
     pub position: u64,

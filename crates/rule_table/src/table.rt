@@ -22,7 +22,7 @@ use ranks::table::{
 };
 
 // The two cells of a daughter: it as a prediction whose ranks are positions, and the component of the rule in which each of its components stands.
-#[derive(Drop)]
+#[derive(Clone, Copy)]
 struct Pair {
     cell: u64,
     places: u64,

@@ -6,7 +6,7 @@ use grammar::{fields, record_of};
 use model::RuleNumber;
 
 // The records stand in the blocks of a grammar file, or packed, one after the other.
-#[derive(Drop)]
+#[derive(Clone, Copy)]
 pub enum Layout {
     Blocks,
     Packed,

@@ -19,7 +19,7 @@ pub const NUMBERS: usize = 388;
 
 // Where the recognizer stands: its queue is the part from..to of a lent array, behind the queues of the steps before; so many words are read, so many steps
 // are made, and so many may still be made.
-#[derive(Drop)]
+#[derive(Clone, Copy)]
 pub struct Standing {
     pub from: usize,
     pub to: usize,
@@ -29,7 +29,7 @@ pub struct Standing {
 }
 
 // What a step does: it halts by refusal 13, 14, 15 or 16; or its queue is longer than the steps then left; or it leads to the next queue.
-#[derive(Drop)]
+#[derive(Clone, Copy)]
 pub enum Stepped {
     Halts(u8),
     Long,

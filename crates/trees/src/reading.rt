@@ -9,7 +9,7 @@ use grammar::{category_of, daughter, daughter_count, rules, start};
 use model::{Category, MOST_STEPS, Refusal, RuleNumber, Tested};
 
 // The place after what is read, or the refusal that it meets.
-#[derive(Drop)]
+#[derive(Clone, Copy)]
 pub enum Place {
     Next(usize),
     Stop(Refusal),

@@ -6,14 +6,14 @@ ghost use Rattle.trees.specs.Found.{found_at};
 use model::RuleNumber;
 
 // "parent before daughters, daughters in rule order": what stands at the place is the next node.
-#[derive(Drop)]
+#[derive(Clone, Copy)]
 pub struct TreeReader<'a> {
     pub list: &'a [u16],
     pub place: usize,
 }
 
 // A rule number and the place where the reading goes on, or the list has ended.
-#[derive(Drop)]
+#[derive(Clone, Copy)]
 pub enum Found {
     Rule(RuleNumber, usize),
     End,

@@ -13,14 +13,14 @@ use ranks::table::TABLE;
 use steps::{Standing, make, opens};
 
 // The step that leads to the next live prefix: of a rule from a standing; or there is none.
-#[derive(Drop)]
+#[derive(Clone, Copy)]
 enum Choice {
     Step(Standing, RuleNumber),
     Nothing,
 }
 
 // Where the walk comes to: the next live prefix, whose rules are on the path; or there is none.
-#[derive(Drop)]
+#[derive(Clone, Copy)]
 pub enum Walked {
     Came(Standing),
     Ended,

@@ -1,0 +1,42 @@
+-- `dates::numbers::date_after` meets its contract. The invariant: the days of the years passed and the days left make up the number.
+-- Assumes nothing.
+use mathlib.Core.Path.{refl, ◌∙◌}
+use mathlib.Core.Logic.{⊎_elim}
+use Prim.Native.Nat.{◌-◌, ◌<◌}
+use native.Mathlib.Omega.{arith}
+use Rattle.calendar.specs.Calendar.{year_length}
+use Rattle.dates.proofs.YearsAndMonths.{year_over, last_inside, date_of_year}
+use Rattle.dates.proofs.numbers.date_after.Goals as goal
+use Rattle.dates.proofs.numbers.date_after.Invariants.{counted}
+
+-- the days left are days of the year
+inside : (c : tie.Left-loop invariant-loop decreases-loop) → c.before.loop.left < year_length c.before.loop.year
+inside c =
+    let t = c.before.loop in
+    let a = c.before.before.args in
+    ⊎_elim
+    (λ w. last_inside (counted a.start a.count) t.year t.left t.invariant.0 t.invariant.2 c.before.before.requires.2 t.invariant.1 w.left)
+    (λ w. omega (arith, w.2.taken, w.1.ensures))
+    c.loop-test.branch
+
+pub loop-year-init : goal.loop-year-init
+loop-year-init c = (c.requires.0, c.requires.1, refl)
+
+pub loop-year-preserved : goal.loop-year-preserved
+loop-year-preserved c =
+    let t = c.loop-year in
+    let a = c.args in (
+      omega arith,
+      omega arith,
+      year_over (counted a.start a.count) t.year t.left t.invariant.0 t.invariant.2 c.year_length-in_year.result c.year_length-in_year.ensures
+          (omega (arith, c.if-left-in_year.false)),
+    )
+
+pub date_in-requires : goal.date_in-requires
+date_in-requires c = inside c
+
+pub returns : goal.returns
+returns c =
+    let t = c.loop-year in
+    let a = c.args in
+    c.date_in.ensures ∙ date_of_year (counted a.start a.count) t.year t.left t.invariant.0 t.invariant.2 t.invariant.1 (inside s)

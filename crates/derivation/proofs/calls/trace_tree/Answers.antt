@@ -1,0 +1,53 @@
+-- `derivation::calls::trace_tree` meets its contract.
+-- Assumes nothing.
+use mathlib.Core.Path.{refl}
+use mathlib.Core.List.{◌∷◌}
+use lib.ListN.{length}
+use Rattle.model.specs.GrammarFile.{grammar_of}
+use Rattle.model.specs.Tree.{nodes_refusal}
+use Rattle.model.proofs.Verdicts.{tests_pass, tests_met}
+use Rattle.derivation.proofs.TreeCalls.{tree_long, tree_met, tree_spelled, tree_other}
+use Rattle.derivation.proofs.calls.trace_tree.Goals as goal
+
+pub returns-then-list-gt-MOST_STEPS : goal.returns-then-list-gt-MOST_STEPS
+returns-then-list-gt-MOST_STEPS c =
+    let a = c.args in
+    tree_long (grammar_of a.file.now) a.sentence.now a.list.now c.if-list-gt-MOST_STEPS.true a.trace.now
+
+pub returns-in-Met : goal.returns-in-Met
+returns-in-Met c =
+    let a = c.args in
+    let k = c.read_tree-nodes in
+    let g = grammar_of a.file.now in
+    let N = nodes_refusal g 0 (g.start ∷ []) a.list.now in
+    tree_met g a.sentence.now a.list.now c.if-list-gt-MOST_STEPS.false _ (tests_met N k.result k.ensures.answer c.in-Met.is) a.trace.now
+
+pub spells-requires : goal.spells-requires
+spells-requires c =
+    let a = c.args in
+    let p = c.requires in
+    let k = c.read_tree-nodes in
+    let g = grammar_of a.file.now in
+    let N = nodes_refusal g 0 (g.start ∷ []) a.list.now in
+    let e = tests_pass N k.result k.ensures.answer c.in_default.is in
+    (p.0, c.if-list-gt-MOST_STEPS.false, e, k.ensures.long, k.ensures.ended e, p.1)
+
+pub returns-then-spells : goal.returns-then-spells
+returns-then-spells c =
+    let a = c.args in
+    let k = c.read_tree-nodes in
+    let s = c.spells in
+    let g = grammar_of a.file.now in
+    let N = nodes_refusal g 0 (g.start ∷ []) a.list.now in
+    let e = tests_pass N k.result k.ensures.answer c.in_default.is in
+    tree_spelled g a.sentence.now a.list.now c.if-list-gt-MOST_STEPS.false e _ (length a.list.now) refl s.result c.if-spells.true s.ensures
+
+pub returns-else-spells : goal.returns-else-spells
+returns-else-spells c =
+    let a = c.args in
+    let k = c.read_tree-nodes in
+    let s = c.spells in
+    let g = grammar_of a.file.now in
+    let N = nodes_refusal g 0 (g.start ∷ []) a.list.now in
+    let e = tests_pass N k.result k.ensures.answer c.in_default.is in
+    tree_other g a.sentence.now a.list.now c.if-list-gt-MOST_STEPS.false e _ s.result c.if-spells.false s.ensures

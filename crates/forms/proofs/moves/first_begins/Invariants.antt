@@ -1,0 +1,14 @@
+-- `forms::first_begins` meets its contract.
+-- Assumes nothing.
+use mathlib.Core.Path.{◌≡◌}
+use Prim.Native.Nat.{◌≤◌, ◌<◌, ◌-◌, ◌+◌}
+use mathlib.Core.Bool.{true}
+use Rattle.minimalist.specs.Lexicon.{is_licensor}
+use Rattle.forms.specs.Rows.{firsts_in, place_in}
+use Rattle.forms.proofs.moves.first_begins.Given as goal
+
+abbrev pub invariant-loop-j : goal.invariant-loop-j
+invariant-loop-j l = (l.n < 256) × (is_licensor l.p ≡ true) × (place_in (l.p + 16) (firsts_in l.row 0 l.n) ≡ l.j + place_in (l.p + 16) (firsts_in l.row l.j (l.n - l.j))) × (l.j ≤ l.n)
+
+abbrev pub decreases-loop-j : goal.decreases-loop-j
+decreases-loop-j l = l.n - l.j

@@ -1,0 +1,22 @@
+-- `rule_table::table::pair_of` meets its contract.
+-- Assumes nothing.
+use mathlib.Core.Path.{sym, ap, ◌∙◌}
+use mathlib.Core.Bool.{Bool}
+use native.Mathlib.Omega.{arith}
+use borrow.Author.Tests.{lt-ltb, le-ltb}
+use Rattle.model.specs.Base.{if◌then◌else◌}
+use Rattle.model.specs.GrammarFile.{field}
+use Rattle.rule_table.specs.Cells.{pair_at}
+use Rattle.rule_table.proofs.table.pair_of.Goals as goal
+
+pub returns-then-j-record_daughters : goal.returns-then-j-record_daughters
+returns-then-j-record_daughters c =
+    let a = c.args in
+    let n = c.record_daughters.ensures in
+    c.pair_at.ensures ∙ sym (ap (λ (b : Bool). if b then pair_at a.d.now a.e.now a.j else record { cell = 0; places = 0 }) (lt-ltb a.j (field a.e.now 1) (omega arith)))
+
+pub returns-else-j-record_daughters : goal.returns-else-j-record_daughters
+returns-else-j-record_daughters c =
+    let a = c.args in
+    let n = c.record_daughters.ensures in
+    sym (ap (λ (b : Bool). if b then pair_at a.d.now a.e.now a.j else record { cell = 0; places = 0 }) (le-ltb a.j (field a.e.now 1) (omega arith)))

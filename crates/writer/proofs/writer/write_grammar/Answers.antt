@@ -1,0 +1,41 @@
+-- `writer::write_grammar` meets its contract.
+-- Assumes nothing.
+use mathlib.Core.Path.{ap, ap₂}
+use mathlib.Core.List.{List, ◌++◌}
+use Prim.Native.Nat.{ℕ, ◌*◌}
+use native.Mathlib.Omega.{arith}
+use borrow.Rule.Slice.PartMut.{Post-is}
+use Rattle.model.specs.Writer.{writer_refusal}
+use Rattle.model.proofs.Verdicts.{tests_pass, tests_met}
+use Rattle.writer.specs.Writing.{heading}
+use Rattle.writer.proofs.Outcome.{refused_given, refused_room, written_out}
+use borrow.Author.Rules.{rules}
+use Rattle.writer.proofs.writer.write_grammar.Goals as goal
+
+pub returns-in-Met : goal.returns-in-Met
+returns-in-Met c =
+    let a = c.args in
+    let h = heading a.categories a.start a.words a.rules a.dimensions.now in
+    let k = c.given_refusal-given in
+    refused_given h a.records.now a.out.now (tests_met (writer_refusal h a.records.now) k.result k.ensures c.in-Met.is)
+
+pub returns-then-out-n : goal.returns-then-out-n
+returns-then-out-n c =
+    let a = c.args in
+    let h = heading a.categories a.start a.words a.rules a.dimensions.now in
+    let k = c.given_refusal-given in
+    let pass = tests_pass (writer_refusal h a.records.now) k.result k.ensures c.in_default.is in
+    let n = c.blocks_for-n in
+    let long = ap (λ (m : ℕ). 512 * m) n.ensures in
+    refused_room h a.records.now a.out.now (512 * n.result) long pass (omega (arith, c.if-out-n.true))
+
+pub returns : goal.returns
+returns c =
+    let a = c.args in
+    let h = heading a.categories a.start a.words a.rules a.dimensions.now in
+    let k = c.given_refusal-given in
+    let pass = tests_pass (writer_refusal h a.records.now) k.result k.ensures c.in_default.is in
+    let n = c.blocks_for-n in
+    let long = ap (λ (m : ℕ). 512 * m) n.ensures in
+    written_out h a.records.now a.out.now (512 * n.result) long pass (omega (arith, c.if-out-n.false)) _
+    (ap₂ (λ (x y : List ℕ). x ++ y) c.put_file.ensures (Post-is 0 (512 * n.result) a.out.now (omega arith)))
