@@ -2,13 +2,13 @@
 -- Assumes nothing.
 use mathlib.Core.Path.{refl, sym, ap, ap₂, ◌∙◌}
 use mathlib.Core.Bool.{Bool, ◌&&◌}
-use mathlib.Core.Logic.{⊎_elim}
 use Prim.Native.Nat.{◌+◌, ◌-◌}
 use lib.ListN.{drop}
 use Rattle.model.specs.Base.{same_list}
 use Rattle.grammar.proofs.Walks.{same_here, differs_here, same_end, same_length, and_none, none_left}
 use native.Mathlib.Omega.{arith}
 use Rattle.grammar.proofs.lists.same_bytes.Goals as goal
+use Rattle.grammar.proofs.lists.same_bytes.Goals.{then-a-i, else-a-i}
 
 pub returns-then-a-b : goal.returns-then-a-b
 returns-then-a-b c = sym (same_length c.args.a.now c.args.b.now c.if-a-b.true)
@@ -25,11 +25,12 @@ loop-i-preserved c =
       omega arith,
       c.loop-i.invariant.1,
       c.loop-i.invariant.2
-          ∙ ⊎_elim
-          (λ w. and_none c.loop-i.same (differs_here a b i in-a (omega (arith, in-a, c.loop-i.invariant.1)) w.0.taken)
-          ∙ ap (λ (z : Bool). z && same_list (drop (i + 1) a) (drop (i + 1) b)) (sym w.1))
-          (λ w. ap₂ ◌&&◌ (sym w.1) (same_here a b i in-a (omega (arith, in-a, c.loop-i.invariant.1)) w.0.left))
-          c.if-a-i.branch,
+          ∙ elim c.if-a-i.branch [
+            then-a-i w ↦
+              and_none c.loop-i.same (differs_here a b i in-a (omega (arith, in-a, c.loop-i.invariant.1)) w.if-a-i.true)
+              ∙ ap (λ (z : Bool). z && same_list (drop (i + 1) a) (drop (i + 1) b)) (sym w.same-is)
+          | else-a-i w ↦ ap₂ ◌&&◌ (sym w.same-is) (same_here a b i in-a (omega (arith, in-a, c.loop-i.invariant.1)) w.if-a-i.false)
+          ],
     )
 
 pub returns : goal.returns
