@@ -10,7 +10,7 @@ use Rattle.model.specs.GrammarFile.{field}
 use Rattle.doubles.proofs.same_components.Given as goal
 
 -- variable k names the same component
-abbrev agrees : List ℕ → List ℕ → ℕ → Bool
+abbrev pub agrees : List ℕ → List ℕ → ℕ → Bool
 agrees earlier e k = eqb (field e (11 + k) % 4) (field earlier (11 + k) % 4)
 
 abbrev pub invariant-loop-place : goal.invariant-loop-place

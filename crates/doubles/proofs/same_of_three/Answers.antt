@@ -1,7 +1,7 @@
 -- `doubles::same_of_three` meets its contract.
 -- Assumes nothing.
 use mathlib.Core.Path.{sym, ◌∙◌}
-use mathlib.Core.List.{◌∷◌}
+use mathlib.Core.List.{[], ◌∷◌}
 use Rattle.model.specs.GrammarFile.{same_in_order}
 use Rattle.doubles.proofs.Reordering.{order_hit, order_miss, order_last}
 use Rattle.doubles.proofs.same_of_three.Goals as goal

@@ -3,7 +3,6 @@
 use mathlib.Core.Path.{sym, ap, ◌∙◌}
 use native.Mathlib.Omega.{arith}
 use lib.ListN.{length}
-use borrow.Author.Tests.{not-true, not-false}
 use Rattle.model.specs.Base.{any_of, total}
 use Rattle.model.specs.GrammarFile.{field, other_orders, same_in_order}
 use Rattle.grammar.proofs.Parts.{part_length}
@@ -20,7 +19,7 @@ returns-then-daughters-lt2 c =
 pub returns-then-not-same_frame : goal.returns-then-not-same_frame
 returns-then-not-same_frame c =
     let a = c.args in
-    let frame = sym c.same_frame.ensures ∙ not-true c.same_frame.result c.if-not-same_frame.true in
+    let frame = sym c.same_frame.ensures ∙ c.if-not-same_frame.true in
     sym (first_off (any_of (same_in_order a.earlier.now a.e.now) (other_orders (field a.e.now 1))) frame)
 
 pub total-n-requires : goal.total-n-requires
@@ -32,7 +31,7 @@ same_components-requires c = c.total-n.ensures ∙ ap total c.fields.ensures
 pub returns-then-not-same_components : goal.returns-then-not-same_components
 returns-then-not-same_components c =
     let a = c.args in
-    sym (other_components a.earlier.now a.e.now (sym c.same_components.ensures ∙ not-true c.same_components.result c.if-not-same_components.true))
+    sym (other_components a.earlier.now a.e.now (sym c.same_components.ensures ∙ c.if-not-same_components.true))
 
 pub same_in_order-requires : goal.same_in_order-requires
 same_in_order-requires c = c.total-n.ensures ∙ ap total c.fields.ensures
@@ -40,7 +39,7 @@ same_in_order-requires c = c.total-n.ensures ∙ ap total c.fields.ensures
 pub returns-then-daughters-eq2 : goal.returns-then-daughters-eq2
 returns-then-daughters-eq2 c =
     let a = c.args in
-    let frame = sym c.same_frame.ensures ∙ not-false c.same_frame.result c.if-not-same_frame.false in
+    let frame = sym c.same_frame.ensures ∙ c.if-not-same_frame.false in
     let n = c.byte-daughters in
     c.same_in_order.ensures ∙ sym (two_tried a.earlier.now a.e.now frame n.result n.ensures c.if-daughters-eq2.true)
 
@@ -50,7 +49,7 @@ same_of_three-requires c = c.total-n.ensures ∙ ap total c.fields.ensures
 pub returns-then-daughters-eq3 : goal.returns-then-daughters-eq3
 returns-then-daughters-eq3 c =
     let a = c.args in
-    let frame = sym c.same_frame.ensures ∙ not-false c.same_frame.result c.if-not-same_frame.false in
+    let frame = sym c.same_frame.ensures ∙ c.if-not-same_frame.false in
     let n = c.byte-daughters in
     c.same_of_three.ensures ∙ sym (orders_tried a.earlier.now a.e.now frame 3 (sym c.if-daughters-eq3.true ∙ n.ensures))
 

@@ -12,7 +12,7 @@ use Rattle.doubles.specs.Order.{positions}
 use Rattle.doubles.proofs.same_variables.Given as goal
 
 -- variable k, renumbered, is the earlier record's
-abbrev agrees : List ℕ → List ℕ → Order → ℕ → Bool
+abbrev pub agrees : List ℕ → List ℕ → Order → ℕ → Bool
 agrees earlier e order k = eqb (renumbered (positions order) (field e (11 + k))) (field earlier (11 + k))
 
 abbrev pub invariant-loop-k : goal.invariant-loop-k

@@ -1,7 +1,7 @@
 -- `lines::put_refusal` meets its contract.
 -- Assumes nothing.
 use mathlib.Core.Path.{ap₂, ◌∙◌}
-use mathlib.Core.List.{◌∷◌}
+use mathlib.Core.List.{[], ◌∷◌}
 use Prim.Native.Nat.{ℕ}
 use native.Mathlib.Omega.{arith}
 use lib.ListN.{length-set}

@@ -10,11 +10,11 @@ use Rattle.model.specs.GrammarFile.{field, dimension_in}
 use Rattle.record_tests.proofs.each_once.Given as goal
 
 -- component i of the daughter at position j occurs once
-abbrev once_at : List ℕ → ℕ → ℕ → Bool
+abbrev pub once_at : List ℕ → ℕ → ℕ → Bool
 once_at named j i = eqb (occurrences (4 * j + i) named) 1
 
 -- and so does every component of that daughter
-abbrev daughter_once : List ℕ → List ℕ → List ℕ → ℕ → Bool
+abbrev pub daughter_once : List ℕ → List ℕ → List ℕ → ℕ → Bool
 daughter_once dimensions e named j = all_below (once_at named j) (dimension_in dimensions (field e (2 + j)))
 
 abbrev pub invariant-loop-c : goal.invariant-loop-c

@@ -10,14 +10,14 @@ use Rattle.dates.proofs.numbers.date_after.Goals as goal
 use Rattle.dates.proofs.numbers.date_after.Invariants.{counted}
 
 -- the days left are days of the year
-inside : (c : tie.Left-loop invariant-loop decreases-loop) → c.before.loop.left < year_length c.before.loop.year
+inside : (c : goal.Left-loop-year) → c.loop-year.left < year_length c.loop-year.year
 inside c =
-    let t = c.before.loop in
-    let a = c.before.before.args in
+    let t = c.loop-year in
+    let a = c.args in
     ⊎_elim
-    (λ w. last_inside (counted a.start a.count) t.year t.left t.invariant.0 t.invariant.2 c.before.before.requires.2 t.invariant.1 w.left)
+    (λ w. last_inside (counted a.start a.count) t.year t.left t.invariant.0 t.invariant.2 c.requires.2 t.invariant.1 w.left)
     (λ w. omega (arith, w.2.taken, w.1.ensures))
-    c.loop-test.branch
+    c.loop-year-test.branch
 
 pub loop-year-init : goal.loop-year-init
 loop-year-init c = (c.requires.0, c.requires.1, refl)
@@ -39,4 +39,4 @@ pub returns : goal.returns
 returns c =
     let t = c.loop-year in
     let a = c.args in
-    c.date_in.ensures ∙ date_of_year (counted a.start a.count) t.year t.left t.invariant.0 t.invariant.2 t.invariant.1 (inside s)
+    c.date_in.ensures ∙ date_of_year (counted a.start a.count) t.year t.left t.invariant.0 t.invariant.2 t.invariant.1 (inside c.before)

@@ -6,7 +6,7 @@ use Rattle.calendar.specs.Calendar.{first_year, last_year, days_of_years}
 use Rattle.dates.proofs.numbers.date_after.Given as goal
 
 -- the day's number
-abbrev counted : ℕ → ℕ → ℕ
+abbrev pub counted : ℕ → ℕ → ℕ
 counted start count = days_of_years (start - first_year) + count
 
 abbrev pub invariant-loop-year : goal.invariant-loop-year

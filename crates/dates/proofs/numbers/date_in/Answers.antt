@@ -9,14 +9,14 @@ use Rattle.dates.proofs.YearsAndMonths.{month_over, december_inside, date_found}
 use Rattle.dates.proofs.numbers.date_in.Goals as goal
 
 -- the days left are days of the month
-inside : (c : tie.Left-loop invariant-loop decreases-loop) → c.before.loop.left < month_length c.before.before.before.args.year c.before.loop.month
+inside : (c : goal.Left-loop-month) → c.loop-month.left < month_length c.args.year c.loop-month.month
 inside c =
-    let t = c.before.loop in
-    let a = c.before.before.before.args in
+    let t = c.loop-month in
+    let a = c.args in
     ⊎_elim
-    (λ w. december_inside a.year a.number t.month t.left t.invariant.0 t.invariant.2 c.before.before.before.requires t.invariant.1 w.left)
-    (λ w. omega (arith, w.2.taken, length_in_lem a.year t.month w.1.ensures c.before.before.is-leap.ensures))
-    c.loop-test.branch
+    (λ w. december_inside a.year a.number t.month t.left t.invariant.0 t.invariant.2 c.requires t.invariant.1 w.left)
+    (λ w. omega (arith, w.2.taken, length_in_lem a.year t.month w.1.ensures c.is_leap-leap.ensures))
+    c.loop-month-test.branch
 
 pub loop-month-init : goal.loop-month-init
 loop-month-init c = (omega arith, omega arith, omega arith)

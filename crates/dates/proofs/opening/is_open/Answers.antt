@@ -2,28 +2,28 @@
 -- Assumes nothing.
 use mathlib.Core.Path.{refl, sym, ◌∙◌}
 use native.Mathlib.Omega.{arith}
-use borrow.Author.Tests.{le-leb, lt-leb, not-true, not-false}
+use borrow.Author.Tests.{le-leb, lt-leb}
 use Rattle.calendar.specs.Calendar.{days}
 use Rattle.dates.proofs.OpenOrNot.{open_refused, open_told}
 use Rattle.dates.proofs.opening.is_open.Goals as goal
 
 pub returns-then-not-is_date : goal.returns-then-not-is_date
-returns-then-not-is_date c = rw (sym c.is_date.ensures ∙ not-true _ c.if-not-is_date.true) refl
+returns-then-not-is_date c = rw (sym c.is_date.ensures ∙ c.if-not-is_date.true) refl
 
 pub returns-then-asked-ge-DAYS : goal.returns-then-asked-ge-DAYS
-returns-then-asked-ge-DAYS c = rw (sym c.is_date.ensures ∙ not-false _ c.if-not-is_date.false, le-leb days c.args.asked (omega (arith, c.if-asked-ge-DAYS.true))) refl
+returns-then-asked-ge-DAYS c = rw (sym c.is_date.ensures ∙ c.if-not-is_date.false, le-leb days c.args.asked (omega (arith, c.if-asked-ge-DAYS.true))) refl
 
 pub opening_number-requires : goal.opening_number-requires
-opening_number-requires c = sym c.is_date.ensures ∙ not-false _ c.if-not-is_date.false
+opening_number-requires c = sym c.is_date.ensures ∙ c.if-not-is_date.false
 
 pub returns-in-Refused : goal.returns-in-Refused
 returns-in-Refused c =
     let a = c.args in
-    open_refused a.d a.term a.asked (sym c.is_date.ensures ∙ not-false _ c.if-not-is_date.false)
+    open_refused a.d a.term a.asked (sym c.is_date.ensures ∙ c.if-not-is_date.false)
     (lt-leb days a.asked (omega (arith, c.if-asked-ge-DAYS.false))) c.opening_number.result c.opening_number.ensures c.in-Refused.is
 
 pub returns-in-Accepted : goal.returns-in-Accepted
 returns-in-Accepted c =
     let a = c.args in
-    open_told a.d a.term a.asked (sym c.is_date.ensures ∙ not-false _ c.if-not-is_date.false)
+    open_told a.d a.term a.asked (sym c.is_date.ensures ∙ c.if-not-is_date.false)
     (lt-leb days a.asked (omega (arith, c.if-asked-ge-DAYS.false))) c.opening_number.result c.opening_number.ensures c.in-Accepted.is c.open_from.ensures

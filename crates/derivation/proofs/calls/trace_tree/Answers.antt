@@ -1,7 +1,7 @@
 -- `derivation::calls::trace_tree` meets its contract.
 -- Assumes nothing.
 use mathlib.Core.Path.{refl}
-use mathlib.Core.List.{◌∷◌}
+use mathlib.Core.List.{[], ◌∷◌}
 use lib.ListN.{length}
 use Rattle.model.specs.GrammarFile.{grammar_of}
 use Rattle.model.specs.Tree.{nodes_refusal}

@@ -1,7 +1,6 @@
 -- `forms::wrong_moving` meets its contract.
 -- Assumes nothing.
 use native.Mathlib.Omega.{arith}
-use borrow.Author.Tests.{not-true, not-false}
 use Rattle.forms.proofs.RowForms.{wrong_none, wrong_twice, wrong_later, wrong_end}
 use mathlib.Core.Path.{◌≡◌, sym, ap, ◌∙◌}
 use Prim.Native.Nat.{ℕ, ◌-◌}
@@ -18,14 +17,14 @@ pub returns-then-not-is_licensee : goal.returns-then-not-is_licensee
 returns-then-not-is_licensee c =
     let a = c.args in
     let t = c.loop-k in
-    sym (t.invariant.1 ∙ wrong_none a.row.now t.k a.n c.byte-m.result c.byte-m.ensures c.loop-k-test.true (sym c.is_licensee.ensures ∙ not-true _ c.if-not-is_licensee.true))
+    sym (t.invariant.1 ∙ wrong_none a.row.now t.k a.n c.byte-m.result c.byte-m.ensures c.loop-k-test.true (sym c.is_licensee.ensures ∙ c.if-not-is_licensee.true))
 
 pub returns-then-begins_later : goal.returns-then-begins_later
 returns-then-begins_later c =
     let a = c.args in
     let t = c.loop-k in
     let m = c.byte-m in
-    let licensee = sym c.is_licensee.ensures ∙ not-false _ c.if-not-is_licensee.false in
+    let licensee = sym c.is_licensee.ensures ∙ c.if-not-is_licensee.false in
     sym (t.invariant.1 ∙ wrong_twice a.row.now t.k a.n m.result m.ensures c.loop-k-test.true licensee (sym c.begins_later.ensures ∙ c.if-begins_later.true))
 
 pub loop-k-preserved : goal.loop-k-preserved
@@ -33,7 +32,7 @@ loop-k-preserved c =
     let a = c.args in
     let t = c.loop-k in
     let m = c.byte-m in
-    let licensee = sym c.is_licensee.ensures ∙ not-false _ c.if-not-is_licensee.false in
+    let licensee = sym c.is_licensee.ensures ∙ c.if-not-is_licensee.false in
     (t.invariant.0, t.invariant.1 ∙ wrong_later a.row.now t.k a.n m.result m.ensures c.loop-k-test.true licensee (sym c.begins_later.ensures ∙ c.if-begins_later.false))
 
 pub returns : goal.returns

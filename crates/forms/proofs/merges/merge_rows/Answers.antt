@@ -1,7 +1,6 @@
 -- `forms::merge_rows` meets its contract.
 -- Assumes nothing.
 use Rattle.minimalist.specs.Lexicon as paper
-use borrow.Author.Tests.{not-true, not-false}
 use mathlib.Core.Path.{sym, ap₂, ◌∙◌}
 use Rattle.forms.proofs.MergeRows.{says_none, says_moving, says_after_entry, says_before}
 use Rattle.forms.proofs.merges.merge_rows.Goals as goal
@@ -9,12 +8,12 @@ use Rattle.forms.proofs.merges.merge_rows.Goals as goal
 pub returns-then-not-selects : goal.returns-then-not-selects
 returns-then-not-selects c =
     let a = c.args in
-    says_none a.a.now a.b.now _ (ap₂ paper.selects (sym c.byte.ensures) (sym c.byte-2.ensures) ∙ sym c.selects.ensures ∙ not-true _ c.if-not-selects.true)
+    says_none a.a.now a.b.now _ (ap₂ paper.selects (sym c.byte.ensures) (sym c.byte-2.ensures) ∙ sym c.selects.ensures ∙ c.if-not-selects.true)
 
 pub returns-then-byte-ne0 : goal.returns-then-byte-ne0
 returns-then-byte-ne0 c =
     let a = c.args in
-    let pick = ap₂ paper.selects (sym c.byte.ensures) (sym c.byte-2.ensures) ∙ sym c.selects.ensures ∙ not-false _ c.if-not-selects.false in
+    let pick = ap₂ paper.selects (sym c.byte.ensures) (sym c.byte-2.ensures) ∙ sym c.selects.ensures ∙ c.if-not-selects.false in
     let i = c.movers in
     let j = c.movers-then-byte-ne0 in
     says_moving a.a.now a.b.now i.result j.result _ pick (λ z. c.if-byte-ne0.true (c.byte-3.ensures ∙ z)) i.ensures.0 j.ensures.0 c.put_merge.ensures
@@ -22,7 +21,7 @@ returns-then-byte-ne0 c =
 pub returns-then-byte-eq1 : goal.returns-then-byte-eq1
 returns-then-byte-eq1 c =
     let a = c.args in
-    let pick = ap₂ paper.selects (sym c.byte.ensures) (sym c.byte-2.ensures) ∙ sym c.selects.ensures ∙ not-false _ c.if-not-selects.false in
+    let pick = ap₂ paper.selects (sym c.byte.ensures) (sym c.byte-2.ensures) ∙ sym c.selects.ensures ∙ c.if-not-selects.false in
     let i = c.movers-2 in
     let j = c.movers-3 in
     let ends = sym c.byte-3.ensures ∙ c.if-byte-ne0.false in
@@ -31,7 +30,7 @@ returns-then-byte-eq1 c =
 pub returns : goal.returns
 returns c =
     let a = c.args in
-    let pick = ap₂ paper.selects (sym c.byte.ensures) (sym c.byte-2.ensures) ∙ sym c.selects.ensures ∙ not-false _ c.if-not-selects.false in
+    let pick = ap₂ paper.selects (sym c.byte.ensures) (sym c.byte-2.ensures) ∙ sym c.selects.ensures ∙ c.if-not-selects.false in
     let i = c.movers-2 in
     let j = c.movers-3 in
     let ends = sym c.byte-3.ensures ∙ c.if-byte-ne0.false in

@@ -1,6 +1,5 @@
 -- `lexicon::all_features` meets its contract.
 -- Assumes nothing.
-use borrow.Author.Tests.{not-true, not-false}
 use mathlib.Core.Path.{sym, ap, ◌∙◌, refl}
 use Prim.Native.Nat.{◌-◌}
 use Rattle.model.specs.Base.{every}
@@ -20,14 +19,14 @@ returns-then-not-is_feature c =
     let set = c.if-bytes-i-eq0.false in
     let t = c.loop-i in
     let l = c.args.bytes.now in
-    sym (t.invariant.1 ∙ no_feature l t.i c.loop-i-test.true set (sym c.is_feature.ensures ∙ not-true _ c.if-not-is_feature.true))
+    sym (t.invariant.1 ∙ no_feature l t.i c.loop-i-test.true set (sym c.is_feature.ensures ∙ c.if-not-is_feature.true))
 
 pub loop-i-preserved : goal.loop-i-preserved
 loop-i-preserved c =
     let set = c.if-bytes-i-eq0.false in
     let t = c.loop-i in
     let l = c.args.bytes.now in
-    (omega arith, t.invariant.1 ∙ one_feature l t.i c.loop-i-test.true set (sym c.is_feature.ensures ∙ not-false _ c.if-not-is_feature.false))
+    (omega arith, t.invariant.1 ∙ one_feature l t.i c.loop-i-test.true set (sym c.is_feature.ensures ∙ c.if-not-is_feature.false))
 
 pub returns : goal.returns
 returns c = sym (c.loop-i.invariant.1 ∙ ap (every is_feature) (at_end c.args.bytes.now c.loop-i.i c.loop-i-test.false))

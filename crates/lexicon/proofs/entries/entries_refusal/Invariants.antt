@@ -11,7 +11,7 @@ use Rattle.model.proofs.TestLoops.{left}
 use Rattle.minimalist.specs.Lexicon.{repeated_entry, entries_refusal}
 use Rattle.lexicon.proofs.entries.entries_refusal.Given as goal
 
-abbrev test : List ℕ → ℕ → Option Refusal
+abbrev pub test : List ℕ → ℕ → Option Refusal
 test bytes i = refuse_if (repeated_entry bytes i) (Refusal.Grammar 10 i)
 
 abbrev pub invariant-loop-i : goal.invariant-loop-i

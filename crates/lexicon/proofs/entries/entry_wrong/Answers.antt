@@ -5,7 +5,6 @@ use mathlib.Core.Path.{◌≡◌, sym, ◌∙◌}
 use lib.ListN.{length}
 use Rattle.minimalist.specs.Lexicon.{features_in, word_in}
 use Rattle.lexicon.proofs.EntryWalks.{wrong_empty, wrong_feature, wrong_rest_lem, by_word, number_is, features_found, rest_found, word_fits, word_over}
-use borrow.Author.Tests.{not-true, not-false}
 use Rattle.lexicon.proofs.entries.entry_wrong.Goals as goal
 
 pub returns-then-n-eq0 : goal.returns-then-n-eq0
@@ -26,7 +25,7 @@ returns-then-not-all_features c =
     let six = c.fields-six.result.now in
     let s = c.fields-six.ensures in
     let m = z.before-zero.ensures in
-    sym (wrong_feature w e (λ q. c.if-n-eq0.false (number_is w e six n s m ∙ q)) (sym (c.all_features.ensures ∙ features_found w e six n s m) ∙ not-true _ c.if-not-all_features.true))
+    sym (wrong_feature w e (λ q. c.if-n-eq0.false (number_is w e six n s m ∙ q)) (sym (c.all_features.ensures ∙ features_found w e six n s m) ∙ c.if-not-all_features.true))
 
 pub returns-then-not-few_zeros : goal.returns-then-not-few_zeros
 returns-then-not-few_zeros c =
@@ -37,8 +36,8 @@ returns-then-not-few_zeros c =
     let s = c.fields-six.ensures in
     let m = z.before-zero.ensures in
     let some : length (features_in e) ≡ 0 → ⊥ = λ q. c.if-n-eq0.false (number_is w e six n s m ∙ q) in
-    let features = sym (c.all_features.ensures ∙ features_found w e six n s m) ∙ not-false _ c.if-not-all_features.false in
-    sym (wrong_rest_lem w e some features (sym (c.few_zeros.ensures ∙ rest_found w e six n s m) ∙ not-true _ c.if-not-few_zeros.true))
+    let features = sym (c.all_features.ensures ∙ features_found w e six n s m) ∙ c.if-not-all_features.false in
+    sym (wrong_rest_lem w e some features (sym (c.few_zeros.ensures ∙ rest_found w e six n s m) ∙ c.if-not-few_zeros.true))
 
 pub returns-then-word-words : goal.returns-then-word-words
 returns-then-word-words c =
@@ -49,8 +48,8 @@ returns-then-word-words c =
     let s = c.fields-six.ensures in
     let m = z.before-zero.ensures in
     let some : length (features_in e) ≡ 0 → ⊥ = λ q. c.if-n-eq0.false (number_is w e six n s m ∙ q) in
-    let features = sym (c.all_features.ensures ∙ features_found w e six n s m) ∙ not-false _ c.if-not-all_features.false in
-    let rest = sym (c.few_zeros.ensures ∙ rest_found w e six n s m) ∙ not-false _ c.if-not-few_zeros.false in
+    let features = sym (c.all_features.ensures ∙ features_found w e six n s m) ∙ c.if-not-all_features.false in
+    let rest = sym (c.few_zeros.ensures ∙ rest_found w e six n s m) ∙ c.if-not-few_zeros.false in
     sym (sym (by_word w e some features rest) ∙ word_fits w (word_in e) (omega arith))
 
 pub returns : goal.returns
@@ -62,6 +61,6 @@ returns c =
     let s = c.fields-six.ensures in
     let m = z.before-zero.ensures in
     let some : length (features_in e) ≡ 0 → ⊥ = λ q. c.if-n-eq0.false (number_is w e six n s m ∙ q) in
-    let features = sym (c.all_features.ensures ∙ features_found w e six n s m) ∙ not-false _ c.if-not-all_features.false in
-    let rest = sym (c.few_zeros.ensures ∙ rest_found w e six n s m) ∙ not-false _ c.if-not-few_zeros.false in
+    let features = sym (c.all_features.ensures ∙ features_found w e six n s m) ∙ c.if-not-all_features.false in
+    let rest = sym (c.few_zeros.ensures ∙ rest_found w e six n s m) ∙ c.if-not-few_zeros.false in
     word_over w (word_in e) c.entry_word-word.result.0 c.entry_word-word.ensures c.if-word-words.false ∙ by_word w e some features rest

@@ -8,7 +8,7 @@ use Rattle.model.specs.Base.{any_below, same_list}
 use Rattle.minimalist.specs.Lexicon.{entry_bytes}
 use Rattle.lexicon.proofs.entries.repeated_entry.Given as goal
 
-abbrev equal : List ℕ → ℕ → ℕ → Bool
+abbrev pub equal : List ℕ → ℕ → ℕ → Bool
 equal bytes i j = same_list (entry_bytes bytes j) (entry_bytes bytes i)
 
 abbrev pub invariant-loop-j : goal.invariant-loop-j

@@ -8,7 +8,7 @@ use Rattle.model.specs.Base.{any_below}
 use Rattle.minimalist.specs.Lexicon.{entry_bytes, wrong_entry}
 use Rattle.lexicon.proofs.entries.some_wrong.Given as goal
 
-abbrev wrong : List ℕ → ℕ → ℕ → Bool
+abbrev pub wrong : List ℕ → ℕ → ℕ → Bool
 wrong bytes words i = wrong_entry words (entry_bytes bytes i)
 
 abbrev pub invariant-loop-i : goal.invariant-loop-i

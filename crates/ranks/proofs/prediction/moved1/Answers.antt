@@ -1,7 +1,7 @@
 -- `ranks::prediction::moved1` meets its contract.
 -- Assumes nothing.
 use mathlib.Core.Path.{◌≡◌}
-use mathlib.Core.List.{◌∷◌}
+use mathlib.Core.List.{[], ◌∷◌}
 use Prim.Native.Nat.{◌+◌, ◌*◌}
 use native.Mathlib.Omega.{arith}
 use Rattle.ranking.specs.Ranks.{above, shifted}
@@ -10,19 +10,18 @@ use Rattle.ranks.proofs.Lanes.{marked_flags, marked_spread}
 use Rattle.ranks.proofs.Moved.{less_two, marks_small, moved1_sum}
 use Rattle.ranks.proofs.prediction.moved1.Goals as goal
 
-module _ (c : tie.After-spread) where
+module _ (c : goal.After-spread) where
   -- what is spread: the length, above f1
-  spread_is : c.spread.result ≡ packed (marks (above c.before.before.args.f1 c.before.before.args.len1) (unpacked c.before.before.args.x))
+  spread_is : c.spread.result ≡ packed (marks (above c.args.f1 c.args.len1) (unpacked c.args.x))
   spread_is =
-      let a = c.before.before.args in
-      let r = c.before.reached in
+      let a = c.args in
+      let r = c.reached-t1 in
       marked_spread a.f1 (unpacked a.x) r.result a.len1 c.spread.result r.ensures c.spread.ensures
 
-  sum : remade (shifted (0 ∷ (c.before.before.args.f1 ∷ [])) (c.before.before.args.len0 ∷ (c.before.before.args.len1 ∷ []))) c.before.before.args.x + c.before.reached.result + 2251799948165633 ≡ c.before.before.args.x + c.before.before.args.len0 * 2251799948165633 + c.spread.result
+  sum : remade (shifted (0 ∷ (c.args.f1 ∷ [])) (c.args.len0 ∷ (c.args.len1 ∷ []))) c.args.x + c.reached-t1.result + 2251799948165633 ≡ c.args.x + c.args.len0 * 2251799948165633 + c.spread.result
   sum =
-      let s = c.before.before in
-      let a = s.args in
-      moved1_sum a.x a.len0 a.f1 a.len1 c.before.reached.result c.spread.result s.requires.1 s.requires.2 c.before.reached.ensures spread_is
+      let a = c.args in
+      moved1_sum a.x a.len0 a.f1 a.len1 c.reached-t1.result c.spread.result c.requires.1 c.requires.2 c.reached-t1.ensures spread_is
 
 pub spread-requires : goal.spread-requires
 spread-requires c =

@@ -1,7 +1,7 @@
 -- `ranks::prediction::moved4` meets its contract.
 -- Assumes nothing.
 use mathlib.Core.Path.{◌≡◌}
-use mathlib.Core.List.{◌∷◌}
+use mathlib.Core.List.{[], ◌∷◌}
 use Prim.Native.Nat.{ℕ, ◌+◌, ◌<◌}
 use native.Mathlib.Omega.{arith}
 use Rattle.ranking.specs.Ranks.{above, shifted}
@@ -13,67 +13,62 @@ use Rattle.ranks.proofs.prediction.moved4.Goals as goal
 small : {a b : ℕ} → b < 576460752303423488 → a ≡ b → a < 576460752303423488
 small h e = omega arith
 
-module _ (c : tie.After-spread) where
-  spread0_is : c.spread.result ≡ packed (marks (above c.before.before.before.before.before.args.f.c0 c.before.before.before.before.before.args.lens.c0) (unpacked c.before.before.before.before.before.args.x))
+module _ (c : goal.After-spread) where
+  spread0_is : c.spread.result ≡ packed (marks (above c.args.f.c0 c.args.lens.c0) (unpacked c.args.x))
   spread0_is =
-      let a = c.before.before.before.before.before.args in
-      let r = c.before.before.before.before.reached in
+      let a = c.args in
+      let r = c.reached-t0 in
       marked_spread a.f.c0 (unpacked a.x) r.result a.lens.c0 c.spread.result r.ensures c.spread.ensures
 
   spread0_small : c.spread.result < 576460752303423488
   spread0_small =
-      let s = c.before.before.before.before.before in
-      small (marks_small s.args.f.c0 s.args.lens.c0 (unpacked s.args.x) s.requires.3.c0) spread0_is
+      small (marks_small c.args.f.c0 c.args.lens.c0 (unpacked c.args.x) c.requires.3.c0) spread0_is
 
-module _ (c : tie.After-spread2) where
-  spread1_is : c.spread2.result ≡ packed (marks (above c.before.before.before.before.before.before.args.f.c1 c.before.before.before.before.before.before.args.lens.c1) (unpacked c.before.before.before.before.before.before.args.x))
+module _ (c : goal.After-spread-2) where
+  spread1_is : c.spread-2.result ≡ packed (marks (above c.args.f.c1 c.args.lens.c1) (unpacked c.args.x))
   spread1_is =
-      let a = c.before.before.before.before.before.before.args in
-      let r = c.before.before.before.before.reached2 in
-      marked_spread a.f.c1 (unpacked a.x) r.result a.lens.c1 c.spread2.result r.ensures c.spread2.ensures
+      let a = c.args in
+      let r = c.reached-t1 in
+      marked_spread a.f.c1 (unpacked a.x) r.result a.lens.c1 c.spread-2.result r.ensures c.spread-2.ensures
 
-  spread1_small : c.spread2.result < 576460752303423488
+  spread1_small : c.spread-2.result < 576460752303423488
   spread1_small =
-      let s = c.before.before.before.before.before.before in
-      small (marks_small s.args.f.c1 s.args.lens.c1 (unpacked s.args.x) s.requires.3.c1) spread1_is
+      small (marks_small c.args.f.c1 c.args.lens.c1 (unpacked c.args.x) c.requires.3.c1) spread1_is
 
-module _ (c : tie.After-spread3) where
-  spread2_is : c.spread3.result ≡ packed (marks (above c.before.before.before.before.before.before.before.args.f.c2 c.before.before.before.before.before.before.before.args.lens.c2) (unpacked c.before.before.before.before.before.before.before.args.x))
+module _ (c : goal.After-spread-3) where
+  spread2_is : c.spread-3.result ≡ packed (marks (above c.args.f.c2 c.args.lens.c2) (unpacked c.args.x))
   spread2_is =
-      let a = c.before.before.before.before.before.before.before.args in
-      let r = c.before.before.before.before.reached3 in
-      marked_spread a.f.c2 (unpacked a.x) r.result a.lens.c2 c.spread3.result r.ensures c.spread3.ensures
+      let a = c.args in
+      let r = c.reached-t2 in
+      marked_spread a.f.c2 (unpacked a.x) r.result a.lens.c2 c.spread-3.result r.ensures c.spread-3.ensures
 
-  spread2_small : c.spread3.result < 576460752303423488
+  spread2_small : c.spread-3.result < 576460752303423488
   spread2_small =
-      let s = c.before.before.before.before.before.before.before in
-      small (marks_small s.args.f.c2 s.args.lens.c2 (unpacked s.args.x) s.requires.3.c2) spread2_is
+      small (marks_small c.args.f.c2 c.args.lens.c2 (unpacked c.args.x) c.requires.3.c2) spread2_is
 
-module _ (c : tie.After-spread4) where
-  spread3_is : c.spread4.result ≡ packed (marks (above c.before.before.before.before.before.before.before.before.args.f.c3 c.before.before.before.before.before.before.before.before.args.lens.c3) (unpacked c.before.before.before.before.before.before.before.before.args.x))
+module _ (c : goal.After-spread-4) where
+  spread3_is : c.spread-4.result ≡ packed (marks (above c.args.f.c3 c.args.lens.c3) (unpacked c.args.x))
   spread3_is =
-      let a = c.before.before.before.before.before.before.before.before.args in
-      let r = c.before.before.before.before.reached4 in
-      marked_spread a.f.c3 (unpacked a.x) r.result a.lens.c3 c.spread4.result r.ensures c.spread4.ensures
+      let a = c.args in
+      let r = c.reached-t3 in
+      marked_spread a.f.c3 (unpacked a.x) r.result a.lens.c3 c.spread-4.result r.ensures c.spread-4.ensures
 
-  spread3_small : c.spread4.result < 576460752303423488
+  spread3_small : c.spread-4.result < 576460752303423488
   spread3_small =
-      let s = c.before.before.before.before.before.before.before.before in
-      small (marks_small s.args.f.c3 s.args.lens.c3 (unpacked s.args.x) s.requires.3.c3) spread3_is
+      small (marks_small c.args.f.c3 c.args.lens.c3 (unpacked c.args.x) c.requires.3.c3) spread3_is
 
-module _ (c : tie.After-spread4) where
+module _ (c : goal.After-spread-4) where
   abbrev after : ℕ
-  after = remade (shifted (c.before.before.before.before.before.before.before.before.args.f.c0 ∷ (c.before.before.before.before.before.before.before.before.args.f.c1 ∷ (c.before.before.before.before.before.before.before.before.args.f.c2 ∷ (c.before.before.before.before.before.before.before.before.args.f.c3 ∷ [])))) (c.before.before.before.before.before.before.before.before.args.lens.c0 ∷ (c.before.before.before.before.before.before.before.before.args.lens.c1 ∷ (c.before.before.before.before.before.before.before.before.args.lens.c2 ∷ (c.before.before.before.before.before.before.before.before.args.lens.c3 ∷ []))))) c.before.before.before.before.before.before.before.before.args.x
+  after = remade (shifted (c.args.f.c0 ∷ (c.args.f.c1 ∷ (c.args.f.c2 ∷ (c.args.f.c3 ∷ [])))) (c.args.lens.c0 ∷ (c.args.lens.c1 ∷ (c.args.lens.c2 ∷ (c.args.lens.c3 ∷ []))))) c.args.x
 
   abbrev before_less : ℕ
-  before_less = c.before.before.before.before.before.before.before.before.args.x + c.before.before.before.spread.result + c.before.before.spread2.result + c.before.spread3.result + c.spread4.result
+  before_less = c.args.x + c.spread.result + c.spread-2.result + c.spread-3.result + c.spread-4.result
 
-  sum : after + c.before.before.before.before.before.before.before.reached.result + c.before.before.before.before.before.before.reached2.result + c.before.before.before.before.before.reached3.result + c.before.before.before.before.reached4.result ≡ before_less
+  sum : after + c.reached-t0.result + c.reached-t1.result + c.reached-t2.result + c.reached-t3.result ≡ before_less
   sum =
-      let s = c.before.before.before.before.before.before.before.before in
-      let a = s.args in
-      moved4_sum a.x a.f.c0 a.lens.c0 a.f.c1 a.lens.c1 a.f.c2 a.lens.c2 a.f.c3 a.lens.c3 c.before.before.before.before.before.before.before.reached.result c.before.before.before.before.before.before.reached2.result c.before.before.before.before.before.reached3.result c.before.before.before.before.reached4.result c.before.before.before.spread.result c.before.before.spread2.result c.before.spread3.result c.spread4.result
-      s.requires.1 c.before.before.before.before.before.before.before.reached.ensures (spread0_is c.before.before.before) c.before.before.before.before.before.before.reached2.ensures (spread1_is c.before.before) c.before.before.before.before.before.reached3.ensures (spread2_is c.before) c.before.before.before.before.reached4.ensures (spread3_is c)
+      let a = c.args in
+      moved4_sum a.x a.f.c0 a.lens.c0 a.f.c1 a.lens.c1 a.f.c2 a.lens.c2 a.f.c3 a.lens.c3 c.reached-t0.result c.reached-t1.result c.reached-t2.result c.reached-t3.result c.spread.result c.spread-2.result c.spread-3.result c.spread-4.result
+      c.requires.1 c.reached-t0.ensures (spread0_is c.before.before.before) c.reached-t1.ensures (spread1_is c.before.before) c.reached-t2.ensures (spread2_is c.before) c.reached-t3.ensures (spread3_is c)
 
 pub spread-requires : goal.spread-requires
 spread-requires c =

@@ -1,6 +1,6 @@
 -- `ranks::prediction::ranks_of` meets its contract.
 -- Assumes nothing.
-use mathlib.Core.List.{◌∷◌}
+use mathlib.Core.List.{[], ◌∷◌}
 use Rattle.ranks.proofs.prediction.ranks_of.Goals as goal
 
 pub returns : goal.returns

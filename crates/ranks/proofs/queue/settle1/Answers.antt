@@ -1,5 +1,6 @@
 -- `ranks::queue::settle1` meets its contract.
 -- Assumes nothing.
+use mathlib.Core.List.{[]}
 use Rattle.ranks.proofs.Placing.{placed_none, placed_next}
 use Rattle.ranks.proofs.queue.settle1.Goals as goal
 

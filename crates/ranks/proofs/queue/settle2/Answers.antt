@@ -1,6 +1,6 @@
 -- `ranks::queue::settle2` meets its contract.
 -- Assumes nothing.
-use mathlib.Core.List.{◌∷◌}
+use mathlib.Core.List.{[], ◌∷◌}
 use native.Mathlib.Omega.{arith}
 use Rattle.ranks.proofs.Placing.{placed_next, next_gap}
 use Rattle.ranks.proofs.queue.settle2.Goals as goal

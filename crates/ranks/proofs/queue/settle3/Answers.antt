@@ -1,6 +1,6 @@
 -- `ranks::queue::settle3` meets its contract.
 -- Assumes nothing.
-use mathlib.Core.List.{◌∷◌}
+use mathlib.Core.List.{[], ◌∷◌}
 use Prim.Native.Nat.{◌≤◌}
 use native.Mathlib.Omega.{arith}
 use Rattle.ranks.proofs.Placing.{placed_next, next_gap}

@@ -1,6 +1,6 @@
 -- `ranks::step::expand_narrow` meets its contract.
 -- Assumes nothing.
-use mathlib.Core.List.{◌∷◌}
+use mathlib.Core.List.{[], ◌∷◌}
 use Rattle.ranking.specs.Ranks.{shifted}
 use Rattle.ranks.specs.Prediction.{Short, Behind, remade}
 use Rattle.ranks.proofs.Stepping.{narrow_room, narrow_every, narrow_next}

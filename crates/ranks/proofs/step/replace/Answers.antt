@@ -1,6 +1,6 @@
 -- `ranks::step::replace` meets its contract.
 -- Assumes nothing.
-use mathlib.Core.List.{◌∷◌}
+use mathlib.Core.List.{[], ◌∷◌}
 use lib.ListN.{take}
 use Rattle.ranking.specs.Ranks.{shifted}
 use Rattle.ranks.specs.Prediction.{remade}

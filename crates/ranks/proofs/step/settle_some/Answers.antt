@@ -1,7 +1,7 @@
 -- `ranks::step::settle_some` meets its contract.
 -- Assumes nothing.
 use mathlib.Core.Path.{◌≡◌, subst⁻¹, ap₂, ◌∙◌}
-use mathlib.Core.List.{◌∷◌}
+use mathlib.Core.List.{[], ◌∷◌}
 use Prim.Native.Nat.{ℕ, ◌≤◌}
 use native.Mathlib.Omega.{arith}
 use lib.ListN.{take}

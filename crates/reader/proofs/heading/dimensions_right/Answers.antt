@@ -1,6 +1,5 @@
 -- `reader::dimensions_right` meets its contract. The loop keeps: all bytes are from 1 to 4 if all from place i on are.
 -- Assumes nothing.
-use borrow.Author.Tests.{not-true, not-false}
 use mathlib.Core.Path.{refl, sym, ◌∙◌}
 use Prim.Native.Nat.{◌-◌}
 use Rattle.model.specs.GrammarFile.{within}
@@ -15,10 +14,10 @@ pub overflow_cast-bytes : goal.overflow_cast-bytes
 overflow_cast-bytes c = omega (arith, c.shared_slice_known-1.given c.loop-i.i)
 
 pub returns-then-not-within : goal.returns-then-not-within
-returns-then-not-within c = sym (c.loop-i.invariant.1 ∙ every_fail (within 1 4) c.args.bytes.now c.loop-i.i c.loop-i-test.true (sym c.within.ensures ∙ not-true c.within.result c.if-not-within.true))
+returns-then-not-within c = sym (c.loop-i.invariant.1 ∙ every_fail (within 1 4) c.args.bytes.now c.loop-i.i c.loop-i-test.true (sym c.within.ensures ∙ c.if-not-within.true))
 
 pub loop-i-preserved : goal.loop-i-preserved
-loop-i-preserved c = (omega arith, c.loop-i.invariant.1 ∙ every_pass (within 1 4) c.args.bytes.now c.loop-i.i c.loop-i-test.true (sym c.within.ensures ∙ not-false c.within.result c.if-not-within.false))
+loop-i-preserved c = (omega arith, c.loop-i.invariant.1 ∙ every_pass (within 1 4) c.args.bytes.now c.loop-i.i c.loop-i-test.true (sym c.within.ensures ∙ c.if-not-within.false))
 
 pub returns : goal.returns
 returns c = sym (c.loop-i.invariant.1 ∙ every_end (within 1 4) c.args.bytes.now c.loop-i.i c.loop-i-test.false)

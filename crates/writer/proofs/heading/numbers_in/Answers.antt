@@ -1,22 +1,21 @@
 -- `writer::numbers_in` meets its contract.
 -- Assumes nothing.
 use mathlib.Core.Path.{sym, ◌∙◌}
-use borrow.Author.Tests.{not-true, not-false}
 use Rattle.writer.proofs.heading.numbers_in.Goals as goal
 
 pub returns-then-not-within : goal.returns-then-not-within
 returns-then-not-within c =
-    let categoriesIn = sym c.within.ensures ∙ not-true c.within.result c.if-not-within.true in
+    let categoriesIn = sym c.within.ensures ∙ c.if-not-within.true in
     sym (rw categoriesIn)
 
 pub returns-then-not-within-2 : goal.returns-then-not-within-2
 returns-then-not-within-2 c =
-    let categoriesIn = sym c.within.ensures ∙ not-false c.within.result c.if-not-within.false in
-    let words_in = sym c.within-2.ensures ∙ not-true c.within-2.result c.if-not-within-2.true in
+    let categoriesIn = sym c.within.ensures ∙ c.if-not-within.false in
+    let words_in = sym c.within-2.ensures ∙ c.if-not-within-2.true in
     sym (rw (categoriesIn, words_in))
 
 pub returns : goal.returns
 returns c =
-    let categoriesIn = sym c.within.ensures ∙ not-false c.within.result c.if-not-within.false in
-    let words_in = sym c.within-2.ensures ∙ not-false c.within-2.result c.if-not-within-2.false in
+    let categoriesIn = sym c.within.ensures ∙ c.if-not-within.false in
+    let words_in = sym c.within-2.ensures ∙ c.if-not-within-2.false in
     sym (rw (categoriesIn, words_in) (sym c.within-3.ensures))
