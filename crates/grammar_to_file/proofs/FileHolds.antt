@@ -68,6 +68,7 @@ bytes_each [] h k = omega arith
 bytes_each (x ∷ rules) h k = bytes_append (record_for x) (each record_for rules) (h x (Memᴰ.head refl)) (bytes_each rules (λ y m. h y (Memᴰ.tail m))) k
 
 number_in : (l : List Rule) (x : Rule) → Memᴰ x l → (k : ℕ) × (get_elem? l k ≡ some x)
+number_in [] x m = elim m [ ]
 number_in (y ∷ l) x (Memᴰ.head e) = (0, ap some (sym e))
 number_in (y ∷ l) x (Memᴰ.tail m) = let (k, e) = number_in l x m in (suc k, e)
 

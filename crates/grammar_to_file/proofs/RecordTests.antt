@@ -83,6 +83,7 @@ total_most f [] h = omega arith
 total_most f (x ∷ l) h = omega (arith, h x (Memᴰ.head refl), total_most f l (λ y m. h y (Memᴰ.tail m)))
 
 mem_total : (x : ℕ) (l : List ℕ) → Memᴰ x l → x ≤ total l
+mem_total x [] m = elim m [ ]
 mem_total x (y ∷ l) (Memᴰ.head e) = omega arith
 mem_total x (y ∷ l) (Memᴰ.tail m) = omega (arith, mem_total x l m)
 

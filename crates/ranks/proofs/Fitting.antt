@@ -1,6 +1,6 @@
 -- Every prediction of a queue that a live prefix reaches fits into its number.
 -- Assumes nothing.
-use mathlib.Core.Path.{◌≡◌, refl}
+use mathlib.Core.Path.{◌≡◌, refl, sym, subst}
 use mathlib.Core.Bool.{Bool, true, false}
 use mathlib.Core.List.{List, [], ◌∷◌, Memᴰ}
 use Prim.Native.Nat.{ℕ, ◌<◌, ◌≤◌, min}
@@ -35,10 +35,11 @@ least_below (r ∷ []) = (omega arith, tt)
 least_below (r ∷ s ∷ rs) = go (dec_lt (least_rank (s ∷ rs)) r) (least_below (s ∷ rs))
   where
     go : Dec (least_rank (s ∷ rs) < r) → Every (λ x. least_rank (s ∷ rs) ≤ x) (s ∷ rs) → Every (λ x. (if ltb (least_rank (s ∷ rs)) r then least_rank (s ∷ rs) else r) ≤ x) (r ∷ s ∷ rs)
-    go (yes l) h = let e : ltb (least_rank (s ∷ rs)) r ≡ true = lt-ltb (least_rank (s ∷ rs)) r l in rw e (omega arith, h)
+    go (yes l) h =
+        subst (λ (b : Bool). Every (λ x. (if b then least_rank (s ∷ rs) else r) ≤ x) (r ∷ s ∷ rs)) (sym (lt-ltb (least_rank (s ∷ rs)) r l)) (omega arith, h)
     go (no n) h =
-        let e : ltb (least_rank (s ∷ rs)) r ≡ false = le-ltb (least_rank (s ∷ rs)) r (omega arith) in
-        rw e (omega arith, every_to (λ x. least_rank (s ∷ rs) ≤ x) (λ x. r ≤ x) (λ x l. omega arith) (s ∷ rs) h)
+        subst (λ (b : Bool). Every (λ x. (if b then least_rank (s ∷ rs) else r) ≤ x) (r ∷ s ∷ rs)) (sym (le-ltb (least_rank (s ∷ rs)) r (omega arith)))
+        (omega arith, every_to (λ x. least_rank (s ∷ rs) ≤ x) (λ x. r ≤ x) (λ x l. omega arith) (s ∷ rs) h)
 
 -- behind the front every rank is at least 1
 pub others_positive : {A : Type 0} (p : Ranked A) (q : List (Ranked A)) → Rising (p ∷ q) → Every (λ x. Every (λ r. 0 < r) x.ranks) q

@@ -21,16 +21,16 @@ slice_bounds-write_text-end c = omega (arith, c.loop-out.invariant.1.within)
 pub next_page-text-requires : goal.next_page-text-requires
 next_page-text-requires c =
     let i = c.loop-out in
-    (record { grammar = _; sentence = _; limit = _; goes_on = i.invariant.1.goes_on (not_off _ c.if-not-text.false) }, omega (arith, i.invariant.2))
+    (record { grammar = _; sentence = _; limit = _; goes_on = i.invariant.1.goes_on c.if-not-text.false }, omega (arith, i.invariant.2))
 
 pub loop-out-smaller : goal.loop-out-smaller
 loop-out-smaller c =
     let i = c.loop-out in
-    let m = not_off _ c.if-not-text.false in
+    let m = c.if-not-text.false in
     page_less _ _ _ i.text c.next_page-text.result m (c.next_page-text.ensures.of_grammar _ _ _ (i.invariant.1.goes_on m))
 
 pub loop-out-preserved : goal.loop-out-preserved
 loop-out-preserved c =
     let i = c.loop-out in
-    let m = not_off _ c.if-not-text.false in
+    let m = c.if-not-text.false in
     (_, c.next_page-text.ensures.of_grammar _ _ _ (i.invariant.1.goes_on m), search rules)

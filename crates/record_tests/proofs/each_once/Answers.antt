@@ -13,14 +13,6 @@ use native.Mathlib.Omega.{arith}
 use Rattle.record_tests.proofs.each_once.Goals as goal
 use Rattle.record_tests.proofs.each_once.Invariants.{once_at, daughter_once}
 
-record_daughters_requires :
-    tie.Need-record-daughters-requires invariant-loop decreases-loop invariant-daughters decreases-daughters
-record_daughters_requires c κs = search rules
-
-record_daughter_requires :
-    tie.Need-record-daughter-requires invariant-loop decreases-loop invariant-daughters decreases-daughters
-record_daughter_requires c κs = search rules
-
 pub daughters-init : goal.daughters-init
 daughters-init c = (omega arith, refl, refl)
 

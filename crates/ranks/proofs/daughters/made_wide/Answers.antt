@@ -1,39 +1,49 @@
 -- `ranks::daughters::made_wide` meets its contract.
 -- Assumes nothing.
 use mathlib.Core.Path.{◌≡◌, ap, ap₂, subst⁻¹, ◌∙◌}
+use mathlib.Core.List.{List}
 use Prim.Native.Nat.{ℕ, ◌+◌, ◌/◌, ◌%◌, min}
 use lib.ListN.{get_or}
-use Rattle.ranks.specs.Prediction.{Prediction, Sized, packed}
+use Rattle.ranks.specs.Prediction.{Prediction, Sized, packed, unpacked}
 use Rattle.ranks.specs.Daughters.{daughter}
 use Rattle.ranks.proofs.daughters.made_wide.Goals as goal
 
--- what is packed is the daughter
-module _ (c : goal.After-category) where
-  abbrev parts : Prediction
-  parts = record {
-    least = c.smaller-least.result;
-    number = c.args.mark + c.number.result;
-    category = c.category.result.0;
-    rank3 = get_or c.args.b.now (c.args.places / 4096 % 4) 0 + c.rank-4.result;
-    rank2 = get_or c.args.b.now (c.args.places / 512 % 4) 0 + c.rank-3.result;
-    rank1 = get_or c.args.b.now (c.args.places / 64 % 4) 0 + c.rank-2.result;
-    rank0 = get_or c.args.b.now (c.args.places / 8 % 4) 0 + c.rank.result;
-  }
+-- what is packed, of the ranks of the cell
+abbrev parts : List ℕ → ℕ → ℕ → ℕ → ℕ → ℕ → ℕ → ℕ → ℕ → ℕ → Prediction
+parts b places least number category mark r0 r1 r2 r3 = record {
+  least = least;
+  number = mark + number;
+  category = category;
+  rank3 = get_or b (places / 4096 % 4) 0 + r3;
+  rank2 = get_or b (places / 512 % 4) 0 + r2;
+  rank1 = get_or b (places / 64 % 4) 0 + r1;
+  rank0 = get_or b (places / 8 % 4) 0 + r0;
+}
 
-  is_daughter : parts ≡ daughter c.args.b.now c.args.cell c.args.places c.args.mark
-  is_daughter =
-      let a = c.args in
-      let q0 = ap (λ (r : ℕ). get_or a.b.now (a.places / 8 % 4) 0 + r) c.rank.ensures in
-      let q1 = ap (λ (r : ℕ). get_or a.b.now (a.places / 64 % 4) 0 + r) c.rank-2.ensures in
-      let q2 = ap (λ (r : ℕ). get_or a.b.now (a.places / 512 % 4) 0 + r) c.rank-3.ensures in
-      let q3 = ap (λ (r : ℕ). get_or a.b.now (a.places / 4096 % 4) 0 + r) c.rank-4.ensures in
-      let n = ap (λ (m : ℕ). a.mark + m) c.number.ensures in
-      let l = c.smaller-least.ensures ∙ ap₂ min (c.smaller.ensures ∙ ap₂ min q0 q1) (c.smaller-2.ensures ∙ ap₂ min q2 q3) in
-      let k = c.category.ensures.0 in
-      λ i. record { least = l i; number = n i; category = k i; rank3 = q3 i; rank2 = q2 i; rank1 = q1 i; rank0 = q0 i }
+-- it is the daughter
+is_daughter : (b : List ℕ) (cell places mark : ℕ) (r0 r1 r2 r3 n k s t l : ℕ)
+    → r0 ≡ (unpacked cell).rank0 → r1 ≡ (unpacked cell).rank1 → r2 ≡ (unpacked cell).rank2 → r3 ≡ (unpacked cell).rank3
+    → n ≡ (unpacked cell).number → k ≡ (unpacked cell).category
+    → s ≡ min (get_or b (places / 8 % 4) 0 + r0) (get_or b (places / 64 % 4) 0 + r1)
+    → t ≡ min (get_or b (places / 512 % 4) 0 + r2) (get_or b (places / 4096 % 4) 0 + r3)
+    → l ≡ min s t
+    → parts b places l n k mark r0 r1 r2 r3 ≡ daughter b cell places mark
+is_daughter b cell places mark r0 r1 r2 r3 n k s t l e0 e1 e2 e3 en ek es et el =
+    let q0 = ap (λ (r : ℕ). get_or b (places / 8 % 4) 0 + r) e0 in
+    let q1 = ap (λ (r : ℕ). get_or b (places / 64 % 4) 0 + r) e1 in
+    let q2 = ap (λ (r : ℕ). get_or b (places / 512 % 4) 0 + r) e2 in
+    let q3 = ap (λ (r : ℕ). get_or b (places / 4096 % 4) 0 + r) e3 in
+    let m = ap (λ (x : ℕ). mark + x) en in
+    let least = el ∙ ap₂ min (es ∙ ap₂ min q0 q1) (et ∙ ap₂ min q2 q3) in
+    λ i. record { least = least i; number = m i; category = ek i; rank3 = q3 i; rank2 = q2 i; rank1 = q1 i; rank0 = q0 i }
 
 pub pack-requires : goal.pack-requires
-pack-requires c = subst⁻¹ Sized (is_daughter c.before) c.requires.1
+pack-requires c =
+    let a = c.args in
+    subst⁻¹ Sized (is_daughter a.b.now a.cell a.places a.mark _ _ _ _ _ _ _ _ _ c.rank.ensures c.rank-2.ensures c.rank-3.ensures c.rank-4.ensures c.number.ensures c.category.ensures.0 c.smaller.ensures c.smaller-2.ensures c.smaller-least.ensures) c.requires.1
 
 pub returns : goal.returns
-returns c = c.pack.ensures ∙ ap packed (is_daughter c.before.before)
+returns c =
+    let a = c.args in
+    c.pack.ensures
+    ∙ ap packed (is_daughter a.b.now a.cell a.places a.mark _ _ _ _ _ _ _ _ _ c.rank.ensures c.rank-2.ensures c.rank-3.ensures c.rank-4.ensures c.number.ensures c.category.ensures.0 c.smaller.ensures c.smaller-2.ensures c.smaller-least.ensures)

@@ -9,10 +9,10 @@ pub settle1-requires : goal.settle1-requires
 settle1-requires c =
     let a = c.args in
     let r = c.settle-p in
-    next_gap a.e0 (a.e1 ∷ []) a.w.now r.new.0 a.from 1 a.end r.result c.requires.0 r.ensures (omega arith)
+    next_gap a.e0 (a.e1 ∷ []) a.w.now r.new.w a.from 1 a.end r.result c.requires.0 r.ensures (omega arith)
 
 pub returns : goal.returns
 returns c =
     let a = c.args in
     let r = c.settle-p in
-    placed_next a.e0 (a.e1 ∷ []) a.w.now r.new.0 a.from 1 a.end r.result c.requires.0 r.ensures c.settle1.new.w (c.requires.1, tt) c.settle1.ensures
+    placed_next a.e0 (a.e1 ∷ []) a.w.now r.new.w a.from 1 a.end r.result c.requires.0 r.ensures c.settle1.new.w (c.requires.1, tt) c.settle1.ensures

@@ -145,7 +145,7 @@ expand_two-requires c =
     let d = c.dimension in
     let i = c.of_two in
     let more = other_at p.grammar a.t.now a.w.now a.r.0 a.mark a.from a.to p.expands at.result d.result 1 at.ensures d.ensures c.if-dimension-eq1.false in
-    let two = of_two_at a.t.now at.result a.r.0 i.result i.ensures at.ensures (passes i.result (not_off i.result c.if-not-of_two.false)) in
+    let two = of_two_at a.t.now at.result a.r.0 i.result i.ensures at.ensures c.if-not-of_two.false in
     read_as (λ (i m : ℕ). ExpandsTwo a.t.now i m a.mark a.w.now a.from a.to) at.ensures (daughters_at p.grammar a.t.now a.w.now a.r.0 a.mark a.from a.to p.expands at.result n.result at.ensures n.ensures.0) (expands_two p.grammar a.t.now a.w.now a.r.0 a.mark a.from a.to p.expands more two)
 
 pub returns : goal.returns
@@ -159,7 +159,7 @@ returns c =
       of_grammar = λ g h.
           let k : n.result ≡ length h.rule.daughters = daughters_at g a.t.now a.w.now a.r.0 a.mark a.from a.to h at.result n.result at.ensures n.ensures.0 in
           let more = other_at g a.t.now a.w.now a.r.0 a.mark a.from a.to h at.result d.result 1 at.ensures d.ensures c.if-dimension-eq1.false in
-          let two = of_two_at a.t.now at.result a.r.0 i.result i.ensures at.ensures (passes i.result (not_off i.result c.if-not-of_two.false)) in
+          let two = of_two_at a.t.now at.result a.r.0 i.result i.ensures at.ensures c.if-not-of_two.false in
           written_as a.w.now c.expand_two.new.w a.to
           (ap₂ (λ (i m : ℕ). expanded_two a.t.now i m a.mark a.w.now a.from a.to) at.ensures k ∙ two_written g a.t.now a.w.now a.r.0 a.mark a.from a.to h more two)
           (ap (λ (m : ℕ). a.to + m + (a.to - (a.from + 1))) k ∙ end_is g a.t.now a.w.now a.r.0 a.mark a.from a.to h) c.expand_two.ensures;

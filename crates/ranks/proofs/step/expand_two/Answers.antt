@@ -68,7 +68,7 @@ returns-then-f0-eq0 c =
     let e2 = c.made_two_at-e2 in
     let go = c.advance_two in
     let set = c.settle_some in
-    two_next a.t.now a.at a.d a.mark a.w.now a.from a.to p 0 (f1.result + len0.result - 1) len0.result f1.result len1.result arm e0.result e1.result e2.result go.new.0 set.new.0 e0.ensures e1.ensures e2.ensures go.ensures set.ensures
+    two_next a.t.now a.at a.d a.mark a.w.now a.from a.to p 0 (f1.result + len0.result - 1) len0.result f1.result len1.result arm e0.result e1.result e2.result go.new.w set.new.w e0.ensures e1.ensures e2.ensures go.ensures set.ensures
 
 pub made_two_at-e0-requires-2 : goal.made_two_at-e0-requires-2
 made_two_at-e0-requires-2 c =
@@ -128,4 +128,4 @@ returns c =
     let e2 = c.made_two_at-e2-2 in
     let go = c.advance_two-2 in
     let set = c.settle_some-2 in
-    two_next a.t.now a.at a.d a.mark a.w.now a.from a.to p 1 (f0.result + len1.result - 1) len1.result f0.result len0.result arm e0.result e1.result e2.result go.new.0 set.new.0 e0.ensures e1.ensures e2.ensures go.ensures set.ensures
+    two_next a.t.now a.at a.d a.mark a.w.now a.from a.to p 1 (f0.result + len1.result - 1) len1.result f0.result len0.result arm e0.result e1.result e2.result go.new.w set.new.w e0.ensures e1.ensures e2.ensures go.ensures set.ensures

@@ -41,4 +41,4 @@ returns c =
     let R = trace_refusal (grammar_of a.file.now) a.sentence.now a.trace.now in
     let e = passed R (length a.trace.now) k.result k.ensures.answer c.in-Accepted.is in
     let l = c.link in
-    (k.ensures.answer, tree_written a.file.now a.sentence.now a.trace.now _ c.requires.0 e (k.ensures.taken e) l.new.1.1.0 l.ensures a.out.now _ c.write_tree.ensures)
+    (k.ensures.answer, tree_written a.file.now a.sentence.now a.trace.now _ c.requires.0 e (k.ensures.taken e) l.new.steps l.ensures a.out.now _ c.write_tree.ensures)
