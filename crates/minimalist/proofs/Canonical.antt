@@ -34,6 +34,7 @@ module _ {A : Type 0} where
   )
 
   pub elem_in : (l : List A) (x : A) → Memᴰ x l → (k : ℕ) × (get_elem? l k ≡ some x)
+  elem_in [] x x3 = elim x3 [ ]
   elem_in (y ∷ l) x (Memᴰ.head e) = (0, ap some (sym e))
   elem_in (y ∷ l) x (Memᴰ.tail m) = let (k, e) = elem_in l x m in (suc k, e)
 
@@ -74,6 +75,7 @@ module _ {A B : Type 0} where
 
 -- places of forms
 placed : (l : List Form) (a : Form) → Memᴰ a l → get_or (map form l) (place_of l a) new_start ≡ form a
+placed [] a m = elim m [ ]
 placed (b ∷ l) a m = go (same_form b a) refl (λ i. placed l a i)
   where
     go : (t : Bool) → same_form b a ≡ t → (Memᴰ a l → get_or (map form l) (place_of l a) new_start ≡ form a) → get_or (map form (b ∷ l)) (if t then 0 else suc (place_of l a)) new_start ≡ form a

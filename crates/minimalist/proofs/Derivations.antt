@@ -36,6 +36,7 @@ entry_out [] e t = absurd t
 entry_out (d ∷ l) e t = ⊎_elim (λ u. Memᴰ.head (same_entry_lem d e u)) (λ u. Memᴰ.tail (entry_out l e u)) (or_cases (same_entry d e) (is_entry l e) t)
 
 pub entry_in : (l : List Entry) (e : Entry) → Memᴰ e l → T (is_entry l e)
+entry_in [] e x' = elim x' [ ]
 entry_in (d ∷ l) e (Memᴰ.head q) =
     or_left (same_entry d e) (is_entry l e)
     (and_both (eqb d.word e.word) (same_list d.features e.features) (rw (eq-eqb d.word e.word (ap (λ (z : Entry). z.word) (sym q))) tt)

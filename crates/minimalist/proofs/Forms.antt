@@ -60,6 +60,7 @@ among_out [] a t = absurd t
 among_out (b ∷ l) a t = ⊎_elim (λ u. Memᴰ.head (sym (same_form_lem b a u))) (λ u. Memᴰ.tail (among_out l a u)) (or_cases (same_form b a) (is_among l a) t)
 
 pub among_in : (l : List Form) (a : Form) → Memᴰ a l → T (is_among l a)
+among_in [] a x' = elim x' [ ]
 among_in (b ∷ l) a (Memᴰ.head e) = or_left (same_form b a) (is_among l a) (subst (λ (z : Form). T (same_form z a)) e (form_same a))
 among_in (b ∷ l) a (Memᴰ.tail m) = or_right (same_form b a) (is_among l a) (among_in l a m)
 

@@ -36,6 +36,7 @@ module _ {A : Type 0} where
     pub is : m ≡ front ++ (x ∷ back)
 
   split : (x : A) (m : List A) → Memᴰ x m → Split x m
+  split x [] x'' = elim x'' [ ]
   split x (y ∷ m) (Memᴰ.head e) = record { front = []; back = m; is = ap (λ (z : A). z ∷ m) (sym e) }
   split x (y ∷ m) (Memᴰ.tail i) = let s = split x m i in record { front = y ∷ s.front; back = s.back; is = ap (λ (l : List A). y ∷ l) s.is }
 
