@@ -8,21 +8,18 @@ returns-then-e-list c =
     let r = c.read_first-p in
     let start = c.start in
     let a = c.args in
-    let p = c.p-1.given in
-    nodes_left a.file.now a.list.now a.ends.now _ start.result.0 start.ensures r.result r.ensures p.0.0 p.1 c.if-e-list.true
+    nodes_left a.file.now a.list.now a.ends.now _ start.result.0 start.ensures r.result r.ensures c.in-Next.e c.in-Next.is c.if-e-list.true
 
 pub returns-else-e-list : goal.returns-else-e-list
 returns-else-e-list c =
     let r = c.read_first-p in
     let start = c.start in
     let a = c.args in
-    let p = c.p-1.given in
-    all_nodes a.file.now a.list.now a.ends.now _ start.result.0 start.ensures r.result r.ensures p.0.0 p.1 c.if-e-list.false
+    all_nodes a.file.now a.list.now a.ends.now _ start.result.0 start.ensures r.result r.ensures c.in-Next.e c.in-Next.is c.if-e-list.false
 
 pub returns-in-Stop : goal.returns-in-Stop
 returns-in-Stop c =
     let r = c.read_first-p in
     let start = c.start in
     let a = c.args in
-    let p = c.p-in-Stop-1.given in
-    node_met a.file.now a.list.now a.ends.now _ start.result.0 start.ensures r.result r.ensures p.0.0 p.1
+    node_met a.file.now a.list.now a.ends.now _ start.result.0 start.ensures r.result r.ensures c.in-Stop.x c.in-Stop.is
