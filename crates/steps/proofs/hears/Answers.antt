@@ -7,7 +7,7 @@ pub returns-then-word-eq-EMPTY_WORD : goal.returns-then-word-eq-EMPTY_WORD
 returns-then-word-eq-EMPTY_WORD c = simp (eq-eqb _ _ c.if-word-eq-EMPTY_WORD.true)
 
 pub returns-then-read-sentence : goal.returns-then-read-sentence
-returns-then-read-sentence c = simp (ne_eqb _ _ c.if-word-eq-EMPTY_WORD.false, lt-ltb _ _ c.if-read-sentence.true, c.fits2.ensures)
+returns-then-read-sentence c = simp (ne_eqb _ _ c.if-word-eq-EMPTY_WORD.false, lt-ltb _ _ c.if-read-sentence.true, c.fits.ensures)
 
 pub returns : goal.returns
 returns c = simp (ne_eqb _ _ c.if-word-eq-EMPTY_WORD.false, le-ltb _ _ c.if-read-sentence.false)

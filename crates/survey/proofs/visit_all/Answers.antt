@@ -1,7 +1,6 @@
 -- `survey::visit_all` meets its contract.
 -- Assumes nothing.
 use mathlib.Core.Path.{◌≡◌, refl, sym, ap, ◌∙◌}
-use mathlib.Core.Logic.{⊎_elim}
 use mathlib.Core.List.{List}
 use Prim.Native.Nat.{ℕ, ◌-◌}
 use native.Mathlib.Omega.{arith}
@@ -13,6 +12,7 @@ use Rattle.model.specs.Survey.{visit, visits}
 use Rattle.model.proofs.WellFormed.{rules_length}
 use Rattle.model.proofs.Tests.{not_both}
 use Rattle.survey.proofs.visit_all.Goals as goal
+use Rattle.survey.proofs.visit_all.Goals.{then-visit_rule, else-visit_rule}
 
 pub loop-r-init : goal.loop-r-init
 loop-r-init c = (c.rules-rules.ensures, omega arith, refl, refl, λ n. refl)
@@ -25,7 +25,10 @@ loop-r-preserved c =
       omega arith,
       search rules,
       rw add-one (v.ensures.0 ∙ ap (λ (F : List ℕ). visit (grammar_of c.args.file.now) c.args.round F c.loop-r.r) c.loop-r.invariant.3),
-      ⊎_elim (λ w n. not_both (sym w.1 ∙ n)) (λ w n. v.ensures.1 w.0.left ∙ c.loop-r.invariant.4 (sym w.1 ∙ n)) c.if-visit_rule.branch,
+      elim c.if-visit_rule.branch [
+        then-visit_rule w ↦ λ n. not_both (sym w.changed-is ∙ n)
+      | else-visit_rule w ↦ λ n. v.ensures.1 w.if-visit_rule.false ∙ c.loop-r.invariant.4 (sym w.changed-is ∙ n)
+      ],
     )
 
 pub returns : goal.returns

@@ -21,7 +21,7 @@ loop-r-preserved c =
     )
 
 pub returns : goal.returns
-returns c =
+returns c accepted =
     let i = c.loop-r in
     let f = c.args.file.now in
     compiled f (λ j. (c.type_inv.file j).fits) accepted i.t i.invariant.1

@@ -15,11 +15,11 @@ pub loop-i-preserved : goal.loop-i-preserved
 loop-i-preserved c =
     let a = c.args in
     let i = c.loop-i in
-    let z = get_or a.t3 i.i 0 in (
+    let z = get_or a.cells i.i 0 in (
       omega arith,
       length-set i.t (a.at + i.i) z ∙ i.invariant.1,
       λ k h. get_or-set_other i.t (a.at + i.i) k z 0 (λ q. omega arith) ∙ i.invariant.2 k h,
-      put_next a.t3 i.t a.at i.i (omega (arith, i.invariant.1, c.requires.0)) i.invariant.3,
+      put_next a.cells i.t a.at i.i (omega (arith, i.invariant.1, c.requires.0)) i.invariant.3,
     )
 
 pub returns : goal.returns
