@@ -11,30 +11,30 @@ pub returns-then-n-eq0 : goal.returns-then-n-eq0
 returns-then-n-eq0 c =
     let e = c.args.e.now in
     let w = c.args.words in
-    let n = z.before-zero.result in
+    let n = c.before_zero-n.result in
     let six = c.fields-six.result.now in
     let s = c.fields-six.ensures in
-    let m = z.before-zero.ensures in
+    let m = c.before_zero-n.ensures in
     sym (wrong_empty w e (sym (number_is w e six n s m) ∙ c.if-n-eq0.true))
 
 pub returns-then-not-all_features : goal.returns-then-not-all_features
 returns-then-not-all_features c =
     let e = c.args.e.now in
     let w = c.args.words in
-    let n = z.before-zero.result in
+    let n = c.before_zero-n.result in
     let six = c.fields-six.result.now in
     let s = c.fields-six.ensures in
-    let m = z.before-zero.ensures in
+    let m = c.before_zero-n.ensures in
     sym (wrong_feature w e (λ q. c.if-n-eq0.false (number_is w e six n s m ∙ q)) (sym (c.all_features.ensures ∙ features_found w e six n s m) ∙ c.if-not-all_features.true))
 
 pub returns-then-not-few_zeros : goal.returns-then-not-few_zeros
 returns-then-not-few_zeros c =
     let e = c.args.e.now in
     let w = c.args.words in
-    let n = z.before-zero.result in
+    let n = c.before_zero-n.result in
     let six = c.fields-six.result.now in
     let s = c.fields-six.ensures in
-    let m = z.before-zero.ensures in
+    let m = c.before_zero-n.ensures in
     let some : length (features_in e) ≡ 0 → ⊥ = λ q. c.if-n-eq0.false (number_is w e six n s m ∙ q) in
     let features = sym (c.all_features.ensures ∙ features_found w e six n s m) ∙ c.if-not-all_features.false in
     sym (wrong_rest_lem w e some features (sym (c.few_zeros.ensures ∙ rest_found w e six n s m) ∙ c.if-not-few_zeros.true))
@@ -43,10 +43,10 @@ pub returns-then-word-words : goal.returns-then-word-words
 returns-then-word-words c =
     let e = c.args.e.now in
     let w = c.args.words in
-    let n = z.before-zero.result in
+    let n = c.before_zero-n.result in
     let six = c.fields-six.result.now in
     let s = c.fields-six.ensures in
-    let m = z.before-zero.ensures in
+    let m = c.before_zero-n.ensures in
     let some : length (features_in e) ≡ 0 → ⊥ = λ q. c.if-n-eq0.false (number_is w e six n s m ∙ q) in
     let features = sym (c.all_features.ensures ∙ features_found w e six n s m) ∙ c.if-not-all_features.false in
     let rest = sym (c.few_zeros.ensures ∙ rest_found w e six n s m) ∙ c.if-not-few_zeros.false in
@@ -56,10 +56,10 @@ pub returns : goal.returns
 returns c =
     let e = c.args.e.now in
     let w = c.args.words in
-    let n = z.before-zero.result in
+    let n = c.before_zero-n.result in
     let six = c.fields-six.result.now in
     let s = c.fields-six.ensures in
-    let m = z.before-zero.ensures in
+    let m = c.before_zero-n.ensures in
     let some : length (features_in e) ≡ 0 → ⊥ = λ q. c.if-n-eq0.false (number_is w e six n s m ∙ q) in
     let features = sym (c.all_features.ensures ∙ features_found w e six n s m) ∙ c.if-not-all_features.false in
     let rest = sym (c.few_zeros.ensures ∙ rest_found w e six n s m) ∙ c.if-not-few_zeros.false in

@@ -28,13 +28,13 @@ put_page-requires c =
 pub returns-in-Counted : goal.returns-in-Counted
 returns-in-Counted c =
     let a = c.args in
-    counted_page a.file.now a.t2 a.spoken a.n c.count_from-v.result a.out.now _ _ c.put_verdict-place.ensures _ c.first_words.ensures
+    counted_page a.file.now a.words a.spoken a.n c.count_from-v.result a.out.now _ _ c.put_verdict-place.ensures _ c.first_words.ensures
     (c.count_from-v.ensures.of_grammar (grammar_of a.file.now) (file_starts a.file.now c.requires.0 _ _ _ _ a.n program_limit _ (c.compile-table.ensures c.requires.0) (c.chain_rules-chain.ensures c.requires.0) c.start.ensures c.first_queue-queues.ensures c.requires.1))
     c.in-Counted.is c.begun.ensures c.put_page.ensures
 
 pub returns-in-NotCounted : goal.returns-in-NotCounted
 returns-in-NotCounted c =
     let a = c.args in
-    costly_page a.file.now a.t2 a.spoken a.n c.count_from-v.result a.out.now _ _ c.put_verdict-place.ensures _ c.first_words.ensures
+    costly_page a.file.now a.words a.spoken a.n c.count_from-v.result a.out.now _ _ c.put_verdict-place.ensures _ c.first_words.ensures
     (c.count_from-v.ensures.of_grammar (grammar_of a.file.now) (file_starts a.file.now c.requires.0 _ _ _ _ a.n program_limit _ (c.compile-table.ensures c.requires.0) (c.chain_rules-chain.ensures c.requires.0) c.start.ensures c.first_queue-queues.ensures c.requires.1))
     c.in-NotCounted.is c.ends_at.ensures
