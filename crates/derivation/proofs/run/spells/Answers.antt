@@ -18,13 +18,6 @@ use Rattle.derivation.proofs.Spelling.{first_looping}
 use Rattle.derivation.proofs.RunCode.{loop_ended, loop_empty, number_small, node_inside, loop_halted, loop_long, cells_room, sisters_inside, loop_next}
 use Rattle.derivation.proofs.run.spells.Goals as goal
 
--- where a step leads
-leads_of : (c : tie.After-known-told invariant-loop decreases-loop)
-    → let a = c.before.before.before.before.before.before.before.before.before.before.before.before.before.before.before.before.before.before.before.before.before.before.args in
-    let l = c.before.before.before.before.before.before.before.before.before.before.before.before.before.before.loop in
-    LeadsTo (grammar_of a.file.now) c.before.before.before.before.before.before.before.before.before.before.before.before.before.before.before.before.before.before.compile.result a.sentence.now l.w c.before.before.before.step.new.1.1.1.0 l.at (get_or a.list.now c.before.before.before.before.before.before.before.front-node.result 0) c.before.s.given.0.0
-leads_of c = rw c.before.s.given.1 at c.before.before.before.step.ensures.says
-
 pub first_queue-w-requires : goal.first_queue-w-requires
 first_queue-w-requires c =
     omega (arith, c.start.ensures, start_small c.args.file.now [] [] c.requires.0)
@@ -77,7 +70,7 @@ bounds-trace-k c =
 
 pub daughters-d-requires : goal.daughters-d-requires
 daughters-d-requires c =
-    let room = cells_room c.loop-at.invariant c.loop-at-test.true c.if-at-from.false c.front_node-i.result c.front_node-i.ensures (leads_of c.before.before) in
+    let room = cells_room c.loop-at.invariant c.loop-at-test.true c.if-at-from.false c.front_node-i.result c.front_node-i.ensures c.in-Leads.ensures.says in
     omega (arith, c.place_of.ensures)
 
 pub first_daughter-requires : goal.first_daughter-requires
@@ -96,12 +89,12 @@ name_daughters-requires c =
       l.invariant.stood.long,
       omega (arith, c.first_daughter.ensures, c.daughters-d.ensures.1, l.invariant.runs.whole, l.invariant.runs.ready.few),
       omega (arith, inside, c.requires.1),
-      λ j h. sisters_inside l.invariant here c.if-at-from.false i c.front_node-i.ensures (leads_of c.before.before.before.before.before) j (omega (arith, d)),
+      λ j h. sisters_inside l.invariant here c.if-at-from.false i c.front_node-i.ensures c.in-Leads.ensures.says j (omega (arith, d)),
     )
 
 pub loop-at-smaller : goal.loop-at-smaller
 loop-at-smaller c =
-    left_falls (length c.args.list.now) c.loop-at.invariant.runs c.loop-at-test.true _ (leads_of c.before.before.before.before.before.before)
+    left_falls (length c.args.list.now) c.loop-at.invariant.runs c.loop-at-test.true _ c.in-Leads.ensures.says
 
 pub loop-at-preserved : goal.loop-at-preserved
 loop-at-preserved c =
@@ -109,7 +102,7 @@ loop-at-preserved c =
     let i = c.front_node-i.result in
     let d : c.daughters-d.result ≡ daughters_in c.compile-t.result (8 * get_or a.list.now i 0) = c.daughters-d.ensures.0 ∙ ap (daughters_in c.compile-t.result) c.place_of.ensures in
     let given = subst (λ (m : ℕ). NamesGiven a.ends.now i m c.daughters-d.result c.loop-at.names c.name_daughters.new.names) c.first_daughter.ensures c.name_daughters.ensures in
-    loop_next c.loop-at.invariant c.loop-at-test.true c.if-at-from.false i c.front_node-i.ensures (leads_of c.before.before.before.before.before.before) c.daughters-d.result d c.name_daughters.new.names given
+    loop_next c.loop-at.invariant c.loop-at-test.true c.if-at-from.false i c.front_node-i.ensures c.in-Leads.ensures.says c.daughters-d.result d c.name_daughters.new.names given
 
 pub returns : goal.returns
 returns c = loop_ended c.loop-at.invariant c.loop-at-test.false

@@ -2,7 +2,6 @@
 -- Assumes nothing.
 use native.Mathlib.Omega.{arith}
 use mathlib.Core.Path.{◌≡◌, sym, ap, ◌∙◌}
-use mathlib.Core.Logic.{⊎_elim}
 use Prim.Native.Nat.{ℕ, ◌-◌, ◌+◌}
 use Rattle.model.specs.Base.{occurrences}
 use mathlib.Core.Bool.{true}
@@ -10,6 +9,7 @@ use Rattle.lexicon.proofs.FeatureKinds.{licensed_byte, other_byte}
 use Rattle.forms.specs.Rows.{firsts_in}
 use Rattle.forms.proofs.MoveForms.{many_here, many_later, many_end}
 use Rattle.forms.proofs.moves.how_many.Goals as goal
+use Rattle.forms.proofs.moves.how_many.Goals.{then-licenses, else-licenses}
 
 pub loop-j-init : goal.loop-j-init
 loop-j-init c =
@@ -25,10 +25,10 @@ loop-j-preserved c =
     let h = c.loop-j-test.true in
     let b = c.byte in
     let l = c.licenses in
-    ⊎_elim
-    (λ w. (t.invariant.0, t.invariant.1, omega (arith, t.invariant.2, many_here (a.p + 16) a.row.now t.j a.n h (licensed_byte a.p b.result t.invariant.1 (sym l.ensures ∙ w.0.taken) ∙ b.ensures)), omega (arith, t.invariant.3)))
-    (λ w. (t.invariant.0, t.invariant.1, omega (arith, t.invariant.2, many_later (a.p + 16) a.row.now t.j a.n h (λ q. other_byte a.p b.result t.invariant.1 (sym l.ensures ∙ w.0.left) (q ∙ sym b.ensures))), omega (arith, t.invariant.3)))
-    c.if-licenses.branch
+    elim c.if-licenses.branch [
+      then-licenses w ↦ (t.invariant.0, t.invariant.1, omega (arith, t.invariant.2, many_here (a.p + 16) a.row.now t.j a.n h (licensed_byte a.p b.result t.invariant.1 (sym l.ensures ∙ w.if-licenses.true) ∙ b.ensures)), omega (arith, t.invariant.3))
+    | else-licenses w ↦ (t.invariant.0, t.invariant.1, omega (arith, t.invariant.2, many_later (a.p + 16) a.row.now t.j a.n h (λ q. other_byte a.p b.result t.invariant.1 (sym l.ensures ∙ w.if-licenses.false) (q ∙ sym b.ensures))), omega (arith, t.invariant.3))
+    ]
 
 pub returns : goal.returns
 returns c =
