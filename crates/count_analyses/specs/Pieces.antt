@@ -1,6 +1,6 @@
 -- What the program's functions say of a file's bytes as they are read, and of a text as it is written.
 -- Assumes nothing.
-use Rattle.std.specs.Prelude.{◌≡◌, List, ℕ, ◌+◌, ◌-◌, ◌<◌, ◌≤◌, min, length}
+use Rattle.std.specs.Prelude.{◌≡◌, List, ℕ, ◌+◌, ◌-◌, ◌<◌, ◌≤◌, min, length, take}
 use Rattle.std.proofs.Math.Seq.{paste}
 use Rattle.count_analyses.specs.declared.Piece.{Piece}
 use Rattle.count_analyses.specs.declared.Piece.TheVariants.{Bytes, Nothing, Interrupted, Failed}
@@ -9,12 +9,16 @@ use Rattle.count_analyses.specs.declared.Reading.TheVariants.{More, End, Failed 
 use Rattle.count_analyses.specs.declared.Written.{Written}
 use Rattle.count_analyses.specs.declared.Written.TheVariants.{To, Stopped}
 
+-- the first n bytes of xs are there, and are n bytes
+abbrev pub IsPrefixLen : ℕ → List ℕ → Type 0
+IsPrefixLen n xs = (n ≤ length xs) × (n ≡ length (take n xs))
+
 -- no more bytes are moved than the buffer has
 abbrev pub PieceSays : List ℕ → Piece → Type 0
 PieceSays buf (Bytes n) = n ≤ length buf
 PieceSays buf Nothing = Unit {0}
 PieceSays buf Interrupted = Unit {0}
-PieceSays buf Failed = Unit {0}
+PieceSays buf (Failed why) = Unit {0}
 
 -- the chunk's first n bytes, as many as there is room for, stand in the buffer behind its first `done`; `r` bytes are there then, and the rest is as it was
 abbrev pub Appended : List ℕ → ℕ → List ℕ → ℕ → List ℕ → ℕ → Type 0
@@ -29,4 +33,4 @@ ReadingSays buf Broken = Unit {0}
 -- no more is written than the text has
 abbrev pub WrittenSays : List ℕ → Written → Type 0
 WrittenSays text (To done) = done ≤ length text
-WrittenSays text Stopped = Unit {0}
+WrittenSays text (Stopped why) = Unit {0}

@@ -3,16 +3,21 @@
 #![tactic(auto)]
 
 ghost use Rattle.std.specs.Prelude.{◌≡◌, ◌<◌, ◌≤◌, min, length};
-ghost use Rattle.io.specs.Counts.{IsPrefixLen};
-ghost use Rattle.count_analyses.specs.Pieces.{PieceSays, Appended, ReadingSays, WrittenSays};
+ghost use Rattle.count_analyses.specs.Pieces.{IsPrefixLen, PieceSays, Appended, ReadingSays, WrittenSays};
 
-use libc::STDOUT_FILENO;
 use report::{first_page, next_page};
+use std::fs::File;
+use std::io;
+use std::io::{ErrorKind, Read};
+use std::rt::Files;
 
 // What is read of the files: of a grammar one byte more than an accepted one can have, of a sentence N and one word more than an accepted one can have.
 const GRAMMAR_BYTES: usize = 7169;
 
 const SENTENCE_BYTES: usize = 195;
+
+// The most that one read of a file is asked for, and the room for a page of the text.
+const LARGE_BUFFER: usize = 65536;
 
 // How many of a file's bytes stand in a buffer, and whether the number of bytes read of it is even.
 #[derive(Drop)]
@@ -27,7 +32,7 @@ enum Piece {
     Bytes(usize),
     Nothing,
     Interrupted,
-    Failed,
+    Failed(io::Error),
 }
 
 // A file that cannot be opened or read counts as empty.
@@ -41,27 +46,22 @@ fn unreadable() -> Loaded
 }
 
 // What was moved by a read into a buffer, or a write of it, that has just answered `got`.
-fn piece_of(got: isize, buf: &[u8]) -> Piece
+fn piece_of(got: io::Result<usize>, buf: &[u8]) -> Piece
     ensures { PieceSays buf.now result }
 {
-    if got < 0 {
-        if os::errno() == libc::EINTR {
-            return Piece::Interrupted;
-        }
-        return Piece::Failed;
+    match got {
+        Ok(0) => Piece::Nothing,
+        Ok(n) => Piece::Bytes(least(n, buf.len())),
+        Err(e) if e.kind() == ErrorKind::Interrupted => Piece::Interrupted,
+        Err(e) => Piece::Failed(e),
     }
-    let n = io::count(got, buf);
-    if n == 0 {
-        return Piece::Nothing;
-    }
-    Piece::Bytes(n)
 }
 
 // Reads once into the chunk.
-fn read_piece(fd: i32, chunk: &mut [u8]) -> Piece
+fn read_piece(file: &mut impl Read, chunk: &mut [u8]) -> Piece
     ensures { PieceSays chunk.new result }
 {
-    let got = libc::read(fd, chunk);
+    let got = file.read(chunk);
     piece_of(got, chunk)
 }
 
@@ -97,30 +97,34 @@ enum Reading {
 
 // Reads once more, where `done` bytes stand in the buffer and the bytes read so far leave `odd` when halved. A read that a signal interrupts changes nothing, and
 // is tried again.
-fn read_on(fd: i32, chunk: &mut [u8], buf: &mut [u8], done: usize, odd: usize) -> Reading
+fn read_on(
+    file: &mut impl Read,
+    chunk: &mut [u8],
+    buf: &mut [u8],
+    done: usize,
+    odd: usize,
+) -> Reading
     requires { (done ≤ length buf.old) × (odd < 2) }
     ensures { ReadingSays buf.new result }
 {
-    let piece = read_piece(fd, chunk);
+    let piece = read_piece(file, chunk);
     match piece {
         Piece::Bytes(n) => Reading::More(append(chunk, n, buf, done), (odd + n % 2) % 2),
         Piece::Interrupted => Reading::More(done, odd),
         Piece::Nothing => Reading::End,
-        Piece::Failed => Reading::Failed,
+        Piece::Failed(_) => Reading::Failed,
     }
 }
 
-// Reads a file into the buffer, as much of it as the buffer holds, and then on to its end where `whole` is asked for. The loop counts its tries down from a
-// number that no run uses up.
-fn read_file(fd: i32, buf: &mut [u8], whole: bool) -> Loaded
+// Reads a file into the buffer, as much of it as the buffer holds, and then on to its end where `whole` is asked for. The loop counts its tries up to a number
+// that no run uses up.
+fn read_file(file: &mut impl Read, buf: &mut [u8], whole: bool) -> Loaded
     ensures { IsPrefixLen result.bytes buf.new }
 {
-    let mut space = io::large_buffer();
-    let chunk: &mut [u8] = &mut space;
+    let mut chunk = [0u8; LARGE_BUFFER];
     let mut done: usize = 0;
     let mut odd: usize = 0;
-    let mut tries = u64::MAX;
-    while 0 < tries {
+    for _ in 0..u64::MAX {
         if !whole {
             if done == buf.len() {
                 return Loaded {
@@ -129,7 +133,7 @@ fn read_file(fd: i32, buf: &mut [u8], whole: bool) -> Loaded
                 };
             }
         }
-        let reading = read_on(fd, chunk, buf, done, odd);
+        let reading = read_on(file, &mut chunk, buf, done, odd);
         match reading {
             Reading::More(d, o) => {
                 done = d;
@@ -145,109 +149,91 @@ fn read_file(fd: i32, buf: &mut [u8], whole: bool) -> Loaded
                 return unreadable();
             }
         }
-        tries -= 1;
     }
     unreadable()
 }
 
-// Opens a file for reading: its descriptor, below 0 where it cannot be opened. An open that a signal interrupts is tried again; the loop counts its tries down
-// from a number that no run uses up.
-fn open_file(name: &[u8]) -> i32 {
-    let mut tries = u64::MAX;
-    while 0 < tries {
-        let fd = os::open_read(name);
-        if 0 <= fd {
-            return fd;
-        }
-        if os::errno() != libc::EINTR {
-            return fd;
-        }
-        tries -= 1;
-    }
-    -1
+// Opens a file for reading, or answers that it cannot be opened. An open that a signal interrupts is tried again.
+fn open_file<R: Files>(files: &R, name: &str) -> io::Result<R::File> {
+    File::open(files, name)
 }
 
 // The sentence file: as much of it as the buffer holds, and its parity.
-fn load_sentence(buf: &mut [u8]) -> Loaded
+fn load_sentence(files: &impl Files, buf: &mut [u8]) -> Loaded
     ensures { IsPrefixLen result.bytes buf.new }
 {
-    let fd = open_file(b"sentence");
-    if fd < 0 {
-        return unreadable();
+    match open_file(files, "sentence") {
+        Ok(mut file) => read_file(&mut file, buf, true),
+        Err(_) => unreadable(),
     }
-    let loaded = read_file(fd, buf, true);
-    libc::close(fd);
-    loaded
 }
 
 // The grammar file, or as much of it as the buffer holds: how many bytes.
-fn load_grammar(buf: &mut [u8]) -> usize
+fn load_grammar(files: &impl Files, buf: &mut [u8]) -> usize
     ensures { IsPrefixLen result buf.new }
 {
-    let fd = open_file(b"grammar");
-    if fd < 0 {
-        return 0;
+    match open_file(files, "grammar") {
+        Ok(mut file) => read_file(&mut file, buf, false).bytes,
+        Err(_) => 0,
     }
-    let loaded = read_file(fd, buf, false);
-    libc::close(fd);
-    loaded.bytes
 }
 
-// How much of a text is written after one more write; or no more of it can be written.
+// How much of a text is written after one more write; or no more of it can be written, and why.
 #[derive(Drop)]
 enum Written {
     To(usize),
-    Stopped,
+    Stopped(io::Error),
 }
 
 // Writes once more, where the first `done` bytes of the text are written. A write that a signal interrupts takes nothing, and is tried again.
-fn write_on(text: &[u8], done: usize) -> Written
+fn write_on(rt: &impl Print, text: &[u8], done: usize) -> Written
     requires { done ≤ length text.now }
     ensures { WrittenSays text.now result }
 {
     let rest = &text[done..];
-    let piece = piece_of(libc::write(STDOUT_FILENO, rest), rest);
+    let piece = piece_of(rt.write_some(rest), rest);
     match piece {
         Piece::Bytes(n) => Written::To(done + n),
         Piece::Interrupted => Written::To(done),
-        Piece::Nothing => Written::Stopped,
-        Piece::Failed => Written::Stopped,
+        Piece::Nothing => Written::Stopped(io::Error::from(ErrorKind::WriteZero)),
+        Piece::Failed(e) => Written::Stopped(e),
     }
 }
 
-// Says on standard error that standard output cannot be written to, and answers that not all is written.
-fn not_written() -> bool {
-    os::fail(b"count_analyses: standard output");
+// Says on standard error why standard output cannot be written to, and answers that not all is written.
+fn not_written(rt: &impl Eprint, why: io::Error) -> bool {
+    let _ = eprintln!(rt; "count_analyses: standard output: {why}");
     false
 }
 
-// Writes a text to standard output, and answers whether all of it is written; where it is not, that is said on standard error. The loop counts its tries down
-// from a number that no run uses up.
-fn write_text(text: &[u8]) -> bool {
+// Writes a text to standard output, and answers whether all of it is written; where it is not, that is said on standard error. The loop counts its tries up to a
+// number that no run uses up.
+fn write_text(rt: &(impl Print + Eprint), text: &[u8]) -> bool {
     let mut done: usize = 0;
-    let mut tries = u64::MAX;
-    while 0 < tries {
+    for _ in 0..u64::MAX {
         if done == text.len() {
             return true;
         }
-        let next = write_on(text, done);
-        let Written::To(d) = next else {
-            return not_written();
-        };
-        done = d;
-        tries -= 1;
+        match write_on(rt, text, done) {
+            Written::To(d) => {
+                done = d;
+            }
+            Written::Stopped(why) => {
+                return not_written(rt, why);
+            }
+        }
     }
-    not_written()
+    not_written(rt, io::Error::from(ErrorKind::TimedOut))
 }
 
 // Writes the text for what was read of the files, page by page: after each page, less of it is left.
-fn print_text(file: &[u8], bytes: &[u8], even: bool) {
-    let mut space = io::large_buffer();
+fn print_text(rt: &(impl Print + Eprint), file: &[u8], bytes: &[u8], even: bool) {
+    let mut space = [0u8; LARGE_BUFFER];
     let out: &mut [u8] = &mut space;
     let mut text = first_page(file, bytes, even, out);
     loop {
         let end = text.end;
-        if !write_text(&out[0..end]) {
+        if !write_text(rt, &out[0..end]) {
             return;
         }
         if !text.more {
@@ -257,11 +243,11 @@ fn print_text(file: &[u8], bytes: &[u8], even: bool) {
     }
 }
 
-fn main() {
+fn main(rt: HostRuntime) {
     let mut file = [0u8; GRAMMAR_BYTES];
     let mut bytes = [0u8; SENTENCE_BYTES];
-    let m = load_grammar(&mut file);
-    let s = load_sentence(&mut bytes);
+    let m = load_grammar(&rt, &mut file);
+    let s = load_sentence(&rt, &mut bytes);
     let b = s.bytes;
-    print_text(&file[0..m], &bytes[0..b], s.even);
+    print_text(&rt, &file[0..m], &bytes[0..b], s.even);
 }

@@ -1,16 +1,18 @@
 // The survey of the copy grammar, and of a grammar with categories that have no tree: the figures.
 use crate::show::{load, print_written};
+use std::io;
+use std::rt::Files;
 
 // The figures on a line, one a category; or the refusal.
-fn show(path: &[u8]) {
+fn show(rt: &(impl Files + Print), path: &str) -> io::Result<()> {
     let mut file = [0u8; 7169];
-    let n = load(path, &mut file);
+    let n = load(rt, path, &mut file);
     let mut figures = [0u16; 96];
     let v = survey::survey(&file[0..n], &mut figures);
-    print_written(v, &figures);
+    print_written(rt, v, &figures)
 }
 
-pub fn run() {
-    show(b"copy");
-    show(b"barren");
+pub fn run(rt: &(impl Files + Print)) -> io::Result<()> {
+    show(rt, "copy")?;
+    show(rt, "barren")
 }

@@ -16,40 +16,44 @@ mod words;
 mod writing;
 
 use crate::show::{load, title};
+use std::io;
 
-fn main() {
-    title(b"reader");
-    reading::run();
+fn main(rt: HostRuntime) -> io::Result<()> {
+    title(&rt, "reader")?;
+    reading::run(&rt)?;
     let mut copy_file = [0u8; 1024];
-    let n = load(b"copy", &mut copy_file);
+    let n = load(&rt, "copy", &mut copy_file);
     let copy = &copy_file[0..n];
-    title(b"the copy grammar written again");
-    writing::run(copy);
+    title(&rt, "the copy grammar written again")?;
+    writing::run(&rt, copy)?;
     let mut weighted_file = [0u8; 1024];
-    let w = load(b"weighted", &mut weighted_file);
+    let w = load(&rt, "weighted", &mut weighted_file);
     let weighted = &weighted_file[0..w];
-    title(b"the copy grammar with weights written again");
-    writing::run(weighted);
+    title(&rt, "the copy grammar with weights written again")?;
+    writing::run(&rt, weighted)?;
     let mut shuffled_file = [0u8; 1024];
-    let s = load(b"shuffled_rule", &mut shuffled_file);
-    title(b"the copy grammar with a rule twice, in two orders of its daughters, written again");
-    writing::run(&shuffled_file[0..s]);
-    title(b"trace checker");
-    traces::run(copy);
-    title(b"trees");
-    conversions::run(copy);
-    title(b"survey");
-    figures::run();
+    let s = load(&rt, "shuffled_rule", &mut shuffled_file);
+    title(
+        &rt,
+        "the copy grammar with a rule twice, in two orders of its daughters, written again",
+    )?;
+    writing::run(&rt, &shuffled_file[0..s])?;
+    title(&rt, "trace checker")?;
+    traces::run(&rt, copy)?;
+    title(&rt, "trees")?;
+    conversions::run(&rt, copy)?;
+    title(&rt, "survey")?;
+    figures::run(&rt)?;
     let mut pair_file = [0u8; 1024];
-    let k = load(b"pair", &mut pair_file);
-    title(b"counts and entries");
-    counts::run(copy, &pair_file[0..k]);
-    title(b"sums of weights");
-    sums::run(copy, weighted);
-    title(b"words heard unclearly");
-    unclear::run(copy, weighted);
-    title(b"dates and opening days");
-    opening_days::run();
-    title(b"lexicons");
-    lexicons::run();
+    let k = load(&rt, "pair", &mut pair_file);
+    title(&rt, "counts and entries")?;
+    counts::run(&rt, copy, &pair_file[0..k])?;
+    title(&rt, "sums of weights")?;
+    sums::run(&rt, copy, weighted)?;
+    title(&rt, "words heard unclearly")?;
+    unclear::run(&rt, copy, weighted)?;
+    title(&rt, "dates and opening days")?;
+    opening_days::run(&rt)?;
+    title(&rt, "lexicons")?;
+    lexicons::run(&rt)
 }

@@ -1,73 +1,76 @@
 // A file read, and titles and answers printed on the standard output.
-ghost use Rattle.io.specs.Counts.{IsPrefixLen};
+ghost use Rattle.worked_examples.specs.Counts.{IsPrefixLen};
 
 use buffers::number_at;
-use libc::STDOUT_FILENO;
 use model::{Refusal, Verdict};
+use std::fs::File;
+use std::io;
+use std::io::{ErrorKind, Read};
+use std::rt::Files;
 
 // Reads a file to the start of buf and answers how many bytes it put there; a file that can't be opened has length 0.
-pub fn load(path: &[u8], buf: &mut [u8]) -> usize
+pub fn load(files: &impl Files, path: &str, buf: &mut [u8]) -> usize
     ensures { IsPrefixLen result buf.new }
 {
-    let fd = os::open_read(path);
-    if fd < 0 {
-        return 0;
+    match File::open(files, path) {
+        Ok(mut file) => read_full(&mut file, buf),
+        Err(_) => 0,
     }
-    let n = io::read_full(fd, buf);
-    libc::close(fd);
-    n
+}
+
+// Reads until buf is full, the input ends or a read fails, and answers how many bytes it put at the start of buf. A read that a signal interrupts is tried again.
+fn read_full(input: &mut impl Read, buf: &mut [u8]) -> usize
+    ensures { IsPrefixLen result buf.new }
+{
+    let mut done = 0;
+    for _ in 0..u64::MAX {
+        if done == buf.len() {
+            break;
+        }
+        match input.read(&mut buf[done..]) {
+            Ok(0) => break,
+            Ok(n) => done += n,
+            Err(e) if e.kind() == ErrorKind::Interrupted => {}
+            Err(_) => break,
+        }
+    }
+    done
 }
 
 // The title of a part on a line.
-pub fn title(text: &[u8]) {
-    io::write_all(STDOUT_FILENO, text);
-    io::write_all(STDOUT_FILENO, b"\n");
+pub fn title(rt: &impl Print, text: &str) -> io::Result<()> {
+    println!(rt; "{text}")
 }
 
 // R, the refusal's number and its place, on a line.
-pub fn print_refusal(r: Refusal) {
-    io::write_all(STDOUT_FILENO, b"R ");
-    io::print_decimal(STDOUT_FILENO, model::number_of(r) as u64);
-    io::write_all(STDOUT_FILENO, b" ");
-    io::print_decimal(STDOUT_FILENO, model::place_of(r) as u64);
-    io::write_all(STDOUT_FILENO, b"\n");
+pub fn print_refusal(rt: &impl Print, r: Refusal) -> io::Result<()> {
+    println!(rt; "R {} {}", model::number_of(r), model::place_of(r))
 }
 
 // A verdict on a line: its value, or the refusal.
-pub fn print_verdict(v: Verdict) {
+pub fn print_verdict(rt: &impl Print, v: Verdict) -> io::Result<()> {
     match v {
-        Verdict::Accepted(n) => {
-            io::print_decimal(STDOUT_FILENO, n);
-            io::write_all(STDOUT_FILENO, b"\n");
-        }
-        Verdict::Refused(r) => {
-            print_refusal(r);
-        }
+        Verdict::Accepted(n) => println!(rt; "{n}"),
+        Verdict::Refused(r) => print_refusal(rt, r),
     }
 }
 
 // The first so many numbers of a list on a line, parted by blanks.
-pub fn print_numbers(count: u64, list: &[u16]) {
-    let mut i: u64 = 0;
-    while i < count {
+pub fn print_numbers(rt: &impl Print, count: u64, list: &[u16]) -> io::Result<()> {
+    for i in 0..count {
         if 0 < i {
-            io::write_all(STDOUT_FILENO, b" ");
+            print!(rt; " ")?;
         }
         let x = number_at(list, i as usize);
-        io::print_decimal(STDOUT_FILENO, x as u64);
-        i += 1;
+        print!(rt; "{x}")?;
     }
-    io::write_all(STDOUT_FILENO, b"\n");
+    println!(rt)
 }
 
 // What a call that writes a list answers: the list on a line, or the refusal.
-pub fn print_written(v: Verdict, out: &[u16]) {
+pub fn print_written(rt: &impl Print, v: Verdict, out: &[u16]) -> io::Result<()> {
     match v {
-        Verdict::Accepted(n) => {
-            print_numbers(n, out);
-        }
-        Verdict::Refused(r) => {
-            print_refusal(r);
-        }
+        Verdict::Accepted(n) => print_numbers(rt, n, out),
+        Verdict::Refused(r) => print_refusal(rt, r),
     }
 }

@@ -3,6 +3,7 @@ ghost use Rattle.std.specs.Prelude.{◌<◌, length};
 
 use crate::show::{print_verdict, title};
 use model::{RuleNumber, Verdict};
+use std::io;
 
 // The records of the file one after the other, as many as there is room for.
 fn gather(file: &[u8], records: &mut [u8])
@@ -34,25 +35,25 @@ fn is_same(file: &[u8], out: &[u8], n: u64) -> bool {
     grammar::same_bytes(file, grammar::fields(out, 0, n as usize))
 }
 
-fn show(file: &[u8], records: &[u8]) {
+fn show(rt: &impl Print, file: &[u8], records: &[u8]) -> io::Result<()> {
     let mut out = [0u8; 7168];
     let v = write(file, records, &mut out);
     let Verdict::Accepted(n) = v else {
-        print_verdict(v);
-        return;
+        return print_verdict(rt, v);
     };
     if is_same(file, &out, n) {
-        title(b"same");
+        title(rt, "same")
     } else {
-        title(b"other");
+        title(rt, "other")
     }
 }
 
-pub fn run(file: &[u8]) {
+pub fn run(rt: &impl Print, file: &[u8]) -> io::Result<()> {
     let mut records = [0u8; 6144];
     gather(file, &mut records);
     show(
+        rt,
         file,
         grammar::fields(&records, 0, 24 * (grammar::rules(file) as usize)),
-    );
+    )
 }

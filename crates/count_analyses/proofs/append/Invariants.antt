@@ -1,9 +1,6 @@
--- `count_analyses::append` meets its contract.
--- Assumes nothing.
-use mathlib.Core.Path.{◌≡◌}
-use Prim.Native.Nat.{◌+◌, ◌-◌, ◌≤◌, min}
-use lib.ListN.{length}
-use lib.Seq.{paste}
+-- The bytes of the chunk that stand in the buffer after each step of `count_analyses::append`.
+use Rattle.std.proofs.Common.{◌≡◌, ◌+◌, ◌-◌, ◌≤◌, min, length}
+use Rattle.std.proofs.Math.Seq.{paste}
 use Rattle.count_analyses.proofs.append.Given as goal
 
 abbrev pub invariant-loop-i : goal.invariant-loop-i

@@ -13,24 +13,24 @@ not_off true e = refl
 not_off false e = absurd (not_both e)
 
 pub loop-out-init : goal.loop-out-init
-loop-out-init c = (_, c.first_page-text.ensures, search rules)
+loop-out-init g c = (_, c.first_page-text.ensures, search rules)
 
 pub slice_bounds-write_text-end : goal.slice_bounds-write_text-end
-slice_bounds-write_text-end c = omega (arith, c.loop-out.invariant.1.within)
+slice_bounds-write_text-end g c = omega (arith, c.loop-out.invariant.1.within)
 
 pub next_page-text-requires : goal.next_page-text-requires
-next_page-text-requires c =
+next_page-text-requires g c =
     let i = c.loop-out in
     (record { grammar = _; sentence = _; limit = _; goes_on = i.invariant.1.goes_on c.if-not-text.false }, omega (arith, i.invariant.2))
 
 pub loop-out-smaller : goal.loop-out-smaller
-loop-out-smaller c =
+loop-out-smaller g c =
     let i = c.loop-out in
     let m = c.if-not-text.false in
     page_less _ _ _ i.text c.next_page-text.result m (c.next_page-text.ensures.of_grammar _ _ _ (i.invariant.1.goes_on m))
 
 pub loop-out-preserved : goal.loop-out-preserved
-loop-out-preserved c =
+loop-out-preserved g c =
     let i = c.loop-out in
     let m = c.if-not-text.false in
     (_, c.next_page-text.ensures.of_grammar _ _ _ (i.invariant.1.goes_on m), search rules)

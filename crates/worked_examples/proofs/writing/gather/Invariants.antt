@@ -1,8 +1,5 @@
--- `worked_examples::writing::gather` meets its contract.
--- Assumes nothing.
-use mathlib.Core.Path.{◌≡◌}
-use Prim.Native.Nat.{◌≤◌, ◌-◌}
-use lib.ListN.{length}
+-- How many bytes of the records are there after each step of `worked_examples::writing::gather`.
+use Rattle.std.proofs.Common.{◌≡◌, ◌-◌, ◌≤◌, length}
 use Rattle.worked_examples.proofs.writing.gather.Given as goal
 
 abbrev pub invariant-loop-i : goal.invariant-loop-i
