@@ -9,7 +9,7 @@ use mathlib.Core.List.{List, [], ◌∷◌, ◌++◌, map, Memᴰ}
 use Prim.Native.Nat.{ℕ, zero, suc, ◌+◌, ◌-◌, ◌*◌, ◌<◌, ◌≤◌}
 use native.Mathlib.Omega.{arith}
 use native.Mathlib.Decide.{dec_lt}
-use lib.Dec.{T, ltb, leb, eqb, lt→ltb, le→leb}
+use lib.Dec.{T, ltb, eqb, lt→ltb}
 use lib.ListN.{length, get_or, get_elem?, take, drop, length-append, get_or-eq_default}
 use lib.Seq.{take_at, drop-append-add, ext_get_or}
 use borrow.Author.Tests.{eq-eqb, le-ltb}

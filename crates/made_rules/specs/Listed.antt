@@ -7,7 +7,7 @@ use Rattle.minimalist.specs.Once.{Once}
 use Rattle.minimalist.specs.Lexicon.{entry_of, lexicon_of}
 use Rattle.minimalist.specs.Schemes.{Form, form_dimension, merge_scheme, move_scheme}
 use Rattle.minimalist.specs.Made.{NamedRule, start_form, start_rule, entry_rule, merge_rule, move_rule}
-use Rattle.minimalist.specs.Closure.{is_among, rule_if, start_rules, scheme_rules}
+use Rattle.minimalist.specs.Closure.{is_among, rule_if}
 use Rattle.minimalist.specs.Numbering.{numbered_rule}
 use Rattle.derivable.specs.Tables.{row_at, form_at, Holds}
 use Rattle.made_records.specs.Records.{Held, Adds}

@@ -13,7 +13,7 @@ use Rattle.model.specs.declared.CountVerdict.{CountVerdict}
 use Rattle.model.specs.Grammar.{Rule, Grammar, rule_at}
 use Rattle.model.specs.WellFormed.{WellFormed}
 use Rattle.model.specs.GrammarFile.{grammar_refusal, grammar_of}
-use Rattle.model.specs.Tree.{Tree, node, nil, cons, has_root, has_roots, preorder, yield, string_fits, spells, derives}
+use Rattle.model.specs.Tree.{Tree, node, nil, cons, has_root, has_roots, preorder, yield, string_fits, spells}
 use Rattle.model.specs.Conversions.{label}
 use Rattle.model.specs.Counting.{effort, count}
 use Rattle.model.specs.LivePrefixes.{Different}
@@ -27,7 +27,7 @@ use Rattle.model.proofs.Analyses.{Analyses, analyses}
 use Rattle.model.proofs.FromFile.{accepted_right}
 use Rattle.minimalist.specs.Once.{Once}
 use Rattle.minimalist.specs.Lexicon.{Entry}
-use Rattle.minimalist.specs.Derivations.{Chain, Expression, Derivation, leaf, nodes, derived, Counted}
+use Rattle.minimalist.specs.Derivations.{Chain, Expression, Derivation, leaf, nodes, Counted}
 use Rattle.minimalist.specs.Schemes.{form_of, features_of, Form, Derivable, left_out}
 use Rattle.minimalist.specs.Made.{Name, new_start, form, NamedRule, start_form, start_rule, Made, of_start, of_entry, of_merge, of_move, name_of, named_rule, Numbered, MadeFrom}
 use Rattle.minimalist.specs.MakeGrammar.{CountsAgree}

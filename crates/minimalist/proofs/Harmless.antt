@@ -2,15 +2,14 @@
 -- Assumes nothing.
 use mathlib.Core.Path.{◌≡◌, refl, ap, sym, subst, ◌∙◌}
 use mathlib.Core.Bool.{Bool, true, false, ◌&&◌, ◌||◌, not}
-use mathlib.Core.Option.{Option, none, some}
+use mathlib.Core.Option.{none, some}
 use mathlib.Core.List.{List, [], ◌∷◌, ◌++◌}
-use Prim.Native.Nat.{ℕ, ◌+◌, ◌≤◌}
+use Prim.Native.Nat.{ℕ, ◌+◌}
 use native.Mathlib.Omega.{arith}
-use lib.Dec.{T, eqb, eqb→eq, leb, le→leb}
+use lib.Dec.{T, eqb, eqb→eq}
 use borrow.Author.Tests.{eq-eqb, ne_eqb}
 use Rattle.model.specs.Base.{if◌then◌else◌}
-use Rattle.model.specs.GrammarFile.{within}
-use Rattle.model.proofs.Tests.{or_l, or_r, not_both, none_some, and_l, and_r, and_both, passes, within_low, or_off, some_one, within_bounds}
+use Rattle.model.proofs.Tests.{or_l, or_r, not_both, none_some, and_l, and_r, passes, within_low, or_off, some_one, within_bounds}
 use Rattle.minimalist.specs.Lexicon.{selects, is_licensor, is_licensee}
 use Rattle.minimalist.specs.Derivations.{begins}
 use Rattle.minimalist.specs.Schemes.{Form, Instance, merge_by, merge_if, merge_scheme, how_many_begin, left_over, moving_after, move_by, move_if, move_scheme, no_features, begins_licensee, same_first, any_same_first, wrong_moving, left_out}

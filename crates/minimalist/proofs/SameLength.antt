@@ -15,7 +15,7 @@ use Rattle.model.proofs.FileTests.{passed}
 use Rattle.model.proofs.WellFormed.{accepted_well, rules_length}
 use Rattle.minimalist.specs.Once.{Once}
 use Rattle.minimalist.specs.Lexicon.{Entry}
-use Rattle.minimalist.specs.Made.{NamedRule, Made, named_rule, MadeFrom, MadeFile}
+use Rattle.minimalist.specs.Made.{NamedRule, Made, named_rule, MadeFrom}
 use Rattle.minimalist.proofs.FromTrees.{same_rule_lem}
 use Rattle.minimalist.proofs.Canonical.{elem_in, elem_out, elem_map_out}
 use Rattle.minimalist.proofs.Size.{no_more}

@@ -4,7 +4,7 @@ use mathlib.Core.Path.{◌≡◌, refl, ap}
 use Prim.Native.Nat.{ℕ, zero, suc, ◌*◌, ◌/◌, ◌%◌, ◌^◌, ◌<◌}
 use native.Mathlib.Omega.{arith}
 use lib.ListN.{get_or}
-use Rattle.ranks.specs.Prediction.{Prediction, Sized, ranks, lanes, packed, unpacked, rerank, remade}
+use Rattle.ranks.specs.Prediction.{Prediction, Sized, ranks, packed, unpacked, rerank, remade}
 
 pub packed_unpacked : (x : ℕ) → packed (unpacked x) ≡ x
 packed_unpacked x =

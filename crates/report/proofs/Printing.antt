@@ -36,7 +36,7 @@ use Rattle.pages.specs.declared.Page.{Page}
 use Rattle.pages.specs.Page.{lines_after, FilledPage}
 use Rattle.report.specs.Whole.{words_in, WordsRead, tests_of, refusal_of, text_by, text_of}
 use Rattle.report.specs.declared.program.Text.{Text}
-use Rattle.report.specs.Printing.{left_of, to_come, GoesOn, PageOf, PutFrom, EndsAt, MayGoOn, PutPage, NextPage, TablesOf, Begun, CountedPage, RefusedPage, FirstPage}
+use Rattle.report.specs.Printing.{left_of, to_come, PageOf, PutFrom, EndsAt, MayGoOn, PutPage, NextPage, TablesOf, Begun, CountedPage, RefusedPage, FirstPage}
 
 -- what is put at the front of a buffer stands there
 put_front : {before after l : List ℕ} {r : ℕ} → Put before after 0 l r → take r after ≡ l

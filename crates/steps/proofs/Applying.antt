@@ -1,6 +1,6 @@
 -- The step of a rule of the front's category, in code.
 -- Assumes nothing.
-use mathlib.Core.Path.{◌≡◌, refl, sym, ap, ap₂, subst, subst⁻¹, ◌∙◌}
+use mathlib.Core.Path.{◌≡◌, refl, sym, ap, ap₂, subst, ◌∙◌}
 use mathlib.Core.Bool.{Bool, true, false}
 use mathlib.Core.Option.{Option, none, some}
 use mathlib.Core.List.{List, [], ◌∷◌, map}
@@ -32,7 +32,7 @@ use Rattle.steps.specs.declared.Standing.{Standing}
 use Rattle.steps.specs.declared.Stepped.TheVariants.{Halts, Long, Leads}
 use Rattle.steps.specs.Steps.{state_in, Ready, Fronted, hears, taken, read_by, ahead, opens, Advances, StepSays}
 use Rattle.steps.proofs.Behind.{reads_few}
-use Rattle.steps.proofs.Onward.{state, pending, leads_there, stands_there, rule, x, R, right, reached_front, fit_front, others_length, scans, predicts}
+use Rattle.steps.proofs.Onward.{state, pending, leads_there, stands_there, x, R, right, reached_front, fit_front, others_length, scans, predicts}
 
 -- a word may be read next: it is read, and the recognizer goes there; else it halts
 pub record Reads (word read : ℕ) (sentence : List ℕ) : Type 0 where

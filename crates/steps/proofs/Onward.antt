@@ -19,7 +19,6 @@ use Rattle.ranking.specs.Numbered.{made_at, number_at}
 use Rattle.ranking.proofs.Limits.{Reached, reached_step, Counts, step_counts}
 use Rattle.ranking.proofs.Numbered.{Below, below_step}
 use Rattle.ranks.specs.Held.{number_of, prediction_of, queue_in, Fits}
-use Rattle.ranks.specs.Queue.{room}
 use Rattle.ranks.proofs.Fitting.{all_fit}
 use Rattle.ranks.proofs.Holding.{queue_is, held, queue_length, queue_first}
 use Rattle.steps.specs.declared.Standing.{Standing}

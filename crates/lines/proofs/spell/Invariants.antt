@@ -1,7 +1,7 @@
 -- `lines::spell` meets its contract.
 -- Assumes nothing.
 use mathlib.Core.Path.{◌≡◌}
-use Prim.Native.Nat.{◌-◌, ◌≤◌}
+use Prim.Native.Nat.{◌≤◌}
 use lib.ListN.{length, drop}
 use Rattle.model.specs.Program.{decimal, digits_before}
 use Rattle.lines.proofs.spell.Given as goal

@@ -1,7 +1,7 @@
 -- `made_records::put_record` meets its contract.
 -- Assumes nothing.
 use native.Mathlib.Omega.{arith}
-use Prim.Native.Nat.{◌-◌, ◌*◌}
+use Prim.Native.Nat.{◌*◌}
 use Rattle.made_records.specs.Records.{record_byte}
 use Rattle.made_records.proofs.RecordLaws.{put_new, put_old}
 use borrow.Author.Rules.{rules}

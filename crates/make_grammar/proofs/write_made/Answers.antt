@@ -9,7 +9,6 @@ use borrow.Rule.Slice.PartMut.{Post-is}
 use Rattle.model.specs.Writer.{Heading, file_of}
 use Rattle.make_grammar.specs.Making.{made_heading}
 use Rattle.make_grammar.proofs.Outcome.{no_room_left, room_left, heading_made}
-use borrow.Author.Rules.{rules}
 use Rattle.make_grammar.proofs.write_made.Goals as goal
 
 pub returns-then-out-n : goal.returns-then-out-n

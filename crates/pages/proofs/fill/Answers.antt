@@ -1,7 +1,6 @@
 -- `pages::fill` meets its contract.
 -- Assumes nothing.
 use native.Mathlib.Omega.{arith}
-use Prim.Native.Nat.{◌-◌}
 use Rattle.pages.proofs.Pages.{filled_none, filled_full, filled_more, filled_last, filled_walks, filled_within, filled_long, filled_less, last_long}
 use Rattle.pages.proofs.fill.Goals as goal
 

@@ -1,14 +1,12 @@
 -- `record_tests::each_once` meets its contract. The loops keep: each variable of the daughters before j occurs once, and of daughter j those before c.
 -- Assumes nothing.
 use mathlib.Core.Path.{◌≡◌, refl, sym, ap, ap₂, ◌∙◌}
-use mathlib.Core.Bool.{true}
 use mathlib.Core.List.{List}
-use Prim.Native.Nat.{ℕ, ◌-◌, ◌+◌, ◌*◌}
+use Prim.Native.Nat.{ℕ, ◌+◌, ◌*◌}
 use borrow.Author.Tests.{eq-eqb, ne_eqb}
 use Rattle.model.specs.Base.{all_below, occurrences}
-use Rattle.model.specs.GrammarFile.{field, fields, dimension_in, variables}
+use Rattle.model.specs.GrammarFile.{field, fields, dimension_in}
 use Rattle.grammar.proofs.Below.{all_more, all_miss}
-use borrow.Author.Rules.{rules}
 use native.Mathlib.Omega.{arith}
 use Rattle.record_tests.proofs.each_once.Goals as goal
 use Rattle.record_tests.proofs.each_once.Invariants.{once_at, daughter_once}

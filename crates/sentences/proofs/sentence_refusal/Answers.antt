@@ -1,7 +1,7 @@
 -- `sentences::sentence_refusal` meets its contract. The loop keeps: what the places give is what those from place k on give.
 -- Assumes nothing.
 use mathlib.Core.Path.{◌≡◌, ap, ◌∙◌}
-use Prim.Native.Nat.{ℕ, ◌-◌}
+use Prim.Native.Nat.{ℕ}
 use native.Mathlib.Omega.{arith}
 use lib.ListN.{get_or}
 use Rattle.model.specs.declared.Refusal.{Refusal}

@@ -7,7 +7,6 @@ use Rattle.model.proofs.FromFile.{rule_read, rule_read_lem}
 use Rattle.ranks.specs.Table.{category_in}
 use Rattle.grammar.proofs.OfGrammar.{rule_none}
 use Rattle.steps.proofs.Applying.{no_rule, no_prediction, other_category}
-use borrow.Author.Rules.{rules}
 use Rattle.steps.proofs.step.Goals as goal
 
 pub returns-then-rules-r : goal.returns-then-rules-r

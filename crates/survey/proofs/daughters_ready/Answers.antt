@@ -1,7 +1,7 @@
 -- `survey::daughters_ready` meets its contract.
 -- Assumes nothing.
 use mathlib.Core.Path.{refl, sym, ap, ◌∙◌}
-use Prim.Native.Nat.{suc, ◌<◌, ◌≤◌, ◌-◌}
+use Prim.Native.Nat.{suc, ◌<◌, ◌≤◌}
 use native.Mathlib.Numerals.{add-one}
 use native.Mathlib.Omega.{arith}
 use lib.ListN.{length, drop, drop_of_length-le}

@@ -2,7 +2,7 @@
 -- Assumes nothing.
 use mathlib.Core.Path.{◌≡◌, refl, sym, ap, ◌∙◌}
 use mathlib.Core.List.{List}
-use Prim.Native.Nat.{ℕ, ◌-◌}
+use Prim.Native.Nat.{ℕ}
 use native.Mathlib.Omega.{arith}
 use native.Mathlib.Numerals.{add-one}
 use borrow.Author.Rules.{rules}
@@ -19,15 +19,14 @@ loop-r-init c = (c.rules-rules.ensures, omega arith, refl, refl, λ n. refl)
 
 pub loop-r-preserved : goal.loop-r-preserved
 loop-r-preserved c =
-    let v = c.visit_rule in
-    (
+    let v = c.visit_rule in (
       c.loop-r.invariant.0,
       omega arith,
       search rules,
       rw add-one (v.ensures.0 ∙ ap (λ (F : List ℕ). visit (grammar_of c.args.file.now) c.args.round F c.loop-r.r) c.loop-r.invariant.3),
       elim c.if-visit_rule.branch [
-        then-visit_rule w ↦ λ n. not_both (sym w.changed-is ∙ n)
-      | else-visit_rule w ↦ λ n. v.ensures.1 w.if-visit_rule.false ∙ c.loop-r.invariant.4 (sym w.changed-is ∙ n)
+        | then-visit_rule w ↦ λ n. not_both (sym w.changed-is ∙ n)
+        | else-visit_rule w ↦ λ n. v.ensures.1 w.if-visit_rule.false ∙ c.loop-r.invariant.4 (sym w.changed-is ∙ n)
       ],
     )
 

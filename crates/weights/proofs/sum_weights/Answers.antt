@@ -1,7 +1,7 @@
 -- `weights::sum_weights` meets its contract. The loop keeps: the whole sum is what is summed and the sum of the rest, and k weights are at most 255 each.
 -- Assumes nothing.
 use mathlib.Core.Path.{ap, ◌∙◌}
-use Prim.Native.Nat.{ℕ, ◌-◌}
+use Prim.Native.Nat.{ℕ}
 use Rattle.model.specs.GrammarFile.{weight_of, record_of}
 use Rattle.grammar.proofs.Walks.{sum_more, sum_end}
 use native.Mathlib.Omega.{arith}

@@ -1,7 +1,7 @@
 -- `dates::numbers::date_after` meets its contract. The invariant: the days of the years passed and the days left make up the number.
 -- Assumes nothing.
 use mathlib.Core.Path.{refl, ◌∙◌}
-use Prim.Native.Nat.{◌-◌, ◌<◌}
+use Prim.Native.Nat.{◌<◌}
 use native.Mathlib.Omega.{arith}
 use Rattle.calendar.specs.Calendar.{year_length}
 use Rattle.dates.proofs.YearsAndMonths.{year_over, last_inside, date_of_year}
@@ -15,8 +15,8 @@ inside c =
     let t = c.loop-year in
     let a = c.args in
     elim c.loop-year-test.branch [
-      else-loop-year-test w ↦ last_inside (counted a.start a.count) t.year t.left t.invariant.0 t.invariant.2 c.requires.2 t.invariant.1 w.loop-year-test.false
-    | then-loop-year-test+then-left-in_year w ↦ omega (arith, w.if-left-in_year.true, w.year_length-in_year.ensures)
+      | else-loop-year-test w ↦ last_inside (counted a.start a.count) t.year t.left t.invariant.0 t.invariant.2 c.requires.2 t.invariant.1 w.loop-year-test.false
+      | then-loop-year-test+then-left-in_year w ↦ omega (arith, w.if-left-in_year.true, w.year_length-in_year.ensures)
     ]
 
 pub loop-year-init : goal.loop-year-init

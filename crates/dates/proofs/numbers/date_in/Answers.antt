@@ -1,6 +1,6 @@
 -- `dates::numbers::date_in` meets its contract. The invariant: the days of the months passed and the days left make up the number.
 -- Assumes nothing.
-use Prim.Native.Nat.{◌-◌, ◌<◌}
+use Prim.Native.Nat.{◌<◌}
 use native.Mathlib.Omega.{arith}
 use Rattle.calendar.specs.Calendar.{month_length}
 use Rattle.calendar.proofs.Calendar.{length_in_lem, length_most}
@@ -14,8 +14,8 @@ inside c =
     let t = c.loop-month in
     let a = c.args in
     elim c.loop-month-test.branch [
-      else-loop-month-test w ↦ december_inside a.year a.number t.month t.left t.invariant.0 t.invariant.2 c.requires t.invariant.1 w.loop-month-test.false
-    | then-loop-month-test+then-left-in_month w ↦ omega (arith, w.if-left-in_month.true, length_in_lem a.year t.month w.days_in-in_month.ensures c.is_leap-leap.ensures)
+      | else-loop-month-test w ↦ december_inside a.year a.number t.month t.left t.invariant.0 t.invariant.2 c.requires t.invariant.1 w.loop-month-test.false
+      | then-loop-month-test+then-left-in_month w ↦ omega (arith, w.if-left-in_month.true, length_in_lem a.year t.month w.days_in-in_month.ensures c.is_leap-leap.ensures)
     ]
 
 pub loop-month-init : goal.loop-month-init

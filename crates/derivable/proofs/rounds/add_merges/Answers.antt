@@ -2,7 +2,7 @@
 -- Assumes nothing.
 use native.Mathlib.Omega.{arith}
 use mathlib.Core.Path.{◌≡◌, refl, subst}
-use Prim.Native.Nat.{ℕ, ◌-◌}
+use Prim.Native.Nat.{ℕ}
 use Rattle.derivable.specs.Rounds.{Grows, with_merges}
 use Rattle.derivable.proofs.Growing.{grows_none, grows_then, merges_further}
 use borrow.Author.Rules.{rules}

@@ -1,7 +1,6 @@
 -- `derivable::all_rounds` meets its contract. The loop keeps: k rounds were made.
 -- Assumes nothing.
 use native.Mathlib.Omega.{arith}
-use Prim.Native.Nat.{◌-◌}
 use Rattle.derivable.proofs.Growing.{no_rounds, rounds_more, rounds_still, rounds_all}
 use borrow.Author.Rules.{rules}
 use Rattle.derivable.proofs.rounds.all_rounds.Goals as goal

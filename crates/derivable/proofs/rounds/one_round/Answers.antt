@@ -2,7 +2,6 @@
 -- Assumes nothing.
 use native.Mathlib.Omega.{arith}
 use mathlib.Core.Path.{refl}
-use Prim.Native.Nat.{◌-◌}
 use Rattle.derivable.specs.Rounds.{with_merges, with_round_of}
 use Rattle.derivable.proofs.Growing.{grows_none, grows_then, grows_same, round_further, round_whole}
 use borrow.Author.Rules.{rules}

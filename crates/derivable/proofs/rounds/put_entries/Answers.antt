@@ -2,7 +2,7 @@
 -- Assumes nothing.
 use native.Mathlib.Omega.{arith}
 use mathlib.Core.Path.{◌≡◌, subst, ◌∙◌}
-use Prim.Native.Nat.{ℕ, ◌-◌}
+use Prim.Native.Nat.{ℕ}
 use Rattle.minimalist.specs.Closure.{forms_after}
 use Rattle.derivable.specs.Tables.{Holds}
 use Rattle.derivable.proofs.Growing.{first_entries, no_entries, entries_more}

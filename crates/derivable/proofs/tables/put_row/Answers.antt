@@ -3,7 +3,7 @@
 use native.Mathlib.Omega.{arith}
 use Rattle.derivable.proofs.TableLaws.{put_new, put_old}
 use mathlib.Core.Path.{refl}
-use Prim.Native.Nat.{◌-◌, ◌*◌}
+use Prim.Native.Nat.{◌*◌}
 use borrow.Author.Rules.{rules}
 use Rattle.derivable.proofs.tables.put_row.Goals as goal
 

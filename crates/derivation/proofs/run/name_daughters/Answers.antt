@@ -1,7 +1,7 @@
 -- `derivation::run::name_daughters` meets its contract.
 -- Assumes nothing.
 use mathlib.Core.Path.{◌≡◌, subst, ◌∙◌}
-use Prim.Native.Nat.{ℕ, ◌-◌}
+use Prim.Native.Nat.{ℕ}
 use native.Mathlib.Omega.{arith}
 use native.Mathlib.Numerals.{add-one}
 use Rattle.derivation.specs.TreeRun.{NamesGiven}

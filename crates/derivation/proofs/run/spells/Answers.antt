@@ -10,7 +10,7 @@ use Rattle.ranking.specs.Recognizer.{goes}
 use Rattle.ranking.specs.Ranks.{RankedState, step_ranked}
 use Rattle.ranking.specs.Numbered.{number_at}
 use Rattle.ranks.specs.Table.{daughters_in}
-use Rattle.steps.specs.Steps.{state_in, LeadsTo}
+use Rattle.steps.specs.Steps.{state_in}
 use Rattle.recognizer.proofs.Checked.{start_small}
 use Rattle.recognizer.proofs.Running.{from_small, left_falls}
 use Rattle.derivation.specs.TreeRun.{NamesGiven}

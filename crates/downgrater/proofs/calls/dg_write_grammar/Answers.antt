@@ -3,7 +3,6 @@
 use Rattle.downgrater.proofs.Ranges.{write_fits}
 use Rattle.downgrater.proofs.Answers.{fitting, said}
 use Rattle.writer.specs.Writing.{heading}
-use borrow.Author.Rules.{rules}
 use Rattle.downgrater.proofs.calls.dg_write_grammar.Goals as goal
 
 pub verdict_bits-requires : goal.verdict_bits-requires

@@ -2,7 +2,6 @@
 -- Assumes nothing.
 use Rattle.forms.proofs.RowForms.{begins_here, begins_not, begins_end}
 use mathlib.Core.Path.{sym, ◌∙◌}
-use Prim.Native.Nat.{◌-◌}
 use Rattle.forms.proofs.forms.begins_later.Goals as goal
 
 pub returns-then-m-byte : goal.returns-then-m-byte

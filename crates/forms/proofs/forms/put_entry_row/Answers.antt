@@ -5,7 +5,6 @@ use Rattle.minimalist.specs.Schemes.{lexical_form}
 use Rattle.minimalist.specs.Lexicon.{entry_of}
 use Rattle.model.proofs.ByteLists.{filled_more}
 use Rattle.forms.proofs.RowForms.{filled_row, entry_found}
-use Prim.Native.Nat.{◌-◌}
 use Rattle.forms.specs.Rows.{entry_byte}
 use borrow.Author.Rules.{rules}
 use Rattle.forms.proofs.forms.put_entry_row.Goals as goal

@@ -4,7 +4,6 @@ use native.Mathlib.Omega.{arith}
 use Rattle.minimalist.specs.Made.{start_form}
 use Rattle.model.proofs.ByteLists.{filled_more}
 use Rattle.forms.proofs.RowForms.{filled_row, start_row}
-use Prim.Native.Nat.{◌-◌}
 use Rattle.forms.specs.Rows.{start_byte}
 use borrow.Author.Rules.{rules}
 use Rattle.forms.proofs.forms.put_start_row.Goals as goal

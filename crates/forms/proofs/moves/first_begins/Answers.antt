@@ -4,7 +4,6 @@ use native.Mathlib.Omega.{arith}
 use mathlib.Core.Path.{◌≡◌, sym, ap, ◌∙◌}
 use Prim.Native.Nat.{ℕ, ◌-◌, ◌+◌, ◌*◌}
 use lib.ListN.{get_or}
-use mathlib.Core.Bool.{true}
 use Rattle.lexicon.proofs.FeatureKinds.{licensed_byte, other_byte}
 use Rattle.forms.specs.Rows.{firsts_in, place_in}
 use Rattle.forms.proofs.MoveForms.{place_here, place_later, place_end}

@@ -4,7 +4,6 @@ use native.Mathlib.Omega.{arith}
 use mathlib.Core.Path.{◌≡◌, sym, ap, ◌∙◌}
 use Prim.Native.Nat.{ℕ, ◌-◌, ◌+◌}
 use Rattle.model.specs.Base.{occurrences}
-use mathlib.Core.Bool.{true}
 use Rattle.lexicon.proofs.FeatureKinds.{licensed_byte, other_byte}
 use Rattle.forms.specs.Rows.{firsts_in}
 use Rattle.forms.proofs.MoveForms.{many_here, many_later, many_end}
@@ -26,8 +25,8 @@ loop-j-preserved c =
     let b = c.byte in
     let l = c.licenses in
     elim c.if-licenses.branch [
-      then-licenses w ↦ (t.invariant.0, t.invariant.1, omega (arith, t.invariant.2, many_here (a.p + 16) a.row.now t.j a.n h (licensed_byte a.p b.result t.invariant.1 (sym l.ensures ∙ w.if-licenses.true) ∙ b.ensures)), omega (arith, t.invariant.3))
-    | else-licenses w ↦ (t.invariant.0, t.invariant.1, omega (arith, t.invariant.2, many_later (a.p + 16) a.row.now t.j a.n h (λ q. other_byte a.p b.result t.invariant.1 (sym l.ensures ∙ w.if-licenses.false) (q ∙ sym b.ensures))), omega (arith, t.invariant.3))
+      | then-licenses w ↦ (t.invariant.0, t.invariant.1, omega (arith, t.invariant.2, many_here (a.p + 16) a.row.now t.j a.n h (licensed_byte a.p b.result t.invariant.1 (sym l.ensures ∙ w.if-licenses.true) ∙ b.ensures)), omega (arith, t.invariant.3))
+      | else-licenses w ↦ (t.invariant.0, t.invariant.1, omega (arith, t.invariant.2, many_later (a.p + 16) a.row.now t.j a.n h (λ q. other_byte a.p b.result t.invariant.1 (sym l.ensures ∙ w.if-licenses.false) (q ∙ sym b.ensures))), omega (arith, t.invariant.3))
     ]
 
 pub returns : goal.returns

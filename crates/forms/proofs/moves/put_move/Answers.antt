@@ -2,7 +2,6 @@
 -- Assumes nothing.
 use native.Mathlib.Omega.{arith}
 use Rattle.model.proofs.ByteLists.{filled_more}
-use Prim.Native.Nat.{◌-◌}
 use Rattle.forms.specs.Rows.{move_byte}
 use borrow.Author.Rules.{rules}
 use Rattle.forms.proofs.moves.put_move.Goals as goal

@@ -2,7 +2,7 @@
 -- Assumes nothing.
 use mathlib.Core.Path.{refl, sym, ap, ap₂, ◌∙◌}
 use mathlib.Core.Bool.{Bool, ◌&&◌}
-use Prim.Native.Nat.{◌+◌, ◌-◌}
+use Prim.Native.Nat.{◌+◌}
 use lib.Dec.{eqb}
 use lib.ListN.{get_or, drop}
 use borrow.Author.Tests.{eq-eqb, ne_eqb}
@@ -22,10 +22,10 @@ loop-i-preserved c =
       omega arith,
       c.loop-i.invariant.1
           ∙ elim c.if-bytes-i-ne0.branch [
-            then-bytes-i-ne0 w ↦
-              and_none c.loop-i.zero (every_fail (eqb 0) l c.loop-i.i here (ne_eqb 0 (get_or l c.loop-i.i 0) (λ e. w.if-bytes-i-ne0.true (sym e))))
-              ∙ ap (λ (z : Bool). z && all_zero (drop (c.loop-i.i + 1) l)) (sym w.zero-is)
-          | else-bytes-i-ne0 w ↦ ap₂ ◌&&◌ (sym w.zero-is) (every_pass (eqb 0) l c.loop-i.i here (eq-eqb 0 (get_or l c.loop-i.i 0) (sym w.if-bytes-i-ne0.false)))
+            | then-bytes-i-ne0 w ↦
+                and_none c.loop-i.zero (every_fail (eqb 0) l c.loop-i.i here (ne_eqb 0 (get_or l c.loop-i.i 0) (λ e. w.if-bytes-i-ne0.true (sym e))))
+                ∙ ap (λ (z : Bool). z && all_zero (drop (c.loop-i.i + 1) l)) (sym w.zero-is)
+            | else-bytes-i-ne0 w ↦ ap₂ ◌&&◌ (sym w.zero-is) (every_pass (eqb 0) l c.loop-i.i here (eq-eqb 0 (get_or l c.loop-i.i 0) (sym w.if-bytes-i-ne0.false)))
           ],
     )
 

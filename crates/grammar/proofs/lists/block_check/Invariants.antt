@@ -1,7 +1,7 @@
 -- `grammar::block_check` meets its contract. The loop keeps: the lanes are those of the bytes from 4 times the turns left on.
 -- Assumes nothing.
 use mathlib.Core.Path.{◌≡◌}
-use Prim.Native.Nat.{◌≤◌, ◌-◌, ◌*◌}
+use Prim.Native.Nat.{◌≤◌, ◌*◌}
 use lib.ListN.{length}
 use Rattle.grammar.proofs.Lanes.{Small, Lanes}
 use Rattle.grammar.proofs.lists.block_check.Given as goal

@@ -1,7 +1,6 @@
 -- `grammar::none_set` meets its contract. The loop keeps: all bytes are 0 if all from place i on are.
 -- Assumes nothing.
 use mathlib.Core.Path.{refl, sym, ◌∙◌}
-use Prim.Native.Nat.{◌-◌}
 use lib.Dec.{eqb}
 use lib.ListN.{get_or}
 use borrow.Author.Tests.{eq-eqb, ne_eqb}

@@ -1,6 +1,5 @@
 -- `grammar::occurrences` meets its contract. The loop keeps: what is found so far and what is from place i on are all.
 -- Assumes nothing.
-use Prim.Native.Nat.{◌-◌}
 use Rattle.grammar.proofs.Walks.{found_here, found_later, found_end}
 use native.Mathlib.Omega.{arith}
 use Rattle.grammar.proofs.lists.occurrences.Goals as goal

@@ -1,6 +1,6 @@
 -- `grammar::part_check` meets its contract. The loop keeps: the weighted sum so far and that from place i on are the whole.
 -- Assumes nothing.
-use Prim.Native.Nat.{ℕ, ◌≤◌, ◌<◌, ◌-◌, ◌+◌, ◌*◌}
+use Prim.Native.Nat.{ℕ, ◌≤◌, ◌<◌, ◌+◌, ◌*◌}
 use native.Mathlib.Nat.{mul-le-mul}
 use lib.ListN.{get_or}
 use Rattle.grammar.proofs.Walks.{weighted_more, weighted_end}

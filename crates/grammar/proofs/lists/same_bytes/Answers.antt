@@ -2,7 +2,7 @@
 -- Assumes nothing.
 use mathlib.Core.Path.{refl, sym, ap, ap₂, ◌∙◌}
 use mathlib.Core.Bool.{Bool, ◌&&◌}
-use Prim.Native.Nat.{◌+◌, ◌-◌}
+use Prim.Native.Nat.{◌+◌}
 use lib.ListN.{drop}
 use Rattle.model.specs.Base.{same_list}
 use Rattle.grammar.proofs.Walks.{same_here, differs_here, same_end, same_length, and_none, none_left}
@@ -26,10 +26,10 @@ loop-i-preserved c =
       c.loop-i.invariant.1,
       c.loop-i.invariant.2
           ∙ elim c.if-a-i.branch [
-            then-a-i w ↦
-              and_none c.loop-i.same (differs_here a b i in-a (omega (arith, in-a, c.loop-i.invariant.1)) w.if-a-i.true)
-              ∙ ap (λ (z : Bool). z && same_list (drop (i + 1) a) (drop (i + 1) b)) (sym w.same-is)
-          | else-a-i w ↦ ap₂ ◌&&◌ (sym w.same-is) (same_here a b i in-a (omega (arith, in-a, c.loop-i.invariant.1)) w.if-a-i.false)
+            | then-a-i w ↦
+                and_none c.loop-i.same (differs_here a b i in-a (omega (arith, in-a, c.loop-i.invariant.1)) w.if-a-i.true)
+                ∙ ap (λ (z : Bool). z && same_list (drop (i + 1) a) (drop (i + 1) b)) (sym w.same-is)
+            | else-a-i w ↦ ap₂ ◌&&◌ (sym w.same-is) (same_here a b i in-a (omega (arith, in-a, c.loop-i.invariant.1)) w.if-a-i.false)
           ],
     )
 

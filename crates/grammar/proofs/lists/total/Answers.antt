@@ -1,6 +1,5 @@
 -- `grammar::total` meets its contract. The loop keeps: the sum so far and the sum from place i on are the whole.
 -- Assumes nothing.
-use Prim.Native.Nat.{◌-◌}
 use Rattle.grammar.proofs.Walks.{total_more, total_end}
 use native.Mathlib.Omega.{arith}
 use Rattle.grammar.proofs.lists.total.Goals as goal

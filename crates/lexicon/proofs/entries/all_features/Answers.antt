@@ -1,7 +1,6 @@
 -- `lexicon::all_features` meets its contract.
 -- Assumes nothing.
 use mathlib.Core.Path.{sym, ap, ◌∙◌, refl}
-use Prim.Native.Nat.{◌-◌}
 use Rattle.model.specs.Base.{every}
 use Rattle.minimalist.specs.Lexicon.{is_feature}
 use Rattle.lexicon.proofs.EntryWalks.{stop_here, at_end, one_feature, no_feature}

@@ -1,7 +1,6 @@
 -- `lexicon::before_zero` meets its contract.
 -- Assumes nothing.
 use mathlib.Core.Path.{ap}
-use Prim.Native.Nat.{◌-◌}
 use lib.ListN.{length}
 use Rattle.lexicon.proofs.EntryWalks.{stop_here, at_end, longer}
 use native.Mathlib.Omega.{arith}

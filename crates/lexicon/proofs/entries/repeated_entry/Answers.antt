@@ -2,11 +2,9 @@
 -- Assumes nothing.
 use mathlib.Core.Path.{◌≡◌, refl, sym, ap, ap₂, ◌∙◌}
 use mathlib.Core.Bool.{true, false}
-use Prim.Native.Nat.{◌-◌}
 use native.Mathlib.Omega.{arith}
 use Rattle.model.specs.Base.{any_below, same_list}
 use Rattle.grammar.proofs.Below.{any_more, any_hit}
-use Rattle.minimalist.specs.Lexicon.{entry_bytes}
 use Rattle.lexicon.proofs.entries.repeated_entry.Goals as goal
 use Rattle.lexicon.proofs.entries.repeated_entry.Invariants.{equal}
 

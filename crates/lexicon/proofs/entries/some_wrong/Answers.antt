@@ -2,11 +2,10 @@
 -- Assumes nothing.
 use mathlib.Core.Path.{◌≡◌, refl, sym, ap, ◌∙◌}
 use mathlib.Core.Bool.{true, false}
-use Prim.Native.Nat.{◌-◌}
 use native.Mathlib.Omega.{arith}
 use Rattle.model.specs.Base.{any_below}
 use Rattle.grammar.proofs.Below.{any_more, any_hit}
-use Rattle.minimalist.specs.Lexicon.{entry_bytes, wrong_entry}
+use Rattle.minimalist.specs.Lexicon.{wrong_entry}
 use Rattle.lexicon.proofs.entries.some_wrong.Goals as goal
 use Rattle.lexicon.proofs.entries.some_wrong.Invariants.{wrong}
 

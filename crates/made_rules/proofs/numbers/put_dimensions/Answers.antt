@@ -1,7 +1,6 @@
 -- `made_rules::put_dimensions` meets its contract.
 -- Assumes nothing.
 use native.Mathlib.Omega.{arith}
-use Prim.Native.Nat.{◌-◌}
 use Rattle.model.proofs.ByteLists.{filled_more}
 use Rattle.made_rules.specs.Listed.{dimension_byte}
 use Rattle.made_rules.proofs.DimensionLaws.{dimensions_are}

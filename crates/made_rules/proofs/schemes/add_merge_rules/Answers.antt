@@ -2,7 +2,7 @@
 -- Assumes nothing.
 use mathlib.Core.Path.{◌≡◌, refl, subst}
 use native.Mathlib.Omega.{arith}
-use Prim.Native.Nat.{ℕ, ◌-◌}
+use Prim.Native.Nat.{ℕ}
 use Rattle.made_rules.specs.Listed.{Lists, with_merges}
 use Rattle.made_rules.proofs.Listing.{lists_none, lists_then, merges_next}
 use borrow.Author.Rules.{rules}

@@ -3,7 +3,6 @@
 use mathlib.Core.Path.{◌≡◌, refl, ◌∙◌}
 use native.Mathlib.Omega.{arith}
 use mathlib.Core.List.{◌++◌}
-use Prim.Native.Nat.{◌-◌}
 use Rattle.made_rules.specs.Listed.{with_merges, with_schemes_of}
 use Rattle.made_rules.proofs.Listing.{lists_none, lists_then, lists_same, schemes_next, schemes_all}
 use borrow.Author.Rules.{rules}

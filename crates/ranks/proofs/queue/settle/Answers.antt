@@ -1,7 +1,7 @@
 -- `ranks::queue::settle` meets its contract.
 -- Assumes nothing.
 use mathlib.Core.Path.{◌≡◌}
-use Prim.Native.Nat.{◌+◌, ◌-◌}
+use Prim.Native.Nat.{◌+◌}
 use native.Mathlib.Omega.{arith}
 use Rattle.ranks.proofs.Settling.{settling_none, settling_more, settled_before, settled_last}
 use Rattle.ranks.proofs.queue.settle.Goals as goal

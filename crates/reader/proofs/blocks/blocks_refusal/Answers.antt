@@ -1,7 +1,7 @@
 -- `reader::blocks_refusal` meets its contract. The loop keeps: the first refusal is the first from block k on.
 -- Assumes nothing.
 use mathlib.Core.Path.{refl, sym, ap, ◌∙◌}
-use Prim.Native.Nat.{ℕ, ◌-◌}
+use Prim.Native.Nat.{ℕ}
 use Rattle.model.specs.declared.Refusal.{Refusal}
 use Rattle.model.specs.declared.Tested.{Tested}
 use Rattle.reader.specs.Reading.{test_number, block_meets, block_refusal}

@@ -4,7 +4,6 @@ use mathlib.Core.Path.{sym, ap, ◌∙◌}
 use Prim.Native.Nat.{ℕ, ◌-◌, ◌*◌}
 use Rattle.reader.proofs.BlockTests.{full}
 use Rattle.model.proofs.FileTests.{records_last}
-use borrow.Author.Rules.{rules}
 use Rattle.reader.proofs.blocks.records_in.Goals as goal
 
 pub returns-then-block-all : goal.returns-then-block-all

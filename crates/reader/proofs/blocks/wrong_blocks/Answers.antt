@@ -6,7 +6,6 @@ use Prim.Native.Nat.{ℕ, ◌/◌}
 use lib.Dec.{eqb}
 use lib.ListN.{length}
 use Rattle.model.specs.GrammarFile.{blocks_for}
-use borrow.Author.Rules.{rules}
 use Rattle.reader.proofs.blocks.wrong_blocks.Goals as goal
 
 pub returns : goal.returns

@@ -5,7 +5,6 @@ use mathlib.Core.Bool.{not}
 use Prim.Native.Nat.{ℕ}
 use lib.Dec.{eqb}
 use Rattle.model.specs.GrammarFile.{records_in}
-use borrow.Author.Rules.{rules}
 use Rattle.reader.proofs.blocks.wrong_count.Goals as goal
 
 pub returns : goal.returns

@@ -1,7 +1,6 @@
 -- `reader::dimensions_right` meets its contract. The loop keeps: all bytes are from 1 to 4 if all from place i on are.
 -- Assumes nothing.
 use mathlib.Core.Path.{refl, sym, ◌∙◌}
-use Prim.Native.Nat.{◌-◌}
 use Rattle.model.specs.GrammarFile.{within}
 use Rattle.grammar.proofs.Walks.{every_pass, every_fail, every_end}
 use native.Mathlib.Omega.{arith}

@@ -2,7 +2,6 @@
 -- Assumes nothing.
 use mathlib.Core.Path.{sym, ap, ◌∙◌}
 use Rattle.model.specs.GrammarFile.{within}
-use borrow.Author.Rules.{rules}
 use Rattle.reader.proofs.heading.numbers_right.Goals as goal
 
 pub returns-then-not-within : goal.returns-then-not-within

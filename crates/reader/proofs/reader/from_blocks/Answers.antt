@@ -12,7 +12,6 @@ use Rattle.reader.specs.declared.blocks.BlockTest.{BlockTest}
 use Rattle.reader.specs.Reading.{blocks_refusal, from_counts}
 use Rattle.model.proofs.TestLoops.{refuse_off}
 use Rattle.reader.proofs.BlockTests.{all_blocks}
-use borrow.Author.Rules.{rules}
 use Rattle.reader.proofs.reader.from_blocks.Goals as goal
 
 pub returns-in_default : goal.returns-in_default

@@ -2,7 +2,6 @@
 -- Assumes nothing.
 use Rattle.model.specs.GrammarFile.{rules_of, grammar_refusal}
 use Rattle.model.proofs.Verdicts.{accepted, refused, tests_pass, tests_met}
-use borrow.Author.Rules.{rules}
 use Rattle.reader.proofs.reader.read_grammar.Goals as goal
 
 pub returns-in-Passed : goal.returns-in-Passed

@@ -1,7 +1,6 @@
 -- `report::sentence::read_words` meets its contract.
 -- Assumes nothing.
 use mathlib.Core.Path.{ap, ◌∙◌}
-use Prim.Native.Nat.{◌-◌}
 use Rattle.model.specs.Step.{single}
 use Rattle.report.proofs.Pairs.{words_none, words_more, words_end, words_full}
 use Rattle.report.proofs.sentence.read_words.Goals as goal

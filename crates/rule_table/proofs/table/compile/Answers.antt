@@ -1,7 +1,6 @@
 -- `rule_table::table::compile` meets its contract.
 -- Assumes nothing.
 use mathlib.Core.Path.{ap₂, ◌∙◌}
-use Prim.Native.Nat.{◌-◌}
 use native.Mathlib.Omega.{arith}
 use Rattle.model.specs.GrammarFile.{dimensions_of, record_of}
 use Rattle.model.proofs.FromFile.{rules_in}

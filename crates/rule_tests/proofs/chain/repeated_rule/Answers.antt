@@ -5,7 +5,6 @@ use mathlib.Core.List.{List}
 use Prim.Native.Nat.{ℕ}
 use native.Mathlib.Omega.{arith}
 use Rattle.model.specs.GrammarFile.{same_rule}
-use Rattle.rule_tests.specs.Layout.{record_in}
 use Rattle.rule_tests.proofs.Chains.{walk, walk_start, walk_end, walk_few, walk_hit, walk_on}
 use Rattle.rule_tests.proofs.chain.repeated_rule.Goals as goal
 

@@ -1,7 +1,6 @@
 -- `tally::prefixes::tally_all` meets its contract.
 -- Assumes nothing.
 use mathlib.Core.Path.{refl, ◌∙◌}
-use Prim.Native.Nat.{◌-◌}
 use native.Mathlib.Omega.{arith}
 use Rattle.tally.proofs.Passed.{so_begins, so_over, so_notes, so_walks, so_comes, so_ends}
 use Rattle.tally.proofs.prefixes.tally_all.Goals as goal

@@ -1,7 +1,6 @@
 -- `walk::prefixes::find` meets its contract.
 -- Assumes nothing.
 use mathlib.Core.Path.{refl, sym, ◌∙◌}
-use Prim.Native.Nat.{◌-◌}
 use native.Mathlib.Omega.{arith}
 use Rattle.walk.proofs.Seeking.{find_none, find_opens, find_here, find_later, find_goes}
 use Rattle.walk.proofs.prefixes.find.Goals as goal

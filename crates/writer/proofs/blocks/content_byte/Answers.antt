@@ -4,7 +4,6 @@ use mathlib.Core.Path.{sym, ap, ◌∙◌}
 use Prim.Native.Nat.{ℕ}
 use Rattle.writer.specs.Writing.{heading, content_at}
 use Rattle.writer.proofs.Content.{rule_content_lem}
-use borrow.Author.Rules.{rules}
 use Rattle.writer.proofs.blocks.content_byte.Goals as goal
 
 pub returns-then-k-eq0 : goal.returns-then-k-eq0

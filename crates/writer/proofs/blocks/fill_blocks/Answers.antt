@@ -1,6 +1,6 @@
 -- `writer::fill_blocks` meets its contract.
 -- Assumes nothing.
-use Prim.Native.Nat.{◌-◌, ◌/◌, ◌%◌}
+use Prim.Native.Nat.{◌/◌, ◌%◌}
 use native.Mathlib.Omega.{arith}
 use Rattle.writer.specs.Writing.{heading, content_at}
 use Rattle.model.proofs.ByteLists.{filled_more}

@@ -4,7 +4,6 @@ use mathlib.Core.Path.{◌≡◌}
 use Prim.Native.Nat.{ℕ, ◌-◌, ◌/◌, ◌%◌, ◌<◌, ◌≤◌}
 use lib.ListN.{length, get_or}
 use Rattle.writer.specs.Writing.{heading, content_at}
-use borrow.Author.Rules.{rules}
 use Rattle.writer.proofs.blocks.fill_blocks.Given as goal
 
 abbrev pub invariant-loop-p : goal.invariant-loop-p

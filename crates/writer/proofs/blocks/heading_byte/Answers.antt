@@ -6,7 +6,6 @@ use Prim.Native.Nat.{ℕ, ◌-◌}
 use lib.ListN.{get_or}
 use Rattle.writer.specs.Writing.{heading}
 use Rattle.writer.proofs.Content.{heading_number, heading_dimension}
-use borrow.Author.Rules.{rules}
 use Rattle.writer.proofs.blocks.heading_byte.Goals as goal
 
 pub returns-then-i-ge16 : goal.returns-then-i-ge16

@@ -1,7 +1,6 @@
 -- `writer::put_checks` meets its contract.
 -- Assumes nothing.
 use mathlib.Core.Path.{◌≡◌}
-use Prim.Native.Nat.{◌-◌}
 use native.Mathlib.Omega.{arith}
 use Rattle.writer.proofs.Checks.{no_checks, checked_more}
 use Rattle.writer.proofs.blocks.put_checks.Goals as goal

@@ -3,7 +3,6 @@
 use mathlib.Core.Path.{◌∙◌}
 use Rattle.writer.specs.Writing.{heading}
 use Rattle.writer.proofs.Checks.{file_put}
-use borrow.Author.Rules.{rules}
 use Rattle.writer.proofs.blocks.put_file.Goals as goal
 
 pub returns : goal.returns

@@ -8,7 +8,6 @@ use lib.ListN.{get_or}
 use Rattle.model.specs.GrammarFile.{fields}
 use Rattle.model.specs.Writer.{little2}
 use Rattle.writer.proofs.Content.{rule_number, rule_record, held_few}
-use borrow.Author.Rules.{rules}
 use Rattle.writer.proofs.blocks.rule_byte.Goals as goal
 
 pub overflow_mul-less : goal.overflow_mul-less

@@ -13,7 +13,6 @@ use Rattle.rule_tests.specs.Layout.{record_in}
 use Rattle.rule_tests.specs.Rules.{rules_refusal}
 use Rattle.writer.specs.Writing.{heading}
 use Rattle.writer.proofs.Outcome.{bytes_given, given_fits, no_dimensions, too_many_rules, no_heading, no_records, records_decide}
-use borrow.Author.Rules.{rules}
 use Rattle.writer.proofs.writer.given_refusal.Goals as goal
 
 pub returns-then-dimensions-ne64 : goal.returns-then-dimensions-ne64

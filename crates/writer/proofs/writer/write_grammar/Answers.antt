@@ -9,7 +9,6 @@ use Rattle.model.specs.Writer.{writer_refusal}
 use Rattle.model.proofs.Verdicts.{tests_pass, tests_met}
 use Rattle.writer.specs.Writing.{heading}
 use Rattle.writer.proofs.Outcome.{refused_given, refused_room, written_out}
-use borrow.Author.Rules.{rules}
 use Rattle.writer.proofs.writer.write_grammar.Goals as goal
 
 pub returns-in-Met : goal.returns-in-Met
