@@ -1,12 +1,13 @@
 -- The calendar: months make up years and years the span, and a number has one date, a date one number (`both_ways`).
 -- Assumes nothing.
+use Rattle.std.specs.Prelude.{if◌then◌else◌}
 use mathlib.Core.Path.{◌≡◌, refl, sym, ap, ap₂, ◌∙◌}
 use mathlib.Core.Bool.{Bool, true, false, ◌||◌}
 use Prim.Native.Nat.{ℕ, zero, suc, ◌+◌, ◌*◌, ◌-◌, ◌<◌, ◌≤◌}
 use native.Mathlib.Omega.{arith}
 use lib.Dec.{eqb}
 use borrow.Author.Tests.{le-leb, leb-true}
-use Rattle.model.specs.Base.{if◌then◌else◌, sum_below}
+use Rattle.model.specs.Base.{sum_below}
 use Rattle.model.proofs.Tests.{both_true}
 use Rattle.calendar.specs.declared.Date.{Date}
 use Rattle.calendar.specs.Calendar.{date, leap, length_in, year_length, month_length, first_year, last_year, years, days, is_date, days_of_year, days_of_years, days_of_month, days_of_months, day_number, Passed, years_passed, months_passed, date_in, date_of, BothWays}

@@ -1,12 +1,12 @@
 -- The date after a date has the next number, so that the numbers count the days (`days_counted`).
 -- Assumes nothing.
+use Rattle.std.specs.Prelude.{if◌then◌else◌}
 use mathlib.Core.Path.{◌≡◌, refl, sym, ap, ◌∙◌}
 use mathlib.Core.Bool.{Bool, true, false}
 use Prim.Native.Nat.{ℕ, suc, ◌+◌, ◌-◌, ◌<◌, ◌≤◌}
 use native.Mathlib.Omega.{arith}
 use lib.Dec.{ltb}
 use borrow.Author.Tests.{ltb-true, ltb-false}
-use Rattle.model.specs.Base.{if◌then◌else◌}
 use Rattle.calendar.specs.declared.Date.{Date}
 use Rattle.calendar.specs.Calendar.{date, leap, year_length, month_length, first_year, last_year, years, days, days_of_years, days_of_months, day_number, date_of, first_of, next_date, DaysCounted}
 use Rattle.calendar.proofs.Calendar.{Is, months_sum, years_sum, length_within, month_more, dated_is, dated_number, year_is, same_date}

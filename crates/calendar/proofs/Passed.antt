@@ -1,5 +1,6 @@
 -- Years or months one after the other: a day lies in one of them, at one place.
 -- Assumes nothing.
+use Rattle.std.specs.Prelude.{if◌then◌else◌}
 use mathlib.Core.Path.{◌≡◌, refl, sym, ap, ◌∙◌}
 use mathlib.Core.Bool.{Bool, true, false}
 use Prim.Native.Nat.{ℕ, zero, suc, ◌+◌, ◌-◌, ◌<◌, ◌≤◌}
@@ -7,7 +8,7 @@ use native.Mathlib.Omega.{arith}
 use native.Mathlib.Nat.{add-suc, suc-add, add-zero, zero-add}
 use lib.Dec.{ltb}
 use borrow.Author.Tests.{ltb-true, ltb-false}
-use Rattle.model.specs.Base.{if◌then◌else◌, sum_below}
+use Rattle.model.specs.Base.{sum_below}
 use Rattle.model.proofs.Sums.{sum_rises}
 use Rattle.calendar.specs.Calendar.{Passed, passed_from}
 

@@ -1,8 +1,8 @@
 -- The Gregorian calendar by its rule, with no table (document 02, paper 3): leap years, the lengths of months and years, the number of a date as a sum over years
 -- and months, and the date of a number.
 -- Assumes nothing.
-use Rattle.std.specs.Prelude.{◌≡◌, ℕ, zero, suc, ◌+◌, ◌-◌, ◌%◌, ◌<◌, Bool, true, ◌&&◌, ◌||◌, not, eqb, ltb, leb}
-use Rattle.model.specs.Base.{if◌then◌else◌, sum_below}
+use Rattle.std.specs.Prelude.{◌≡◌, ℕ, zero, suc, ◌+◌, ◌-◌, ◌%◌, ◌<◌, Bool, true, ◌&&◌, ◌||◌, not, eqb, ltb, leb, if◌then◌else◌}
+use Rattle.model.specs.Base.{sum_below}
 use Rattle.calendar.specs.declared.Date.{Date}
 
 -- the date of a year, a month and a day

@@ -1,12 +1,12 @@
 -- Months after months: twelve make a year.
 -- Assumes nothing.
+use Rattle.std.specs.Prelude.{if◌then◌else◌}
 use mathlib.Core.Path.{◌≡◌, refl}
 use mathlib.Core.Bool.{Bool, true, false}
 use Prim.Native.Nat.{ℕ, zero, suc, ◌+◌, ◌*◌, ◌≤◌}
 use native.Mathlib.Omega.{arith}
 use lib.Dec.{ltb}
 use borrow.Author.Tests.{ltb-true, ltb-false}
-use Rattle.model.specs.Base.{if◌then◌else◌}
 use Rattle.calendar.specs.Calendar.{Month, next_month}
 use Rattle.dates.specs.Dates.{month_after}
 

@@ -1,10 +1,10 @@
 -- The day a deposit opens (document 02, paper 3): the opening day, the refusals in their order, the outcome of each call, and what is proved of them.
 -- Assumes nothing.
-use Rattle.std.specs.Prelude.{◌≡◌, ℕ, zero, suc, min, ◌<◌, ◌≤◌, Bool, true, false, not, List, [], ◌∷◌, ltb, leb}
+use Rattle.std.specs.Prelude.{◌≡◌, ℕ, zero, suc, min, ◌<◌, ◌≤◌, Bool, true, false, not, List, [], ◌∷◌, ltb, leb, if◌then◌else◌}
 use Rattle.std.proofs.Math.Option.{Option, none, some}
 use Rattle.model.specs.declared.Refusal.{Refusal}
 use Rattle.model.specs.declared.Verdict.{Verdict}
-use Rattle.model.specs.Base.{if◌then◌else◌, ◌or_else◌}
+use Rattle.model.specs.Base.{◌or_else◌}
 use Rattle.model.specs.Verdict.{refuse_if, verdict, Answer, values, refusal_answer, verdict_answer}
 use Rattle.model.specs.Refusals.{Test, of_desk, ◌and_then◌}
 use Rattle.model.specs.Demands.{◌⇔◌, Decided}

@@ -1,5 +1,6 @@
 -- Tables that grow: forms are only appended, and a part of a round after another.
 -- Assumes nothing.
+use Rattle.std.specs.Prelude.{if◌then◌else◌}
 use mathlib.Core.Path.{◌≡◌, refl, sym, ap, ap₂, subst, ◌∙◌}
 use mathlib.Core.Logic.{◌⊎◌, inl, inr}
 use mathlib.Core.Bool.{Bool, true, false, ◌||◌}
@@ -10,7 +11,7 @@ use native.Mathlib.Numerals.{add-one}
 use lib.Dec.{ltb}
 use lib.ListN.{length, take, length-append, get_or-append}
 use lib.Seq.{take_at, take-suc, take_all}
-use Rattle.model.specs.Base.{if◌then◌else◌, each, numbers_from}
+use Rattle.model.specs.Base.{each, numbers_from}
 use Rattle.model.proofs.Lists.{each_append, map_append, numbers_next}
 use Rattle.minimalist.specs.Lexicon.{Entry, entry_of, entry_bytes, lexicon_of}
 use Rattle.minimalist.specs.Schemes.{Form, merge_scheme, move_scheme, lexical_form}

@@ -1,5 +1,6 @@
 -- A table with one form more: that of a row, of a merge, of a move, of an entry.
 -- Assumes nothing.
+use Rattle.std.specs.Prelude.{if◌then◌else◌}
 use mathlib.Core.Path.{◌≡◌, refl, sym, subst, ◌∙◌}
 use mathlib.Core.Bool.{Bool, true, false, ◌&&◌}
 use mathlib.Core.Option.{Option, none, some}
@@ -9,7 +10,6 @@ use native.Mathlib.Omega.{arith}
 use lib.Dec.{eqb}
 use lib.ListN.{length, get_or, drop, length-map}
 use borrow.Author.Tests.{eqb-true}
-use Rattle.model.specs.Base.{if◌then◌else◌}
 use Rattle.model.proofs.Tests.{none_some, or_r, some_one}
 use Rattle.minimalist.specs.Lexicon.{selects, is_licensor, entry_of}
 use Rattle.minimalist.specs.Schemes.{Form, Instance, merge_by, merge_if, merge_scheme, how_many_begin, moving_after, move_by, move_if, move_scheme, no_features, wrong_moving, left_out, lexical_form}

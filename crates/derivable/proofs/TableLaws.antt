@@ -1,5 +1,6 @@
 -- A table of forms: finding a form by its row, and adding one.
 -- Assumes nothing.
+use Rattle.std.specs.Prelude.{if◌then◌else◌}
 use mathlib.Core.Path.{◌≡◌, refl, sym, ap, ap₂, subst, ◌∙◌}
 use mathlib.Core.Bool.{Bool, true, false, ◌||◌}
 use mathlib.Core.List.{List, [], ◌∷◌, ◌++◌}
@@ -11,7 +12,7 @@ use lib.Dec.{T, ltb, leb-suc-suc}
 use lib.ListN.{length, get_or, set, length-append, get_or-append}
 use lib.Seq.{get_or-append_seam, ext_get_or, get_or-set_same, get_or-set_other}
 use borrow.Author.Tests.{lt-ltb, le-ltb}
-use Rattle.model.specs.Base.{if◌then◌else◌, same_list}
+use Rattle.model.specs.Base.{same_list}
 use Rattle.model.proofs.Tests.{not_both, passes, list_same, same_list_lem}
 use Rattle.model.proofs.ByteLists.{fields_same, fields_length, fields_at}
 use Rattle.minimalist.specs.Schemes.{Form, wrong_moving}

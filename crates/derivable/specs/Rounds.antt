@@ -1,7 +1,7 @@
 -- What the rounds do to a table of forms.
 -- Assumes nothing.
-use Rattle.std.specs.Prelude.{◌≡◌, List, [], ◌∷◌, ◌++◌, ℕ, ◌≤◌, take}
-use Rattle.model.specs.Base.{if◌then◌else◌, each}
+use Rattle.std.specs.Prelude.{◌≡◌, List, [], ◌∷◌, ◌++◌, ℕ, ◌≤◌, take, if◌then◌else◌}
+use Rattle.model.specs.Base.{each}
 use Rattle.minimalist.specs.Lexicon.{Entry, entry_of, lexicon_of}
 use Rattle.minimalist.specs.Schemes.{Form, merge_scheme, move_scheme, left_out, lexical_form}
 use Rattle.minimalist.specs.Closure.{add_form, add_forms, result_of, results_of, forms_after, forms_of}

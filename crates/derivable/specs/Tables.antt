@@ -1,7 +1,7 @@
 -- A table of forms: their rows one after another.
 -- Assumes nothing.
-use Rattle.std.specs.Prelude.{◌≡◌, false, List, [], ℕ, zero, suc, ◌+◌, ◌*◌, ◌<◌, ◌≤◌, length, get_or}
-use Rattle.model.specs.Base.{if◌then◌else◌, same_list}
+use Rattle.std.specs.Prelude.{◌≡◌, false, List, [], ℕ, zero, suc, ◌+◌, ◌*◌, ◌<◌, ◌≤◌, length, get_or, if◌then◌else◌}
+use Rattle.model.specs.Base.{same_list}
 use Rattle.model.specs.GrammarFile.{fields}
 use Rattle.minimalist.specs.Schemes.{Form, wrong_moving}
 use Rattle.minimalist.specs.Closure.{add_form}

@@ -1,5 +1,6 @@
 -- Two records that pass 6 to 9 agree byte by byte under an order of the daughters just if the rules that they hold do.
 -- Assumes nothing.
+use Rattle.std.specs.Prelude.{if◌then◌else◌}
 use mathlib.Core.Path.{◌≡◌, refl, sym, ap, ap₂, subst, ◌∙◌}
 use mathlib.Core.Logic.{◌⊎◌, inl, inr}
 use mathlib.Core.Bool.{Bool}
@@ -11,7 +12,7 @@ use borrow.Author.Tests.{eq-eqb}
 use lib.Dec.{T, ltb, eqb, eqb→eq}
 use lib.ListN.{length, get_or, drop, length-map}
 use lib.Seq.{get_or-drop, ext_get_or}
-use Rattle.model.specs.Base.{if◌then◌else◌, numbers_from, any_of, same_list, total}
+use Rattle.model.specs.Base.{numbers_from, any_of, same_list, total}
 use Rattle.model.specs.WellFormed.{Perm}
 use Rattle.model.specs.GrammarFile.{fields, field, daughters_of, renumbered, same_record, same_frame, same_daughters, same_variables, same_in_order, other_orders, same_reordered, sequences, rule_of}
 use Rattle.model.proofs.Tests.{and_l, and_r, and_both, or_left, or_right, or_cases, all_true, all_by, list_same, same_list_lem}

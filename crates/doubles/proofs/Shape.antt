@@ -1,5 +1,6 @@
 -- What 6 to 9 say of the bytes of a record that none of them meets: which of them are in use, and that all others are 0.
 -- Assumes nothing.
+use Rattle.std.specs.Prelude.{if◌then◌else◌}
 use mathlib.Core.Path.{◌≡◌, sym, subst, ◌∙◌}
 use mathlib.Core.Bool.{true, false}
 use mathlib.Core.List.{List, ◌++◌, map, Memᴰ}
@@ -10,7 +11,7 @@ use borrow.Author.Tests.{lt-ltb, le-ltb}
 use lib.Dec.{T, eqb}
 use lib.ListN.{length, get_or, drop}
 use lib.Seq.{get_or-drop}
-use Rattle.model.specs.Base.{if◌then◌else◌, total}
+use Rattle.model.specs.Base.{total}
 use Rattle.model.specs.Grammar.{Grammar, Variable, is_lexical}
 use Rattle.model.specs.GrammarFile.{all_zero, fields, field, has_daughters, dimension_in, daughters_of, variables, unused_bytes, decoded, sequences, rule_of}
 use Rattle.model.specs.WellFormed.{named}

@@ -1,5 +1,6 @@
 -- The row of a merge, byte by byte.
 -- Assumes nothing.
+use Rattle.std.specs.Prelude.{if◌then◌else◌}
 use mathlib.Core.Path.{◌≡◌, refl, sym, ap, ap₂, ◌∙◌}
 use mathlib.Core.Bool.{Bool, true, false}
 use mathlib.Core.List.{List, [], ◌∷◌, ◌++◌}
@@ -10,7 +11,6 @@ use lib.Dec.{ltb, leb}
 use lib.ListN.{length, get_or, drop, length-append, length-drop, get_or-append, get_or-eq_default}
 use lib.Seq.{get_or-append-add, get_or-drop}
 use borrow.Author.Tests.{lt-ltb, le-ltb, le-leb, lt-leb, eq-eqb, ne_eqb}
-use Rattle.model.specs.Base.{if◌then◌else◌}
 use Rattle.minimalist.specs.Lexicon.{selects}
 use Rattle.minimalist.specs.Schemes.{Form, merge_if, merge_scheme}
 use Rattle.forms.specs.Rows.{flag, head_byte, row_byte, row_of, Small, rest_byte, going_byte, late_byte, merge_byte, FilledBy, merge_number, MergeIs, SaysMerge}

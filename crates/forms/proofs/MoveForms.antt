@@ -1,5 +1,6 @@
 -- What a move of a row says of the form.
 -- Assumes nothing.
+use Rattle.std.specs.Prelude.{if◌then◌else◌}
 use mathlib.Core.Path.{◌≡◌, refl, sym, ap, ap₂, subst, ◌∙◌}
 use mathlib.Core.Bool.{Bool, true, false}
 use mathlib.Core.List.{List, [], ◌∷◌, map}
@@ -10,7 +11,7 @@ use lib.Dec.{ltb, eqb}
 use lib.ListN.{length, get_or, drop, length-drop, length-map, get_or-eq_default}
 use lib.Seq.{get_or-drop}
 use borrow.Author.Tests.{lt-ltb, le-ltb, eq-eqb, ne_eqb}
-use Rattle.model.specs.Base.{if◌then◌else◌, occurrences}
+use Rattle.model.specs.Base.{occurrences}
 use Rattle.model.proofs.Tests.{not_both}
 use Rattle.minimalist.specs.Lexicon.{is_licensor}
 use Rattle.minimalist.specs.Schemes.{Form, how_many_begin, left_over, moving_after, move_if, move_scheme}

@@ -1,5 +1,6 @@
 -- The rows of an entry's form and of the wanted category's, byte by byte; and what is left out, by the first bytes of the moving chains.
 -- Assumes nothing.
+use Rattle.std.specs.Prelude.{if◌then◌else◌}
 use mathlib.Core.Path.{◌≡◌, refl, sym, ap, ap₂, ◌∙◌}
 use mathlib.Core.Bool.{Bool, true, false, ◌||◌, not}
 use mathlib.Core.List.{List, [], ◌∷◌, map}
@@ -12,7 +13,7 @@ use lib.ListN.{length, get_or, length-map, get_or-eq_default, get_or-map}
 use lib.Seq.{ext_get_or}
 use borrow.Author.Tests.{lt-ltb, le-ltb, eq-eqb, ne_eqb}
 use Rattle.minimalist.proofs.Entries.{features_at}
-use Rattle.model.specs.Base.{if◌then◌else◌, numbers_from}
+use Rattle.model.specs.Base.{numbers_from}
 use Rattle.model.specs.GrammarFile.{fields}
 use Rattle.model.proofs.Lists.{length_numbers}
 use Rattle.minimalist.specs.Lexicon.{is_licensee, before_zero, entry_of}

@@ -1,9 +1,9 @@
 -- A form as a row of 64 bytes: 8 cells of 8. Cell 0 is the head's: its features in bytes 0 to 5, byte 6 is 1 if the form is lexical, byte 7 says how
 -- many chains move. Cells 1 to 7 are the moving chains'. A byte past the features is 0.
 -- Assumes nothing.
-use Rattle.std.specs.Prelude.{◌≡◌, Bool, true, false, ◌||◌, not, List, [], ◌∷◌, map, ℕ, zero, suc, ◌+◌, ◌-◌, ◌*◌, ◌≤◌, ◌<◌, ◌/◌, ◌%◌, ltb, leb, eqb, length, get_or, drop}
+use Rattle.std.specs.Prelude.{◌≡◌, Bool, true, false, ◌||◌, not, List, [], ◌∷◌, map, ℕ, zero, suc, ◌+◌, ◌-◌, ◌*◌, ◌≤◌, ◌<◌, ◌/◌, ◌%◌, ltb, leb, eqb, length, get_or, drop, if◌then◌else◌}
 use Rattle.std.proofs.Math.Option.{Option, none, some}
-use Rattle.model.specs.Base.{if◌then◌else◌, numbers_from}
+use Rattle.model.specs.Base.{numbers_from}
 use Rattle.minimalist.specs.Lexicon.{is_licensee}
 use Rattle.minimalist.specs.Schemes.{Form, Instance, left_out, merge_scheme, move_scheme}
 

@@ -2,6 +2,7 @@
 -- model/proofs/FromFile), its category, its word and its weight are the fields as they stand, and it has as many daughters as the field says (`daughters_length`,
 -- model/proofs/RuleFromRecord). Here: its daughters; its components, of which those that it lacks have length 0.
 -- Assumes nothing.
+use Rattle.std.specs.Prelude.{if◌then◌else◌}
 use mathlib.Core.Path.{◌≡◌, refl, sym, ap, ap₂, ◌∙◌}
 use mathlib.Core.Bool.{Bool}
 use mathlib.Core.Option.{none}
@@ -13,7 +14,7 @@ use borrow.Author.Tests.{lt-ltb, le-ltb}
 use lib.Dec.{T, eqb}
 use lib.ListN.{length, get_or, get_elem?, take, drop, get_or-eq_default}
 use lib.Seq.{drop-drop}
-use Rattle.model.specs.Base.{if◌then◌else◌, sum_below, numbers_from}
+use Rattle.model.specs.Base.{sum_below, numbers_from}
 use Rattle.model.specs.Grammar.{Rule, rule_at, dimension}
 use Rattle.model.specs.GrammarFile.{fields, field, all_zero, lengths_of, variables, dimension_in, dimensions_of, rules_of, record_of, unused_bytes, grammar_refusal, decoded, sequences, rule_of, grammar_of}
 use Rattle.model.proofs.Tests.{not_off, every_left, every_right}

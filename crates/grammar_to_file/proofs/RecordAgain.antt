@@ -1,5 +1,6 @@
 -- A record that refusals 6 to 9 do not meet is the record of the rule that it holds.
 -- Assumes nothing.
+use Rattle.std.specs.Prelude.{if◌then◌else◌}
 use mathlib.Core.Path.{◌≡◌, refl, ap, ap₂, sym, subst, ◌∙◌}
 use mathlib.Core.Bool.{Bool, true, false}
 use mathlib.Core.List.{List, [], ◌∷◌, ◌++◌, map}
@@ -10,7 +11,7 @@ use lib.Dec.{T, eqb}
 use lib.ListN.{length, get_or, take, drop, length-map, length-take, length-drop, get_or-eq_default}
 use lib.Seq.{ext_get_or}
 use borrow.Author.Tests.{lt-ltb, le-ltb}
-use Rattle.model.specs.Base.{if◌then◌else◌, total}
+use Rattle.model.specs.Base.{total}
 use Rattle.model.specs.Grammar.{Variable, Rule, Grammar, is_lexical}
 use Rattle.model.specs.WellFormed.{named}
 use Rattle.model.specs.GrammarFile.{all_zero, fields, field, daughters_of, has_daughters, word_of, dimension_in, lengths_of, variables, unused_bytes, unused_set, decoded, sequences, rule_of}

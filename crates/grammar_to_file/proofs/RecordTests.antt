@@ -1,5 +1,6 @@
 -- Refusals 6 to 9 do not meet the record of a right rule, and it holds that rule.
 -- Assumes nothing.
+use Rattle.std.specs.Prelude.{if◌then◌else◌}
 use mathlib.Core.Path.{◌≡◌, refl, ap, ap₂, sym, subst, ◌∙◌}
 use mathlib.Core.Logic.{◌⊎◌, inl, inr, ⊎_elim}
 use mathlib.Core.Bool.{Bool, true, false, ◌&&◌, ◌||◌, not}
@@ -12,7 +13,7 @@ use lib.Dec.{T, ltb, leb, eqb}
 use lib.ListN.{length, get_or, take, drop, length-append, length-map, take-append-drop}
 use lib.Seq.{take_at, drop_at, take-take}
 use borrow.Author.Tests.{eq-eqb, ne_eqb, lt-leb, le-ltb, lt-ltb}
-use Rattle.model.specs.Base.{if◌then◌else◌, numbers_from, any_below, all_below, occurrences, total}
+use Rattle.model.specs.Base.{numbers_from, any_below, all_below, occurrences, total}
 use Rattle.model.specs.Grammar.{Variable, Rule, Grammar, dimension, is_lexical, variable, empty_word}
 use Rattle.model.specs.WellFormed.{Perm, same, more, swap, chain, daughter_variables, named, RightRule, InRange, WellFormed}
 use Rattle.model.specs.GrammarFile.{all_zero, fields, field, has_daughters, word_of, dimension_in, lengths_of, variables, wrong_category, wrong_word, each_once, wrong_variables, unused_bytes, unused_set, decoded, sequences, rule_of}

@@ -1,5 +1,6 @@
 -- The grammar of a file that the reader accepts can be stored, and its file is that file.
 -- Assumes nothing.
+use Rattle.std.specs.Prelude.{if◌then◌else◌}
 use mathlib.Core.Path.{◌≡◌, refl, ap, ap₂, sym, subst, ◌∙◌}
 use mathlib.Core.Bool.{Bool, true, false}
 use mathlib.Core.Option.{none}
@@ -10,7 +11,7 @@ use native.Mathlib.Decide.{dec_lt}
 use lib.Dec.{T}
 use lib.ListN.{length, get_or, get_or-eq_default}
 use borrow.Author.Tests.{lt-ltb, le-ltb}
-use Rattle.model.specs.Base.{if◌then◌else◌, each, numbers_from}
+use Rattle.model.specs.Base.{each, numbers_from}
 use Rattle.model.specs.Grammar.{Rule, Grammar, is_lexical}
 use Rattle.model.specs.GrammarFile.{all_zero, fields, field, daughters_of, word_of, dimension_in, dimensions_of, words_of, rules_of, record_place, record_of, lengths_of, variables, sequences, rule_of, grammar_refusal, grammar_of, categories_of, start_of}
 use Rattle.model.specs.Writer.{all_bytes, padded, heading_of, file_of}

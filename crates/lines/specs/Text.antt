@@ -1,11 +1,10 @@
 -- What code says of text that it writes into a buffer, and the first line of what the program prints.
 -- Assumes nothing.
-use Rattle.std.specs.Prelude.{◌≡◌, Bool, List, [], ◌∷◌, ℕ, ◌+◌, ◌≤◌, length}
+use Rattle.std.specs.Prelude.{◌≡◌, Bool, List, [], ◌∷◌, ℕ, ◌+◌, ◌≤◌, length, if◌then◌else◌}
 use Rattle.std.proofs.Math.Option.{some}
 use Rattle.std.proofs.lemmas.List.Edits.{sets}
 use Rattle.model.specs.declared.CountVerdict.{CountVerdict}
 use Rattle.model.specs.declared.CountVerdict.TheVariants.{Counted, NotCounted}
-use Rattle.model.specs.Base.{if◌then◌else◌}
 use Rattle.model.specs.Program.{blank, newline, line, printed}
 
 -- l is written at a place of the buffer and nothing else is; r is the place after it, and the buffer goes at least so far

@@ -1,11 +1,12 @@
 -- From live prefix to live prefix up to the next entry: the entries after a list are the complete ones of the live prefixes after it.
 -- Assumes nothing.
+use Rattle.std.specs.Prelude.{if◌then◌else◌}
 use mathlib.Core.Path.{◌≡◌, refl, sym, ap, subst, ◌∙◌}
 use mathlib.Core.Bool.{Bool, true, false}
 use mathlib.Core.List.{List, [], ◌∷◌}
 use Prim.Native.Nat.{ℕ, ◌<◌}
 use lib.ListN.{length, take}
-use Rattle.model.specs.Base.{if◌then◌else◌, keep}
+use Rattle.model.specs.Base.{keep}
 use Rattle.model.specs.Grammar.{Grammar}
 use Rattle.model.specs.Step.{before}
 use Rattle.model.specs.Trace.{no_node}

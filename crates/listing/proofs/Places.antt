@@ -1,5 +1,6 @@
 -- Lists of rule numbers in dictionary order have places, which grow: fewer lists come after the later of two, whatever the grammar is.
 -- Assumes nothing.
+use Rattle.std.specs.Prelude.{if◌then◌else◌}
 use mathlib.Core.Path.{◌≡◌, refl, ap, subst}
 use mathlib.Core.Logic.{◌⊎◌, inl, inr}
 use mathlib.Core.Bool.{Bool, true, false, ◌&&◌}
@@ -8,7 +9,7 @@ use Prim.Native.Nat.{ℕ, zero, suc, ◌+◌, ◌-◌, ◌*◌, ◌<◌, ◌≤�
 use native.Mathlib.Nat.{mul-le-mul_right}
 use native.Mathlib.Omega.{arith}
 use lib.Dec.{T, eqb, ltb, eqb→eq, ltb→lt}
-use Rattle.model.specs.Base.{if◌then◌else◌, keep, every}
+use Rattle.model.specs.Base.{keep, every}
 use Rattle.model.specs.Step.{before}
 use Rattle.model.proofs.Tests.{and_l, and_r, or_cases, and_both}
 use Rattle.ranking.specs.Recognizer.{Recognizer}

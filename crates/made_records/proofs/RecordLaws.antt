@@ -1,5 +1,6 @@
 -- The bytes put are those of the rule's record, and records one after another.
 -- Assumes nothing.
+use Rattle.std.specs.Prelude.{if◌then◌else◌}
 use mathlib.Core.Path.{◌≡◌, refl, sym, ap, ◌∙◌}
 use mathlib.Core.Bool.{Bool, true, false}
 use mathlib.Core.List.{List, [], ◌∷◌, ◌++◌, append-nil}
@@ -10,7 +11,7 @@ use lib.Dec.{ltb, eqb}
 use lib.ListN.{length, get_or, set, take, length-append, get_or-append}
 use lib.Seq.{get_or-set_same, get_or-set_other, ext_get_or, get_or-take, length-take-le}
 use borrow.Author.Tests.{lt-ltb, le-ltb}
-use Rattle.model.specs.Base.{if◌then◌else◌, each, numbers_from}
+use Rattle.model.specs.Base.{each, numbers_from}
 use Rattle.model.specs.Grammar.{Rule, variable, nonlexical}
 use Rattle.model.proofs.Lists.{each_append}
 use Rattle.model.proofs.ByteLists.{joined_at, after_front}

@@ -1,7 +1,7 @@
 -- The rules of the made grammar by their kinds, as rules and as records; and records one after another.
 -- Assumes nothing.
-use Rattle.std.specs.Prelude.{◌≡◌, List, [], ◌∷◌, ◌++◌, ℕ, suc, ◌+◌, ◌-◌, ◌*◌, ◌/◌, ◌%◌, ◌<◌, ◌≤◌, ltb, leb, eqb, length, get_or, take}
-use Rattle.model.specs.Base.{if◌then◌else◌, each}
+use Rattle.std.specs.Prelude.{◌≡◌, List, [], ◌∷◌, ◌++◌, ℕ, suc, ◌+◌, ◌-◌, ◌*◌, ◌/◌, ◌%◌, ◌<◌, ◌≤◌, ltb, leb, eqb, length, get_or, take, if◌then◌else◌}
+use Rattle.model.specs.Base.{each}
 use Rattle.model.specs.Grammar.{Variable, Rule, variable, lexical, nonlexical}
 use Rattle.grammar_to_file.specs.FileFor.{record_for}
 use Rattle.minimalist.specs.Schemes.{singles, joined_variables}

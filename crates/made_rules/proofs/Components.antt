@@ -1,5 +1,6 @@
 -- The components of an instance of a scheme, by the scheme's number and how many chains move.
 -- Assumes nothing.
+use Rattle.std.specs.Prelude.{if◌then◌else◌}
 use mathlib.Core.Path.{◌≡◌, refl, sym, ap, ap₂, subst, ◌∙◌}
 use mathlib.Core.Bool.{Bool, true, false, ◌&&◌}
 use mathlib.Core.Option.{none, some}
@@ -9,7 +10,6 @@ use native.Mathlib.Omega.{arith}
 use lib.Dec.{eqb}
 use lib.ListN.{length, get_or, drop, length-map}
 use borrow.Author.Tests.{eqb-true}
-use Rattle.model.specs.Base.{if◌then◌else◌}
 use Rattle.model.specs.Grammar.{Variable, variable}
 use Rattle.model.proofs.Tests.{none_some, not_both, some_one}
 use Rattle.minimalist.specs.Lexicon.{selects, is_licensor}

@@ -1,5 +1,6 @@
 -- The dimensions of the made grammar's categories.
 -- Assumes nothing.
+use Rattle.std.specs.Prelude.{if◌then◌else◌}
 use mathlib.Core.Path.{◌≡◌, refl, sym, ap, ◌∙◌}
 use mathlib.Core.List.{List, [], ◌∷◌, map}
 use Prim.Native.Nat.{ℕ, zero, suc, ◌+◌, ◌-◌, ◌%◌, ◌<◌}
@@ -9,7 +10,6 @@ use lib.Dec.{ltb}
 use lib.ListN.{length, get_or, length-map, get_or-eq_default}
 use lib.Seq.{ext_get_or}
 use borrow.Author.Tests.{lt-ltb, le-ltb, ne_eqb}
-use Rattle.model.specs.Base.{if◌then◌else◌}
 use Rattle.model.specs.Writer.{padded}
 use Rattle.model.proofs.ByteLists.{padded_length, padded_at}
 use Rattle.minimalist.specs.Schemes.{Form, form_dimension}

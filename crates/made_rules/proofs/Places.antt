@@ -1,12 +1,13 @@
 -- The place of a form by its row, and of a form that stands once.
 -- Assumes nothing.
+use Rattle.std.specs.Prelude.{if◌then◌else◌}
 use mathlib.Core.Path.{◌≡◌, sym, ap}
 use mathlib.Core.Bool.{Bool, true, false}
 use mathlib.Core.List.{List, [], ◌∷◌}
 use Prim.Native.Nat.{ℕ, zero, suc, ◌+◌, ◌<◌, ◌≤◌}
 use native.Mathlib.Omega.{arith}
 use lib.ListN.{length}
-use Rattle.model.specs.Base.{if◌then◌else◌, same_list}
+use Rattle.model.specs.Base.{same_list}
 use Rattle.model.proofs.Tests.{passes, fails}
 use Rattle.model.proofs.Lists.{mem_get_d}
 use Rattle.minimalist.specs.Once.{Once}

@@ -1,7 +1,7 @@
 -- What the functions that add rules do to the records, and the dimensions.
 -- Assumes nothing.
-use Rattle.std.specs.Prelude.{◌≡◌, Bool, List, [], ◌∷◌, ◌++◌, map, ℕ, ◌+◌, ◌-◌, ◌%◌, ltb, eqb, get_or, take}
-use Rattle.model.specs.Base.{if◌then◌else◌, each}
+use Rattle.std.specs.Prelude.{◌≡◌, Bool, List, [], ◌∷◌, ◌++◌, map, ℕ, ◌+◌, ◌-◌, ◌%◌, ltb, eqb, get_or, take, if◌then◌else◌}
+use Rattle.model.specs.Base.{each}
 use Rattle.model.specs.Writer.{padded}
 use Rattle.minimalist.specs.Once.{Once}
 use Rattle.minimalist.specs.Lexicon.{entry_of, lexicon_of}

@@ -1,5 +1,6 @@
 -- From what the parts of the call say to its outcome.
 -- Assumes nothing.
+use Rattle.std.specs.Prelude.{if◌then◌else◌}
 use mathlib.Core.Path.{◌≡◌, refl, ap, ap₂, sym, subst, ◌∙◌}
 use mathlib.Core.Bool.{Bool, true, false, ◌||◌}
 use mathlib.Core.Option.{none}
@@ -11,7 +12,7 @@ use lib.ListN.{length, take, drop, length-map, length-append}
 use borrow.Author.Tests.{ltb-true, ltb-false, lt-ltb, le-ltb, eq-eqb}
 use Rattle.model.specs.declared.Refusal.{Refusal}
 use Rattle.model.specs.declared.Verdict.{Verdict}
-use Rattle.model.specs.Base.{if◌then◌else◌, each}
+use Rattle.model.specs.Base.{each}
 use Rattle.model.specs.GrammarFile.{blocks_for}
 use Rattle.model.specs.Writer.{all_bytes, padded, file_of}
 use Rattle.model.proofs.Tests.{not_both}

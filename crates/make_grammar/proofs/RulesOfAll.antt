@@ -1,5 +1,6 @@
 -- The records of the new start's rules, of the entries' and of the schemes', one after another, are those of all rules.
 -- Assumes nothing.
+use Rattle.std.specs.Prelude.{if◌then◌else◌}
 use mathlib.Core.Path.{◌≡◌, ap, sym, subst, ◌∙◌}
 use mathlib.Core.Bool.{Bool, true, false}
 use mathlib.Core.List.{List, map}
@@ -8,7 +9,6 @@ use native.Mathlib.Omega.{arith}
 use lib.Dec.{ltb, eqb}
 use lib.ListN.{length, take, length-map}
 use borrow.Author.Tests.{ne_eqb, eq-eqb}
-use Rattle.model.specs.Base.{if◌then◌else◌}
 use Rattle.model.specs.Grammar.{Rule}
 use Rattle.minimalist.specs.Lexicon.{Entry, lexicon_of}
 use Rattle.minimalist.specs.Schemes.{Form}

@@ -1,9 +1,9 @@
 -- What the parts of the call that makes a grammar do, whatever forms the table holds.
 -- Assumes nothing.
-use Rattle.std.specs.Prelude.{◌≡◌, true, false, List, ◌∷◌, ◌++◌, map, ℕ, suc, ◌*◌, ◌≤◌, ltb, eqb, length, take, drop}
+use Rattle.std.specs.Prelude.{◌≡◌, true, false, List, ◌∷◌, ◌++◌, map, ℕ, suc, ◌*◌, ◌≤◌, ltb, eqb, length, take, drop, if◌then◌else◌}
 use Rattle.model.specs.declared.Refusal.{Refusal}
 use Rattle.model.specs.declared.Verdict.{Verdict}
-use Rattle.model.specs.Base.{if◌then◌else◌, each}
+use Rattle.model.specs.Base.{each}
 use Rattle.model.specs.GrammarFile.{blocks_for}
 use Rattle.model.specs.Writer.{Heading, padded, file_of}
 use Rattle.grammar_to_file.specs.FileFor.{record_for}

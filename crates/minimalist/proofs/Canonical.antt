@@ -1,5 +1,6 @@
 -- The grammar in that one numbering is one made from the lexicon.
 -- Assumes nothing.
+use Rattle.std.specs.Prelude.{if◌then◌else◌}
 use mathlib.Core.Path.{◌≡◌, refl, ap, sym, subst, ◌∙◌}
 use mathlib.Core.Logic.{⊎_elim}
 use mathlib.Core.Bool.{Bool, true, false}
@@ -10,7 +11,7 @@ use Prim.Native.Nat.{ℕ, zero, suc, ◌<◌, ◌≤◌}
 use native.Mathlib.Omega.{arith}
 use lib.Dec.{T}
 use lib.ListN.{length, get_or, get_elem?, length-map}
-use Rattle.model.specs.Base.{if◌then◌else◌, each}
+use Rattle.model.specs.Base.{each}
 use Rattle.model.specs.Grammar.{Rule}
 use Rattle.model.specs.Demands.{◌⇔◌}
 use Rattle.model.proofs.Tests.{passes, none_some, not_both, some_one}

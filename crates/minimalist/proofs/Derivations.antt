@@ -1,5 +1,6 @@
 -- A tree of a made grammar derives what its derivation derives; and every derivation of a category that is not left out has a tree.
 -- Assumes nothing.
+use Rattle.std.specs.Prelude.{if◌then◌else◌}
 use mathlib.Core.Path.{◌≡◌, refl, ap, ap₂, sym, subst, ◌∙◌}
 use mathlib.Core.Logic.{⊎_elim}
 use mathlib.Core.Bool.{Bool, true, false, ◌&&◌}
@@ -10,7 +11,7 @@ use native.Mathlib.Omega.{arith}
 use lib.Dec.{T, eqb, eqb→eq}
 use lib.ListN.{length, length-append}
 use borrow.Author.Tests.{eq-eqb}
-use Rattle.model.specs.Base.{if◌then◌else◌, each, same_list}
+use Rattle.model.specs.Base.{each, same_list}
 use Rattle.model.specs.Grammar.{Rule, Grammar, rule_at}
 use Rattle.model.specs.WellFormed.{WellFormed}
 use Rattle.model.specs.Tree.{Tree, Forest, node, nil, cons, has_root, has_roots, preorder, yield, yields, yield_by, string_of, word_string}

@@ -1,5 +1,6 @@
 -- What a lexicon that 30 and 10 do not meet has: entries, none twice, whose words exist. So refusal 31 decides whether there is a file as promised.
 -- Assumes nothing.
+use Rattle.std.specs.Prelude.{if◌then◌else◌}
 use mathlib.Core.Path.{◌≡◌, refl, ap, sym, subst, ◌∙◌}
 use mathlib.Core.Logic.{◌⊎◌}
 use mathlib.Core.Bool.{Bool, true, false}
@@ -12,7 +13,7 @@ use lib.Dec.{T, eqb}
 use lib.ListN.{length, get_or, drop, length-append, get_or-eq_default}
 use lib.Seq.{ext_get_or, get_or-drop}
 use Rattle.model.specs.declared.Refusal.{Refusal}
-use Rattle.model.specs.Base.{if◌then◌else◌, first_from, numbers_from, same_list}
+use Rattle.model.specs.Base.{first_from, numbers_from, same_list}
 use Rattle.model.specs.Verdict.{refuse_if}
 use Rattle.model.specs.Grammar.{empty_word}
 use Rattle.model.specs.WellFormed.{WellFormed}

@@ -1,5 +1,6 @@
 -- The forms computed for refusal 31: where at most 63 are found they are just the derivable ones, each once; else there are 64 different derivable ones.
 -- Assumes nothing.
+use Rattle.std.specs.Prelude.{if◌then◌else◌}
 use mathlib.Core.Path.{◌≡◌, refl, ap, ap₂, sym, subst, ◌∙◌}
 use mathlib.Core.Logic.{◌⊎◌, inl, inr, ⊎_elim}
 use mathlib.Core.Bool.{Bool, true, false, ◌&&◌, ◌||◌}
@@ -11,7 +12,7 @@ use native.Mathlib.Omega.{arith}
 use lib.Dec.{T, ltb}
 use lib.ListN.{length, length-append}
 use borrow.Author.Tests.{ltb-true, ltb-false}
-use Rattle.model.specs.Base.{if◌then◌else◌, each, same_list}
+use Rattle.model.specs.Base.{each, same_list}
 use Rattle.model.specs.Demands.{◌⇔◌}
 use Rattle.model.proofs.Tests.{and_l, and_r, and_both, none_some, same_list_lem, list_same, or_cases, or_left, or_right, some_one}
 use Rattle.model.proofs.Lists.{mem_left, mem_right, each_in, each_out, map_in, map_out}

@@ -1,5 +1,6 @@
 -- What is left out cannot end in a sentence: what merge or move makes of a category that is left out would be left out too.
 -- Assumes nothing.
+use Rattle.std.specs.Prelude.{if◌then◌else◌}
 use mathlib.Core.Path.{◌≡◌, refl, ap, sym, subst, ◌∙◌}
 use mathlib.Core.Bool.{Bool, true, false, ◌&&◌, ◌||◌, not}
 use mathlib.Core.Option.{none, some}
@@ -8,7 +9,6 @@ use Prim.Native.Nat.{ℕ, ◌+◌}
 use native.Mathlib.Omega.{arith}
 use lib.Dec.{T, eqb, eqb→eq}
 use borrow.Author.Tests.{eq-eqb, ne_eqb}
-use Rattle.model.specs.Base.{if◌then◌else◌}
 use Rattle.model.proofs.Tests.{or_l, or_r, not_both, none_some, and_l, and_r, passes, within_low, or_off, some_one, within_bounds}
 use Rattle.minimalist.specs.Lexicon.{selects, is_licensor, is_licensee}
 use Rattle.minimalist.specs.Derivations.{begins}

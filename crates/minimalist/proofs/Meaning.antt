@@ -1,5 +1,6 @@
 -- The computed tests of a lexicon are what the paper says of it: feature bytes, refusals 30 and 10, and the categories that are left out.
 -- Assumes nothing.
+use Rattle.std.specs.Prelude.{if◌then◌else◌}
 use mathlib.Core.Path.{◌≡◌, refl, ap, ap₂, sym, subst, ◌∙◌}
 use mathlib.Core.Logic.{◌⊎◌, inl, inr, ⊎_elim}
 use mathlib.Core.Bool.{Bool, true, false, ◌&&◌, ◌||◌, not}
@@ -12,7 +13,7 @@ use lib.Dec.{T, leb, eqb, eqb→eq, eqb_refl}
 use lib.ListN.{length, get_or, drop, replicate}
 use lib.Seq.{drop-append_seam}
 use borrow.Author.Tests.{leb-false, lt-leb, eq-eqb, ne_eqb, eqb-false}
-use Rattle.model.specs.Base.{if◌then◌else◌, every, any_below, same_list}
+use Rattle.model.specs.Base.{every, any_below, same_list}
 use Rattle.model.specs.Grammar.{empty_word}
 use Rattle.model.specs.GrammarFile.{within, all_zero, fields}
 use Rattle.model.specs.Demands.{◌⇔◌}

@@ -1,5 +1,6 @@
 -- No rule of a made grammar is another one with its daughters in some order: refusal 10 meets no made file.
 -- Assumes nothing.
+use Rattle.std.specs.Prelude.{if◌then◌else◌}
 use mathlib.Core.Path.{◌≡◌, refl, ap, ap₂, sym, ◌∙◌}
 use mathlib.Core.Logic.{◌⊎◌, inl, inr, ⊎_elim}
 use mathlib.Core.Bool.{Bool, true, false}
@@ -10,7 +11,7 @@ use Prim.Native.Nat.{ℕ, ◌+◌, ◌≤◌}
 use native.Mathlib.Omega.{arith}
 use lib.Dec.{T, eqb, eqb→eq}
 use lib.ListN.{length, get_or}
-use Rattle.model.specs.Base.{if◌then◌else◌, numbers_from}
+use Rattle.model.specs.Base.{numbers_from}
 use Rattle.model.specs.Grammar.{Grammar}
 use Rattle.model.specs.GrammarFile.{within}
 use Rattle.model.specs.WellFormed.{WellFormed, Perm}

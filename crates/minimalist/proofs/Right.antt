@@ -1,5 +1,6 @@
 -- The grammar made from a lexicon is all that document 01 says of a grammar: dimensions from 1 to 4, and every variable of every daughter once.
 -- Assumes nothing.
+use Rattle.std.specs.Prelude.{if◌then◌else◌}
 use mathlib.Core.Path.{◌≡◌, refl, ap, ap₂, sym, subst, ◌∙◌}
 use mathlib.Core.Bool.{Bool, true, false, ◌&&◌, ◌||◌, not}
 use mathlib.Core.Option.{none, some}
@@ -10,7 +11,7 @@ use native.Mathlib.Decide.{ℕ_discrete}
 use lib.Dec.{T, eqb, eqb→eq}
 use lib.ListN.{length, length-append, length-map}
 use borrow.Author.Tests.{eq-eqb}
-use Rattle.model.specs.Base.{if◌then◌else◌, numbers_from}
+use Rattle.model.specs.Base.{numbers_from}
 use Rattle.model.specs.Grammar.{Variable, variable}
 use Rattle.model.specs.WellFormed.{Perm, same, more, swap, chain, named}
 use Rattle.model.proofs.Tests.{or_l, or_r, not_both, none_some, not_off, within_low, some_one}

@@ -1,5 +1,6 @@
 -- The grammar made from a lexicon, in that one numbering, is well-formed where 30 and 31 do not meet the lexicon.
 -- Assumes nothing.
+use Rattle.std.specs.Prelude.{if◌then◌else◌}
 use mathlib.Core.Path.{◌≡◌, refl, ap, ap₂, sym, subst, ◌∙◌}
 use mathlib.Core.Logic.{◌⊎◌, ⊎_elim}
 use mathlib.Core.Bool.{Bool, true, false}
@@ -10,7 +11,7 @@ use Prim.Native.Nat.{ℕ, zero, suc, ◌<◌, ◌≤◌}
 use native.Mathlib.Omega.{arith}
 use lib.Dec.{T}
 use lib.ListN.{length, get_or, length-map}
-use Rattle.model.specs.Base.{if◌then◌else◌, numbers_from}
+use Rattle.model.specs.Base.{numbers_from}
 use Rattle.model.specs.Grammar.{Rule, Grammar, variable, rule_at, dimension, empty_word}
 use Rattle.model.specs.WellFormed.{same, chain, daughter_variables, RightRule, InRange, WellFormed}
 use Rattle.model.specs.Demands.{◌⇔◌}

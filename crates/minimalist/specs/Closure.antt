@@ -1,9 +1,9 @@
 -- The categories derivable from the entries, found round by round; the rules in one order; refusal 31, computed. At most 64 forms are kept, one more than there is
 -- room for beside the new start.
 -- Assumes nothing.
-use Rattle.std.specs.Prelude.{Bool, true, false, ◌||◌, ◌&&◌, not, List, [], ◌∷◌, ◌++◌, map, ℕ, zero, suc, ltb, eqb, length}
+use Rattle.std.specs.Prelude.{Bool, true, false, ◌||◌, ◌&&◌, not, List, [], ◌∷◌, ◌++◌, map, ℕ, zero, suc, ltb, eqb, length, if◌then◌else◌}
 use Rattle.std.proofs.Math.Option.{Option, none, some}
-use Rattle.model.specs.Base.{if◌then◌else◌, each, same_list}
+use Rattle.model.specs.Base.{each, same_list}
 use Rattle.minimalist.specs.Lexicon.{Entry}
 use Rattle.minimalist.specs.Schemes.{Form, Instance, merge_scheme, move_scheme, left_out, lexical_form}
 use Rattle.minimalist.specs.Made.{NamedRule, start_form, start_rule, entry_rule, merge_rule, move_rule}

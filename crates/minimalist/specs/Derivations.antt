@@ -1,9 +1,9 @@
 -- Minimalist derivations (W11-0605, section 3): expressions with their strings, merge and move, and the derivations that paper 6 of document 02 counts.
 -- No grammar is named here, and no category is left out.
 -- Assumes nothing.
-use Rattle.std.specs.Prelude.{◌≡◌, Bool, true, false, ◌&&◌, ◌||◌, List, [], ◌∷◌, ◌++◌, ℕ, ◌+◌, ◌<◌, T, eqb}
+use Rattle.std.specs.Prelude.{◌≡◌, Bool, true, false, ◌&&◌, ◌||◌, List, [], ◌∷◌, ◌++◌, ℕ, ◌+◌, ◌<◌, T, eqb, if◌then◌else◌}
 use Rattle.std.proofs.Math.Option.{Option, none, some}
-use Rattle.model.specs.Base.{if◌then◌else◌, same_list}
+use Rattle.model.specs.Base.{same_list}
 use Rattle.model.specs.Tree.{word_string, string_fits}
 use Rattle.minimalist.specs.Lexicon.{Entry, selects, is_licensor}
 

@@ -1,9 +1,9 @@
 -- Lexicons of features (document 02, paper 6): the bytes of an entry, and refusals 30 and 10.
 -- Assumes nothing.
-use Rattle.std.specs.Prelude.{Bool, ◌&&◌, ◌||◌, not, List, [], ◌∷◌, map, ℕ, ◌+◌, ◌*◌, ◌/◌, ◌%◌, leb, eqb, length, get_or, drop}
+use Rattle.std.specs.Prelude.{Bool, ◌&&◌, ◌||◌, not, List, [], ◌∷◌, map, ℕ, ◌+◌, ◌*◌, ◌/◌, ◌%◌, leb, eqb, length, get_or, drop, if◌then◌else◌}
 use Rattle.std.proofs.Math.Option.{Option}
 use Rattle.model.specs.declared.Refusal.{Refusal}
-use Rattle.model.specs.Base.{if◌then◌else◌, ◌or_else◌, first_from, every, numbers_from, any_below, same_list}
+use Rattle.model.specs.Base.{◌or_else◌, first_from, every, numbers_from, any_below, same_list}
 use Rattle.model.specs.Verdict.{refuse_if}
 use Rattle.model.specs.Grammar.{empty_word}
 use Rattle.model.specs.GrammarFile.{within, all_zero, fields}

@@ -1,7 +1,6 @@
 -- One numbering of the grammar made from a lexicon: the new start is category 0, the forms follow as they are found, the rules as they are listed.
 -- Assumes nothing.
-use Rattle.std.specs.Prelude.{List, [], ◌∷◌, map, ℕ, suc}
-use Rattle.model.specs.Base.{if◌then◌else◌}
+use Rattle.std.specs.Prelude.{List, [], ◌∷◌, map, ℕ, suc, if◌then◌else◌}
 use Rattle.model.specs.Grammar.{Rule, Grammar}
 use Rattle.minimalist.specs.Lexicon.{Entry}
 use Rattle.minimalist.specs.Schemes.{Form, form_dimension}

@@ -1,9 +1,9 @@
 -- The categories of W11-0605, section 3, and its five rule schemes, as paper 6 of document 02 takes them.
 -- Assumes nothing.
-use Rattle.std.specs.Prelude.{◌≡◌, Bool, true, false, ◌&&◌, ◌||◌, not, ℕ, suc, ◌+◌, eqb, length}
+use Rattle.std.specs.Prelude.{◌≡◌, Bool, true, false, ◌&&◌, ◌||◌, not, ℕ, suc, ◌+◌, eqb, length, if◌then◌else◌}
 use Rattle.std.proofs.Math.Option.{Option, none, some}
 use mathlib.Core.List.{List, [], ◌∷◌, ◌++◌, map, Memᴰ}
-use Rattle.model.specs.Base.{if◌then◌else◌, numbers_from}
+use Rattle.model.specs.Base.{numbers_from}
 use Rattle.model.specs.Grammar.{Variable, variable}
 use Rattle.minimalist.specs.Lexicon.{Entry, selects, is_licensor, is_licensee}
 use Rattle.minimalist.specs.Derivations.{Chain, Expression, Derivation, merge, move, begins, derived}

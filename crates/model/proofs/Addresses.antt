@@ -1,5 +1,6 @@
 -- The nodes of a tree with their addresses, in order: `tree_of` of a tree's trace is the tree.
 -- Assumes nothing.
+use Rattle.std.specs.Prelude.{if◌then◌else◌}
 use mathlib.Core.Path.{◌≡◌, refl, sym, ap, subst, ◌∙◌}
 use mathlib.Core.Logic.{◌⊎◌, inl, inr}
 use mathlib.Core.Bool.{Bool, true, false}
@@ -10,7 +11,7 @@ use native.Mathlib.Omega.{arith}
 use borrow.Author.Tests.{eq-eqb}
 use lib.Dec.{T}
 use lib.ListN.{length}
-use Rattle.model.specs.Base.{if◌then◌else◌, each}
+use Rattle.model.specs.Base.{each}
 use Rattle.model.specs.Grammar.{Rule, Grammar, Variable, rule_at, is_lexical}
 use Rattle.model.specs.Step.{Index, before, Prediction, State, Outcome, fails, leads, sort, trim, shorten, same_first, variable_indices, daughters_from, expand, scan, step, begin}
 use Rattle.model.specs.Tree.{Tree, Forest, node, nil, cons, preorder, preorders, has_root, has_roots}

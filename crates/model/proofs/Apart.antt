@@ -1,5 +1,6 @@
 -- The indices of a queue stand apart: of any two, one stands left of the other. Every step that applies keeps this.
 -- Assumes nothing.
+use Rattle.std.specs.Prelude.{if◌then◌else◌}
 use mathlib.Core.Path.{◌≡◌, refl, sym, ap, ap₂, subst, ◌∙◌}
 use mathlib.Core.Logic.{◌⊎◌, inl, inr}
 use mathlib.Core.Bool.{Bool, true, false}
@@ -9,7 +10,7 @@ use Prim.Native.Nat.{ℕ, suc, ◌<◌, ◌≤◌}
 use native.Mathlib.Omega.{arith}
 use lib.Dec.{T}
 use lib.ListN.{length, length-map}
-use Rattle.model.specs.Base.{if◌then◌else◌, numbers_from}
+use Rattle.model.specs.Base.{numbers_from}
 use Rattle.model.specs.Grammar.{Variable, Rule, Grammar, variable, is_lexical, dimension}
 use Rattle.model.specs.Step.{Index, Prediction, numbered, indexed, variable_indices, index_of, sort, trim, shorten, same_first, daughters_from, expand}
 use Rattle.model.specs.WellFormed.{Perm, same, more, swap, chain, daughter_variables, named, RightRule}

@@ -1,5 +1,6 @@
 -- The trace checker accepts the traces of the trees that derive the sentence, and those only.
 -- Assumes nothing.
+use Rattle.std.specs.Prelude.{if◌then◌else◌}
 use mathlib.Core.Path.{◌≡◌, refl, ap, ◌∙◌}
 use mathlib.Core.Bool.{Bool, true, false}
 use mathlib.Core.Option.{none, some}
@@ -10,7 +11,7 @@ use borrow.Author.Tests.{le-ltb, ltb-false, ne_eqb, eqb-false}
 use lib.Dec.{T, ltb, eqb}
 use lib.ListN.{length}
 use Rattle.model.specs.declared.Refusal.{Refusal}
-use Rattle.model.specs.Base.{if◌then◌else◌, ◌or_else◌}
+use Rattle.model.specs.Base.{◌or_else◌}
 use Rattle.model.specs.Verdict.{refuse_if}
 use Rattle.model.specs.Grammar.{Grammar}
 use Rattle.model.specs.Step.{State, Outcome, fails, leads, step}

@@ -1,5 +1,6 @@
 -- The slots of the new predictions are those of the rule's variables.
 -- Assumes nothing.
+use Rattle.std.specs.Prelude.{if◌then◌else◌}
 use mathlib.Core.Path.{◌≡◌, refl, sym, ap, ap₂, ◌∙◌}
 use mathlib.Core.Bool.{Bool, true, false}
 use mathlib.Core.Option.{Option, none, some}
@@ -8,7 +9,7 @@ use Prim.Native.Nat.{ℕ, zero, suc, ◌+◌, ◌<◌}
 use native.Mathlib.Omega.{arith}
 use lib.Dec.{T, eqb, eqb→eq}
 use lib.ListN.{length, get_or, length-map}
-use Rattle.model.specs.Base.{if◌then◌else◌, each, numbers_from}
+use Rattle.model.specs.Base.{each, numbers_from}
 use Rattle.model.specs.Grammar.{Variable, Rule, Grammar, variable, rule_at, is_lexical, dimension}
 use Rattle.model.specs.Step.{Index, Prediction, numbered, indexed, variable_indices, index_of, daughters_from, expand}
 use Rattle.model.specs.Tree.{Tree, Forest, node, nil, cons, yield, yields, yield_by, string_of, word_string, has_root, has_roots, root_by}

@@ -1,5 +1,6 @@
 -- What the reader's tests of a file say when they pass, each by itself.
 -- Assumes nothing.
+use Rattle.std.specs.Prelude.{if◌then◌else◌}
 use mathlib.Core.Path.{◌≡◌, refl, sym, ap, ◌∙◌}
 use mathlib.Core.Bool.{Bool, false, ◌&&◌, not}
 use mathlib.Core.Option.{Option, none}
@@ -11,7 +12,7 @@ use borrow.Author.Tests.{lt-ltb, le-ltb}
 use lib.Dec.{T, ltb, eqb, eqb→eq, ltb→lt}
 use lib.ListN.{length, get_or}
 use Rattle.model.specs.declared.Refusal.{Refusal}
-use Rattle.model.specs.Base.{if◌then◌else◌, ◌or_else◌, first_from, every}
+use Rattle.model.specs.Base.{◌or_else◌, first_from, every}
 use Rattle.model.specs.Verdict.{refuse_if}
 use Rattle.model.specs.GrammarFile.{within, all_zero, fields, blocks, byte_of, two_bytes, four_bytes, check_of, categories_of, start_of, words_of, rules_of, dimensions_of, dimension_in, blocks_for, records_in, record_place, record_of, rule_refusal, wrong_length, wrong_check, wrong_block, wrong_heading, wrong_blocks, wrong_count, wrong_rest, grammar_refusal}
 use Rattle.model.proofs.Tests.{no_refusal, first_of, rest_of, not_off, and_l, and_r, within_low, none_at}

@@ -1,5 +1,6 @@
 -- A step by the rule of the front prediction's node keeps the queue right, and keeps what is spelled, but for the word that it reads.
 -- Assumes nothing.
+use Rattle.std.specs.Prelude.{if◌then◌else◌}
 use mathlib.Core.Path.{◌≡◌, refl, sym, ap, subst, ◌∙◌}
 use mathlib.Core.Logic.{◌⊎◌, inl, inr}
 use mathlib.Core.Bool.{Bool, true, false}
@@ -10,7 +11,7 @@ use Prim.Native.Nat.{ℕ, suc, ◌+◌, ◌<◌, ◌≤◌}
 use native.Mathlib.Omega.{arith}
 use lib.Dec.{T}
 use lib.ListN.{length, length-map}
-use Rattle.model.specs.Base.{if◌then◌else◌, each, numbers_from}
+use Rattle.model.specs.Base.{each, numbers_from}
 use Rattle.model.specs.Grammar.{Variable, Rule, Grammar, rule_at, is_lexical, dimension}
 use Rattle.model.specs.Step.{Index, Prediction, sort, trim, shorten, same_first, variable_indices, index_of, daughters_from, expand}
 use Rattle.model.specs.Tree.{Tree, Forest, node, nil, cons, yield, yields, string_of, word_string, has_root, has_roots, preorder, preorders}

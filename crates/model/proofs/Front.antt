@@ -1,5 +1,6 @@
 -- The front prediction's least index stands left of every index of the others.
 -- Assumes nothing.
+use Rattle.std.specs.Prelude.{if◌then◌else◌}
 use mathlib.Core.Path.{◌≡◌, refl, subst}
 use mathlib.Core.Logic.{◌⊎◌, inl, inr}
 use mathlib.Core.Bool.{Bool, true, false}
@@ -9,7 +10,6 @@ use Prim.Native.Nat.{◌≤◌}
 use native.Mathlib.Omega.{arith}
 use lib.Dec.{T}
 use lib.ListN.{length}
-use Rattle.model.specs.Base.{if◌then◌else◌}
 use Rattle.model.specs.Step.{Index, before, least, Prediction, least_of}
 use Rattle.model.proofs.Lists.{mem_right, each_out}
 use Rattle.model.proofs.Digits.{left, left_before, before_between}

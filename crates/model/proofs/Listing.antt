@@ -1,5 +1,6 @@
 -- `listing` lists just the live prefixes that lead to the end, each once, in dictionary order.
 -- Assumes nothing.
+use Rattle.std.specs.Prelude.{if◌then◌else◌}
 use mathlib.Core.Path.{◌≡◌, refl}
 use mathlib.Core.Logic.{◌⊎◌, inl, inr}
 use mathlib.Core.Bool.{Bool, true, false}
@@ -7,7 +8,7 @@ use mathlib.Core.List.Memᴰ
 use mathlib.Core.List.{List, [], ◌∷◌, Memᴰ}
 use Prim.Native.Nat.{ℕ}
 use lib.Dec.{T}
-use Rattle.model.specs.Base.{keep, if◌then◌else◌}
+use Rattle.model.specs.Base.{keep}
 use Rattle.model.specs.Grammar.{Grammar}
 use Rattle.model.specs.Counting.{live, listing, complete}
 use Rattle.model.specs.LivePrefixes.{Live, InOrder, Lists, Different}

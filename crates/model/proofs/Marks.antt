@@ -1,12 +1,13 @@
 -- A step does not look at what its predictions stand for: it may be made with them, or without and then marked, in one way only.
 -- Assumes nothing.
+use Rattle.std.specs.Prelude.{if◌then◌else◌}
 use mathlib.Core.Path.{◌≡◌, refl, ap, ◌∙◌}
 use mathlib.Core.Bool.{Bool, true, false}
 use mathlib.Core.Option.{Option, none, some}
 use mathlib.Core.List.{List, [], ◌∷◌, ◌++◌, map}
 use Prim.Native.Nat.{ℕ, suc}
 use lib.Dec.{eqb}
-use Rattle.model.specs.Base.{if◌then◌else◌, each, numbers_from}
+use Rattle.model.specs.Base.{each, numbers_from}
 use Rattle.model.specs.Grammar.{Grammar, Rule, Variable, rule_at, is_lexical, empty_word, dimension}
 use Rattle.model.specs.Step.{Index, before, Prediction, State, Outcome, fails, leads, least_of, insert, sort, same_first, shorten, trim, daughters_from, expand, variable_indices, index_of, read_word, scan, predict, apply, step, word_fits}
 use Rattle.model.specs.Trace.{no_node}

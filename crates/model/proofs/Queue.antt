@@ -1,5 +1,6 @@
 -- Sort, trim and scan, on the slots of a queue.
 -- Assumes nothing.
+use Rattle.std.specs.Prelude.{if◌then◌else◌}
 use mathlib.Core.Path.{◌≡◌, refl, sym, ap, subst, ◌∙◌}
 use mathlib.Core.Logic.{◌⊎◌, inl, inr}
 use mathlib.Core.Bool.{Bool, true, false, ◌&&◌}
@@ -10,7 +11,7 @@ use native.Mathlib.Omega.{arith}
 use borrow.Author.Tests.{le-ltb, eq-eqb}
 use lib.Dec.{T, eqb→eq}
 use lib.ListN.{length}
-use Rattle.model.specs.Base.{if◌then◌else◌, every}
+use Rattle.model.specs.Base.{every}
 use Rattle.model.specs.Grammar.{Grammar}
 use Rattle.model.specs.Step.{Index, before, lesser, least, Prediction, least_of, insert, sort, begins, same_first, shorten, trim}
 use Rattle.model.specs.Tree.{Tree, yield}

@@ -1,5 +1,6 @@
 -- A list that the tree reader takes is the list of a tree, and of one only.
 -- Assumes nothing.
+use Rattle.std.specs.Prelude.{if◌then◌else◌}
 use mathlib.Core.Path.{◌≡◌, refl, sym, ap, subst, ◌∙◌}
 use mathlib.Core.Bool.{Bool, true, false, ◌&&◌, not}
 use mathlib.Core.Option.{Option, none, some}
@@ -10,7 +11,7 @@ use native.Mathlib.Omega.{arith}
 use lib.Dec.{T, eqb}
 use lib.ListN.{length}
 use Rattle.model.specs.declared.Refusal.{Refusal}
-use Rattle.model.specs.Base.{if◌then◌else◌, ◌or_else◌}
+use Rattle.model.specs.Base.{◌or_else◌}
 use Rattle.model.specs.Verdict.{refuse_if}
 use Rattle.model.specs.Trace.{length_refusal}
 use Rattle.model.specs.Grammar.{Grammar, Rule, rule_at}

@@ -1,5 +1,6 @@
 -- What a search that keeps only what leads to the end has to do with the live prefixes.
 -- Assumes nothing.
+use Rattle.std.specs.Prelude.{if◌then◌else◌}
 use mathlib.Core.Path.{◌≡◌, refl, ap, ap₂, ◌∙◌}
 use mathlib.Core.Bool.{Bool, true, false}
 use mathlib.Core.Option.{Option, none, some}
@@ -7,7 +8,7 @@ use mathlib.Core.List.{List, [], ◌∷◌, ◌++◌, map}
 use Prim.Native.Nat.{ℕ, ◌≤◌}
 use native.Mathlib.Omega.{arith}
 use lib.ListN.{length}
-use Rattle.model.specs.Base.{if◌then◌else◌, each, keep}
+use Rattle.model.specs.Base.{each, keep}
 use Rattle.model.specs.Grammar.{Grammar}
 use Rattle.model.specs.Step.{State, Outcome, fails, leads, step}
 use Rattle.model.specs.Trace.{no_node, run}

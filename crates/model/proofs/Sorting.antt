@@ -1,12 +1,12 @@
 -- The queue after a sort: the same predictions, in order of their least index. And the least index is one of the indices.
 -- Assumes nothing.
+use Rattle.std.specs.Prelude.{if◌then◌else◌}
 use mathlib.Core.Path.{◌≡◌, refl, sym, subst}
 use mathlib.Core.Logic.{◌⊎◌, inl, inr}
 use mathlib.Core.Bool.{Bool, true, false}
 use mathlib.Core.List.Memᴰ
 use mathlib.Core.List.{List, [], ◌∷◌, Memᴰ}
 use lib.Dec.{T}
-use Rattle.model.specs.Base.{if◌then◌else◌}
 use Rattle.model.specs.Step.{Index, before, least, Prediction, least_of, insert, sort}
 use Rattle.model.proofs.Order.{before_irrefl}
 use Rattle.model.proofs.Digits.{before_asym, before_between}

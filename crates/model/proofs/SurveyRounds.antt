@@ -1,6 +1,7 @@
 -- The figures of the survey after n rounds: a figure stays, a round that changes nothing is followed by no other change, and as many rounds as there
 -- are categories are enough. Below, F are figures, k is the round and c a category.
 -- Assumes nothing.
+use Rattle.std.specs.Prelude.{if◌then◌else◌}
 use mathlib.Core.Path.{◌≡◌, refl, sym, ap, subst, ◌∙◌}
 use mathlib.Core.Logic.{◌⊎◌, inl, inr, ⊎_elim}
 use mathlib.Core.Option.{some}
@@ -11,7 +12,6 @@ use native.Mathlib.Decide.{ℕ_discrete}
 use lib.Dec.{eqb}
 use lib.ListN.{length, get_or, set, length-set, length-replicate}
 use borrow.Author.Tests.{eq-eqb, ne_eqb}
-use Rattle.model.specs.Base.{if◌then◌else◌}
 use Rattle.model.specs.Grammar.{Rule, Grammar, rule_at}
 use Rattle.model.specs.WellFormed.{WellFormed}
 use Rattle.model.specs.Survey.{survey_round, rounds, survey}

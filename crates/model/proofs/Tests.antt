@@ -1,5 +1,6 @@
 -- What passed and failed tests say, and what passes or fails them: of `&&`, `||` and `not`, of tests joined by `or_else`, of tests below a number, and of lists compared.
 -- Assumes nothing.
+use Rattle.std.specs.Prelude.{if◌then◌else◌}
 use mathlib.Core.Path.{◌≡◌, refl, sym, ap, ap₂, subst}
 use mathlib.Core.Logic.{◌⊎◌, inl, inr}
 use mathlib.Core.Bool.{Bool, true, false, ◌&&◌, ◌||◌, not}
@@ -13,7 +14,7 @@ use lib.Dec.{T, ltb, leb, eqb, leb→le, le→leb, eqb→eq, eqb_refl}
 use lib.ListN.{length, get_or}
 use Rattle.model.specs.declared.Refusal.{Refusal}
 use Rattle.model.specs.Verdict.{refuse_if}
-use Rattle.model.specs.Base.{if◌then◌else◌, all_below, first_from, every, any_below, same_list, ◌or_else◌}
+use Rattle.model.specs.Base.{all_below, first_from, every, any_below, same_list, ◌or_else◌}
 use Rattle.model.specs.GrammarFile.{within}
 
 pub none_some : {A B : Type 0} {a : A} → some a ≡ none → B

@@ -1,5 +1,6 @@
 -- The trace of a queue whose predictions stand for trees: it leads to the end just if what the row spells fits the places that are left.
 -- Assumes nothing.
+use Rattle.std.specs.Prelude.{if◌then◌else◌}
 use mathlib.Core.Path.{◌≡◌, refl, sym, ap, subst, ◌∙◌}
 use mathlib.Core.Logic.{◌⊎◌, inl, inr}
 use mathlib.Core.Bool.{Bool, true, false}
@@ -10,7 +11,6 @@ use native.Mathlib.Omega.{arith}
 use borrow.Author.Tests.{eq-eqb}
 use lib.Dec.{T, eqb, eqb→eq}
 use lib.ListN.{length}
-use Rattle.model.specs.Base.{if◌then◌else◌}
 use Rattle.model.specs.Grammar.{Rule, Grammar, rule_at, is_lexical, empty_word}
 use Rattle.model.specs.Step.{Prediction, State, fails, leads, sort, trim, expand, word_fits, scan, read_word, step}
 use Rattle.model.specs.Tree.{Tree, Forest, node, word_string, has_root, has_roots, root_by, string_fits}

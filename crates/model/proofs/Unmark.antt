@@ -1,11 +1,11 @@
 -- Marks are carried back through trim, sort and ++, in one way only.
 -- Assumes nothing.
+use Rattle.std.specs.Prelude.{if◌then◌else◌}
 use mathlib.Core.Path.{◌≡◌, refl, sym, ap, ◌∙◌}
 use mathlib.Core.Bool.{Bool, true, false}
 use mathlib.Core.List.{List, [], ◌∷◌, ◌++◌, map, head-eq_of_cons-eq, tail-eq_of_cons-eq, nil≢cons, cons≢nil}
 use Prim.Native.Nat.{ℕ}
 use native.Mathlib.Omega.{arith}
-use Rattle.model.specs.Base.{if◌then◌else◌}
 use Rattle.model.specs.Step.{before, Prediction, least_of, insert, sort, same_first, shorten, trim}
 use Rattle.model.proofs.Marks.{Bare, bare, sort_bare, indices_of, indices_bare}
 

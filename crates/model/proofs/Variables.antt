@@ -1,5 +1,6 @@
 -- A list that has each of as many numbers as it is long has just those: so every variable occurs exactly once.
 -- Assumes nothing.
+use Rattle.std.specs.Prelude.{if◌then◌else◌}
 use mathlib.Core.Path.{◌≡◌, refl, sym, ap, subst, ◌∙◌}
 use mathlib.Core.Logic.{◌⊎◌, inl, inr}
 use mathlib.Core.Bool.{Bool, true, false}
@@ -10,7 +11,7 @@ use native.Mathlib.Omega.{arith}
 use lib.Dec.{eqb, eqb→eq}
 use lib.ListN.{length, get_or, take, drop, length-map}
 use lib.Seq.{take-add}
-use Rattle.model.specs.Base.{if◌then◌else◌, numbers_from, occurrences, total}
+use Rattle.model.specs.Base.{numbers_from, occurrences, total}
 use Rattle.model.specs.Grammar.{Grammar, Variable, variable, dimension}
 use Rattle.model.specs.GrammarFile.{sequences}
 use Rattle.model.specs.WellFormed.{Perm, same, more, swap, chain, daughter_variables, named}

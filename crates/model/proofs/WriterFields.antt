@@ -1,5 +1,6 @@
 -- The fields of the file that the writer makes are the numbers that it was given, and each block's check is right.
 -- Assumes nothing.
+use Rattle.std.specs.Prelude.{if◌then◌else◌}
 use mathlib.Core.Path.{◌≡◌, refl, ap, subst, ◌∙◌}
 use mathlib.Core.Bool.{Bool, true, ◌&&◌}
 use mathlib.Core.List.{List, [], ◌∷◌, ◌++◌}
@@ -8,7 +9,6 @@ use native.Mathlib.Omega.{arith}
 use native.Mathlib.Decide.{dec_lt}
 use lib.Dec.{T, ltb, eqb, ltb→lt, lt→ltb, eqb-suc-zero}
 use lib.ListN.{length, get_or, replicate, get_or-replicate, get_or-append, get_or-eq_default}
-use Rattle.model.specs.Base.{if◌then◌else◌}
 use Rattle.model.specs.GrammarFile.{fields, byte_of, two_bytes, four_bytes, check_of, categories_of, start_of, words_of, rules_of, blocks_for, records_in, record_place, record_of}
 use Rattle.model.specs.Writer.{Heading, all_bytes, fits_fields, little2, padded}
 use Rattle.model.proofs.Tests.{and_l, and_r, and_both}

@@ -1,6 +1,7 @@
 -- The reader's tests of the file that the writer makes: length, checks, block numbers, record counts and the rest of the last block pass, the
 -- heading is tested as its block alone, and the rules are refused as the given records are.
 -- Assumes nothing.
+use Rattle.std.specs.Prelude.{if◌then◌else◌}
 use mathlib.Core.Path.{◌≡◌, refl, sym, ap, ap₂, ◌∙◌}
 use mathlib.Core.Bool.{Bool, false, ◌&&◌, not}
 use mathlib.Core.Option.{Option}
@@ -11,7 +12,7 @@ use borrow.Author.Tests.{eq-eqb, le-leb}
 use lib.Dec.{T, ltb, eqb}
 use lib.ListN.{length, get_or}
 use Rattle.model.specs.declared.Refusal.{Refusal}
-use Rattle.model.specs.Base.{if◌then◌else◌, ◌or_else◌, first_from, every}
+use Rattle.model.specs.Base.{◌or_else◌, first_from, every}
 use Rattle.model.specs.Verdict.{refuse_if}
 use Rattle.model.specs.GrammarFile.{within, all_zero, fields, blocks, byte_of, two_bytes, four_bytes, check_of, categories_of, start_of, words_of, rules_of, dimensions_of, dimension_in, blocks_for, records_in, record_of, wrong_category, wrong_word, wrong_variables, unused_set, same_rule, record_refusal, rule_refusal, wrong_length, wrong_check, wrong_block, wrong_heading, wrong_blocks, wrong_count, wrong_rest, grammar_refusal}
 use Rattle.model.specs.Writer.{Heading, all_bytes, fits_fields, heading_block, file_of}

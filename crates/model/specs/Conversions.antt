@@ -1,7 +1,6 @@
 -- The trace that belongs to a tree, and the tree that belongs to a trace (document 01, "Trace and tree").
 -- Assumes nothing.
-use Rattle.std.specs.Prelude.{◌≡◌, ℕ, zero, suc, List, [], ◌∷◌, ◌++◌, map, length}
-use Rattle.model.specs.Base.{if◌then◌else◌}
+use Rattle.std.specs.Prelude.{◌≡◌, ℕ, zero, suc, List, [], ◌∷◌, ◌++◌, map, length, if◌then◌else◌}
 use Rattle.model.specs.Grammar.{Grammar}
 use Rattle.model.specs.Step.{Prediction, State, fails, leads, step, begin, before}
 use Rattle.model.specs.Tree.{Tree, Forest, node, nil, cons, tree_of_list}

@@ -2,10 +2,10 @@
 -- weight of a rule and the order of its daughters in refusal 10 are document 02's, papers 1 and 4).
 -- A file is the list of its bytes.
 -- Assumes nothing.
-use Rattle.std.specs.Prelude.{ℕ, suc, ◌+◌, ◌-◌, ◌*◌, ◌/◌, ◌%◌, Bool, false, ◌&&◌, ◌||◌, not, List, [], ◌∷◌, ◌++◌, map, ltb, leb, eqb, length, get_or, take, drop}
+use Rattle.std.specs.Prelude.{ℕ, suc, ◌+◌, ◌-◌, ◌*◌, ◌/◌, ◌%◌, Bool, false, ◌&&◌, ◌||◌, not, List, [], ◌∷◌, ◌++◌, map, ltb, leb, eqb, length, get_or, take, drop, if◌then◌else◌}
 use Rattle.std.proofs.Math.Option.{Option}
 use Rattle.model.specs.declared.Refusal.{Refusal}
-use Rattle.model.specs.Base.{if◌then◌else◌, ◌or_else◌, first_from, every, any_of, numbers_from, same_list, any_below, all_below, occurrences, total}
+use Rattle.model.specs.Base.{◌or_else◌, first_from, every, any_of, numbers_from, same_list, any_below, all_below, occurrences, total}
 use Rattle.model.specs.Verdict.{refuse_if}
 use Rattle.model.specs.Grammar.{Variable, Rule, Grammar, empty_word, variable}
 

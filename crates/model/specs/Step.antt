@@ -1,9 +1,9 @@
 -- One step of the recognizer, with indices as digit strings (document 01, "One step"), on a sentence whose places hold ranges of words (document 02, paper 5).
 -- Assumes nothing.
-use Rattle.std.specs.Prelude.{ℕ, suc, ◌+◌, ◌*◌, ◌/◌, ◌%◌, Bool, true, false, ◌&&◌, ◌||◌, ltb, leb, eqb}
+use Rattle.std.specs.Prelude.{ℕ, suc, ◌+◌, ◌*◌, ◌/◌, ◌%◌, Bool, true, false, ◌&&◌, ◌||◌, ltb, leb, eqb, if◌then◌else◌}
 use mathlib.Core.List.{List, [], ◌∷◌, ◌++◌, map, tail}
 use Rattle.std.proofs.Math.Option.{Option, none, some}
-use Rattle.model.specs.Base.{if◌then◌else◌, each, every, numbers_from}
+use Rattle.model.specs.Base.{each, every, numbers_from}
 use Rattle.model.specs.Grammar.{Variable, Rule, Grammar, empty_word, dimension, rule_at, is_lexical}
 
 -- "an index is a string of digits 0 to 11"

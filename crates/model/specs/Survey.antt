@@ -1,9 +1,8 @@
 -- The survey of categories (document 01, "Survey and writer"): what its output has to be, and the figures by rounds over the rules, which are one
 -- such output.
 -- Assumes nothing.
-use Rattle.std.specs.Prelude.{◌≡◌, ◌⊎◌, Bool, true, ◌&&◌, List, [], ◌∷◌, ℕ, zero, suc, ◌<◌, ◌≤◌, max, T, ltb, eqb, length, get_or, set, replicate}
+use Rattle.std.specs.Prelude.{◌≡◌, ◌⊎◌, Bool, true, ◌&&◌, List, [], ◌∷◌, ℕ, zero, suc, ◌<◌, ◌≤◌, max, T, ltb, eqb, length, get_or, set, replicate, if◌then◌else◌}
 use Rattle.std.proofs.Math.Option.{Option, none, some}
-use Rattle.model.specs.Base.{if◌then◌else◌}
 use Rattle.model.specs.Grammar.{Rule, Grammar, rule_at}
 use Rattle.model.specs.Tree.{Tree, Forest, node, nil, cons, has_root}
 

@@ -1,9 +1,9 @@
 -- Sentences and the trace checker (document 01, "One step", "Trace and tree", and refusals 11 to 18; document 02, paper 5, refusals 11 and 29).
 -- Assumes nothing.
-use Rattle.std.specs.Prelude.{ℕ, suc, ◌-◌, Bool, not, ◌||◌, List, [], ◌∷◌, ltb, eqb, length}
+use Rattle.std.specs.Prelude.{ℕ, suc, ◌-◌, Bool, not, ◌||◌, List, [], ◌∷◌, ltb, eqb, length, if◌then◌else◌}
 use Rattle.std.proofs.Math.Option.{Option, none, some}
 use Rattle.model.specs.declared.Refusal.{Refusal}
-use Rattle.model.specs.Base.{if◌then◌else◌, ◌or_else◌}
+use Rattle.model.specs.Base.{◌or_else◌}
 use Rattle.model.specs.Verdict.{refuse_if}
 use Rattle.model.specs.Grammar.{Grammar}
 use Rattle.model.specs.Step.{State, fails, leads, lowest, highest, step, begin}

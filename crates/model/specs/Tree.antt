@@ -1,9 +1,9 @@
 -- Derivation trees: their lists, their yields, and the tree checker (document 01, "Trace and tree", and refusals 19 to 22; document 02, paper 5).
 -- Assumes nothing.
-use Rattle.std.specs.Prelude.{◌≡◌, ℕ, zero, suc, ◌<◌, ◌≤◌, Bool, true, false, not, ◌&&◌, List, [], ◌∷◌, ◌++◌, map, eqb, length, get_or}
+use Rattle.std.specs.Prelude.{◌≡◌, ℕ, zero, suc, ◌<◌, ◌≤◌, Bool, true, false, not, ◌&&◌, List, [], ◌∷◌, ◌++◌, map, eqb, length, get_or, if◌then◌else◌}
 use Rattle.std.proofs.Math.Option.{Option, none, some}
 use Rattle.model.specs.declared.Refusal.{Refusal}
-use Rattle.model.specs.Base.{if◌then◌else◌, ◌or_else◌, each}
+use Rattle.model.specs.Base.{◌or_else◌, each}
 use Rattle.model.specs.Verdict.{refuse_if}
 use Rattle.model.specs.Grammar.{Variable, Rule, Grammar, empty_word, rule_at, is_lexical}
 use Rattle.model.specs.Step.{lowest, highest, word_fits}

@@ -1,5 +1,6 @@
 -- What follows for a file that document 01 accepted: its weights are 0, its grammar is the one that document 01 reads, and paper 1 did not refuse it.
 -- Assumes nothing.
+use Rattle.std.specs.Prelude.{if◌then◌else◌}
 use mathlib.Core.Path.{◌≡◌, refl, sym, ap, ap₂, subst, ◌∙◌}
 use mathlib.Core.Bool.{Bool, true, false}
 use mathlib.Core.List.{List, ◌∷◌, ◌++◌, map}
@@ -10,7 +11,7 @@ use native.Mathlib.Decide.{dec_lt}
 use lib.Dec.{T, eqb}
 use lib.ListN.{length, get_or}
 use lib.Seq.{ext_get_or}
-use Rattle.model.specs.Base.{if◌then◌else◌, first_from, numbers_from, same_list}
+use Rattle.model.specs.Base.{first_from, numbers_from, same_list}
 use Rattle.model.specs.Grammar.{Rule}
 use Rattle.model.specs.GrammarFile.{all_zero, fields, field, has_daughters, dimension_in, variables, weight_of, start_of, rules_of, words_of, dimensions_of, record_of, same_record, unused_bytes, grammar_of}
 use Rattle.model.proofs.Tests.{not_both, passes as on, fails, not_off, on_not, none_at, any_none, none_by, list_same, same_list_lem, every_left, every_right, every_both, first_same}

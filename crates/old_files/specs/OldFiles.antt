@@ -5,13 +5,13 @@
 -- between papers 1 and 4 `grammar_refusal_between` and the grammar of today, `grammar_of`. Sentences are those of paper 5 here; specs/OwnAnswers.antt is about
 -- sentences of words, as they were then.
 -- Assumes nothing.
-use Rattle.std.specs.Prelude.{◌≡◌, ◌⊎◌, ℕ, ◌+◌, ◌-◌, ◌*◌, ◌%◌, ◌<◌, Bool, not, List, [], ◌∷◌, ◌++◌, map, T, ltb, eqb, length}
+use Rattle.std.specs.Prelude.{◌≡◌, ◌⊎◌, ℕ, ◌+◌, ◌-◌, ◌*◌, ◌%◌, ◌<◌, Bool, not, List, [], ◌∷◌, ◌++◌, map, T, ltb, eqb, length, if◌then◌else◌}
 use Rattle.std.proofs.Math.Option.{Option, none, some}
 use Rattle.model.specs.declared.Refusal.{Refusal}
 use Rattle.model.specs.declared.Verdict.{Verdict}
 use Rattle.model.specs.declared.Verdict.TheVariants.{Refused}
 use Rattle.model.specs.declared.CountVerdict.TheVariants.{NotCounted}
-use Rattle.model.specs.Base.{if◌then◌else◌, ◌or_else◌, first_from, numbers_from, same_list, any_below}
+use Rattle.model.specs.Base.{◌or_else◌, first_from, numbers_from, same_list, any_below}
 use Rattle.model.specs.Verdict.{refuse_if, verdict, count_verdict}
 use Rattle.model.specs.Grammar.{Rule, Grammar, rule_at}
 use Rattle.model.specs.GrammarFile.{all_zero, fields, field, daughters_of, has_daughters, word_of, lengths_of, sequences, dimension_in, variables, blocks, categories_of, start_of, rules_of, words_of, dimensions_of, record_of, same_record, wrong_category, wrong_word, wrong_variables, unused_set, wrong_length, wrong_check, wrong_block, wrong_heading, wrong_blocks, wrong_count, wrong_rest, grammar_refusal, grammar_of}

@@ -1,5 +1,6 @@
 -- A packed verdict says what the verdict says: nothing is lost on the way to C.
 -- Assumes nothing.
+use Rattle.std.specs.Prelude.{if◌then◌else◌}
 use mathlib.Core.Path.{◌≡◌, ap, ◌∙◌}
 use mathlib.Core.Bool.{Bool, true, false}
 use mathlib.Core.List.{[], ◌∷◌}
@@ -16,7 +17,6 @@ use Rattle.model.specs.declared.CountVerdict.TheVariants.{Counted, NotCounted}
 use Rattle.dates.specs.declared.DateVerdict.{DateVerdict}
 use Rattle.dates.specs.declared.DateVerdict.TheVariants.{Dated, NotDated}
 use Rattle.dates.specs.Dates.{date_answer}
-use Rattle.model.specs.Base.{if◌then◌else◌}
 use Rattle.model.specs.Verdict.{author, number, place, Answer, values, refusal, refusal_answer, verdict_answer, count_answer}
 use Rattle.packing.specs.Packing.{author_code, packed_refusal, packed_verdict, packed_count, packed_date, author_of, unpacked_refusal, unpacked_verdict, unpacked_count, unpacked_date, Fits, VerdictFits, CountFits, DateFits, Says, SaysCount, SaysDate}
 

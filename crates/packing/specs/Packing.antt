@@ -1,7 +1,7 @@
 -- A verdict as one 64-bit number, for C: bit 63 tells a refusal; of a refusal bits 40-47 are whose it is, bits 32-39 its number, bits 0-31 its place; of
 -- a count bits 0-29 are the count and bits 30-59 the effort; of a date bits 16-31 are the year, bits 8-15 the month and bits 0-7 the day.
 -- Assumes nothing.
-use Rattle.std.specs.Prelude.{◌≡◌, ℕ, ◌+◌, ◌*◌, ◌/◌, ◌%◌, ◌<◌, [], ◌∷◌, ltb, eqb}
+use Rattle.std.specs.Prelude.{◌≡◌, ℕ, ◌+◌, ◌*◌, ◌/◌, ◌%◌, ◌<◌, [], ◌∷◌, ltb, eqb, if◌then◌else◌}
 use Rattle.model.specs.declared.Refusal.{Refusal}
 use Rattle.model.specs.declared.Verdict.{Verdict}
 use Rattle.model.specs.declared.Verdict.TheVariants.{Accepted, Refused}
@@ -9,7 +9,6 @@ use Rattle.model.specs.declared.CountVerdict.{CountVerdict}
 use Rattle.model.specs.declared.CountVerdict.TheVariants.{Counted, NotCounted}
 use Rattle.dates.specs.declared.DateVerdict.{DateVerdict}
 use Rattle.dates.specs.declared.DateVerdict.TheVariants.{Dated, NotDated}
-use Rattle.model.specs.Base.{if◌then◌else◌}
 use Rattle.model.specs.Verdict.{Author, grammarAuthor, analysisAuthor, desk, author, number, place, Answer, values, refusal}
 
 -- whose a refusal is: 0 the grammar's, 1 the analysis's, 2 the desk's

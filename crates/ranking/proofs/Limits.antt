@@ -1,6 +1,7 @@
 -- What a loop over steps keeps: the state is one that steps reach, its queue grows by at most 2 a step; so in a live prefix of at most 96 steps there are
 -- at most 64 predictions, and every rank is below 256.
 -- Assumes nothing.
+use Rattle.std.specs.Prelude.{if◌then◌else◌}
 use mathlib.Core.Path.{◌≡◌, refl, sym, ap, subst, ◌∙◌}
 use mathlib.Core.Bool.{Bool, true, false}
 use mathlib.Core.Option.{Option, none, some}
@@ -10,7 +11,6 @@ use native.Mathlib.Omega.{arith}
 use native.Mathlib.Decide.{dec_lt}
 use lib.Dec.{eqb, ltb}
 use lib.ListN.{length, length-map, get_or-eq_default}
-use Rattle.model.specs.Base.{if◌then◌else◌}
 use Rattle.model.specs.Grammar.{Rule, Grammar, Variable, empty_word, rule_at, is_lexical, dimension}
 use Rattle.model.specs.Step.{State, Outcome, fails, leads, step, begin, word_fits}
 use Rattle.model.specs.WellFormed.{Right, WellFormed}

@@ -1,6 +1,7 @@
 -- The recognizer by ranks does not look at what its predictions stand for: marks may be renamed before a step or after it. What the new name of a
 -- daughter is, need be known for the front's daughters alone, so that code may number its predictions as it likes.
 -- Assumes nothing.
+use Rattle.std.specs.Prelude.{if◌then◌else◌}
 use mathlib.Core.Path.{◌≡◌, refl, ap, ap₂, subst, ◌∙◌}
 use mathlib.Core.Bool.{Bool, true, false}
 use mathlib.Core.Option.{Option, none, some}
@@ -9,7 +10,7 @@ use Prim.Native.Nat.{ℕ, suc, ◌+◌, ◌<◌}
 use native.Mathlib.Omega.{arith}
 use lib.Dec.{eqb, ltb}
 use lib.ListN.{length}
-use Rattle.model.specs.Base.{if◌then◌else◌, numbers_from}
+use Rattle.model.specs.Base.{numbers_from}
 use Rattle.model.specs.Grammar.{Variable, Rule, Grammar, empty_word, rule_at, is_lexical, dimension}
 use Rattle.model.specs.Step.{word_fits}
 use Rattle.ranking.specs.Recognizer.{Moved, stops, goes}

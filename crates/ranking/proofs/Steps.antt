@@ -1,5 +1,6 @@
 -- The recognizer by ranks goes along with the digit strings of document 01, step by step: its queue is the ranked queue, in the same order.
 -- Assumes nothing.
+use Rattle.std.specs.Prelude.{if◌then◌else◌}
 use mathlib.Core.Path.{◌≡◌, refl, sym, ap, ap₂, subst, ◌∙◌}
 use mathlib.Core.Logic.{◌⊎◌}
 use mathlib.Core.Bool.{Bool, true, false}
@@ -10,7 +11,7 @@ use native.Mathlib.Omega.{arith}
 use lib.Dec.{eqb}
 use lib.ListN.{length, length-map}
 use borrow.Author.Tests.{eqb-true}
-use Rattle.model.specs.Base.{if◌then◌else◌, numbers_from}
+use Rattle.model.specs.Base.{numbers_from}
 use Rattle.model.specs.Grammar.{Variable, Rule, Grammar, empty_word, rule_at, is_lexical, dimension}
 use Rattle.model.specs.Step.{Index, Prediction, State, Outcome, fails, leads, variable_indices, index_of, sort, trim, read_word, scan, daughters_from, expand, predict, apply, step, begin, word_fits}
 use Rattle.model.specs.WellFormed.{Perm, RightRule, Right}

@@ -1,8 +1,7 @@
 -- Numbers for what predictions stand for, as code holds them, and the trace of a tree with them: daughter j of step k has number 4 * (k + 1) + j, the root number 0.
 -- So a number tells the step that predicted, and the daughter position there. `names` is what each number stands for.
 -- Assumes nothing.
-use Rattle.std.specs.Prelude.{ℕ, zero, suc, ◌+◌, ◌-◌, ◌*◌, List, [], ◌∷◌, map, ltb, length}
-use Rattle.model.specs.Base.{if◌then◌else◌}
+use Rattle.std.specs.Prelude.{ℕ, zero, suc, ◌+◌, ◌-◌, ◌*◌, List, [], ◌∷◌, map, ltb, length, if◌then◌else◌}
 use Rattle.model.specs.Grammar.{Grammar}
 use Rattle.model.specs.Tree.{Tree, tree_of_list}
 use Rattle.model.specs.Conversions.{label, subtree}

@@ -1,10 +1,10 @@
 -- The recognizer whose predictions hold ranks: "a prediction should hold for each component its rank among all components in the queue, from 0 without
 -- gaps" (document 02, paper 7). No digit is kept, and after a step every rank is again from 0 without gaps.
 -- Assumes nothing.
-use Rattle.std.specs.Prelude.{ℕ, suc, ◌+◌, ◌-◌, ◌&&◌, List, [], ◌∷◌, ◌++◌, map, ltb, eqb, length}
+use Rattle.std.specs.Prelude.{ℕ, suc, ◌+◌, ◌-◌, ◌&&◌, List, [], ◌∷◌, ◌++◌, map, ltb, eqb, length, if◌then◌else◌}
 use Rattle.std.proofs.Math.Option.{Option, none, some}
 use Rattle.model.specs.declared.Refusal.{Refusal}
-use Rattle.model.specs.Base.{if◌then◌else◌, numbers_from}
+use Rattle.model.specs.Base.{numbers_from}
 use Rattle.model.specs.Grammar.{Variable, Rule, Grammar, empty_word, dimension, rule_at, is_lexical}
 use Rattle.model.specs.Step.{word_fits}
 use Rattle.model.specs.Trace.{no_node}

@@ -1,5 +1,6 @@
 -- A nonlexical step in code: what is so of the queue before it and after it, and that its numbers are those of the next queue.
 -- Assumes nothing.
+use Rattle.std.specs.Prelude.{if◌then◌else◌}
 use mathlib.Core.Path.{◌≡◌, refl, sym, ap, ap₂, subst, subst⁻¹, ◌∙◌}
 use mathlib.Core.Bool.{Bool, true, false}
 use mathlib.Core.Option.{Option, some}
@@ -10,7 +11,7 @@ use native.Mathlib.Decide.{ℕ_discrete}
 use borrow.Author.Tests.{eq-eqb, lt-ltb}
 use lib.ListN.{length, get_or, take, length-map}
 use lib.Seq.{slice}
-use Rattle.model.specs.Base.{if◌then◌else◌, numbers_from}
+use Rattle.model.specs.Base.{numbers_from}
 use Rattle.model.specs.Grammar.{Rule, Grammar, rule_at, is_lexical, dimension}
 use Rattle.model.specs.WellFormed.{RightRule}
 use Rattle.model.proofs.Perm.{perm_sym}

@@ -1,5 +1,6 @@
 -- All ranks of a number at once: which of them lie above f, and sums and differences in every place.
 -- Assumes nothing.
+use Rattle.std.specs.Prelude.{if◌then◌else◌}
 use mathlib.Core.Path.{◌≡◌, refl, sym, ap, ap₂, subst⁻¹, ◌∙◌}
 use mathlib.Core.Bool.{Bool, true, false}
 use Prim.Native.Nat.{ℕ, zero, suc, ◌+◌, ◌-◌, ◌*◌, ◌/◌, ◌<◌}
@@ -7,7 +8,6 @@ use native.Mathlib.Omega.{arith}
 use borrow.Author.Tests.{ltb-true, ltb-false}
 use lib.Dec.{ltb}
 use lib.Bits.{bit_and, and_block, and_shr, and_high, and_zero_r, and_zero_l, and_mask, and_comm}
-use Rattle.model.specs.Base.{if◌then◌else◌}
 use Rattle.ranking.specs.Ranks.{above}
 use Rattle.ranks.specs.Prediction.{Prediction, Short, Sized, Flags, lanes, packed, unpacked, marks}
 use Rattle.ranks.proofs.Packing.{unpacked_packed}

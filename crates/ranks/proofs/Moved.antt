@@ -1,5 +1,6 @@
 -- What a step does to the ranks of one number.
 -- Assumes nothing.
+use Rattle.std.specs.Prelude.{if◌then◌else◌}
 use mathlib.Core.Path.{◌≡◌, refl, sym, ap, ap₂, ◌∙◌}
 use mathlib.Core.Bool.{Bool, true, false}
 use mathlib.Core.List.{[], ◌∷◌}
@@ -7,7 +8,6 @@ use Prim.Native.Nat.{ℕ, zero, suc, ◌+◌, ◌-◌, ◌*◌, ◌<◌, ◌≤�
 use native.Mathlib.Omega.{arith}
 use borrow.Author.Tests.{ltb-true, lt-ltb}
 use lib.Dec.{ltb}
-use Rattle.model.specs.Base.{if◌then◌else◌}
 use Rattle.ranking.specs.Ranks.{above, passed, added, shifted}
 use Rattle.ranks.specs.Prediction.{Prediction, Behind, Apart, Each, lanes, packed, unpacked, rerank, marks, remade}
 use Rattle.ranks.proofs.Packing.{packed_unpacked}

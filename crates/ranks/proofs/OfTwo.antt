@@ -1,5 +1,6 @@
 -- Whether a rule is of dimension 2 and its daughters of at most two components: by its dimension, and then by each daughter.
 -- Assumes nothing.
+use Rattle.std.specs.Prelude.{if◌then◌else◌}
 use mathlib.Core.Path.{◌≡◌, refl, sym, ap, ◌∙◌}
 use mathlib.Core.Bool.{Bool, true, false}
 use mathlib.Core.List.{List}
@@ -8,7 +9,6 @@ use native.Mathlib.Omega.{arith}
 use borrow.Author.Tests.{eqb-true, ltb-true}
 use lib.Dec.{eqb}
 use lib.ListN.{get_or}
-use Rattle.model.specs.Base.{if◌then◌else◌}
 use Rattle.model.proofs.Tests.{not_both}
 use Rattle.ranks.specs.Table.{dimension_in, at_most_two, of_two}
 

@@ -1,5 +1,6 @@
 -- Rules of dimension 2: one of the front's two components has rank 0, so that the front's ranks need not be compared with each other.
 -- Assumes nothing.
+use Rattle.std.specs.Prelude.{if◌then◌else◌}
 use mathlib.Core.Path.{◌≡◌, refl, sym, ap, ◌∙◌}
 use mathlib.Core.Bool.{Bool, true, false}
 use mathlib.Core.List.{[], ◌∷◌, map}
@@ -8,7 +9,6 @@ use native.Mathlib.Omega.{arith}
 use borrow.Author.Tests.{eq-eqb, ne_eqb, eqb-true, eqb-false, le-ltb}
 use lib.Dec.{ltb, eqb}
 use lib.ListN.{length, take}
-use Rattle.model.specs.Base.{if◌then◌else◌}
 use Rattle.ranking.specs.Ranks.{above, passed, added, shifted, least_rank}
 use Rattle.ranks.specs.Prediction.{unpacked}
 use Rattle.ranks.specs.Moves.{moves_ranks, moves_lengths, Bounded}

@@ -1,7 +1,6 @@
 -- The daughters of a nonlexical step.
 -- Assumes nothing.
-use Rattle.std.specs.Prelude.{◌≡◌, List, [], ◌∷◌, ℕ, ◌+◌, ◌/◌, ◌%◌, ◌<◌, ◌≤◌, min, eqb, get_or}
-use Rattle.model.specs.Base.{if◌then◌else◌}
+use Rattle.std.specs.Prelude.{◌≡◌, List, [], ◌∷◌, ℕ, ◌+◌, ◌/◌, ◌%◌, ◌<◌, ◌≤◌, min, eqb, get_or, if◌then◌else◌}
 use Rattle.ranks.specs.Prediction.{Prediction, Sized, unpacked}
 use Rattle.ranks.specs.Queue.{insert_all}
 

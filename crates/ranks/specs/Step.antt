@@ -1,10 +1,9 @@
 -- A nonlexical step on the queue: the rule's cells in the table of rules.
 -- Assumes nothing.
-use Rattle.std.specs.Prelude.{◌≡◌, true, false, List, [], ◌∷◌, map, ℕ, ◌+◌, ◌-◌, ◌*◌, ◌/◌, ◌%◌, ◌<◌, ◌≤◌, eqb, length, get_or, take}
+use Rattle.std.specs.Prelude.{◌≡◌, true, false, List, [], ◌∷◌, map, ℕ, ◌+◌, ◌-◌, ◌*◌, ◌/◌, ◌%◌, ◌<◌, ◌≤◌, eqb, length, get_or, take, if◌then◌else◌}
 use Rattle.std.proofs.Math.Option.{some}
 use Rattle.std.proofs.Math.Seq.{slice}
 use Rattle.ranks.specs.declared.prediction.Moves.{Moves}
-use Rattle.model.specs.Base.{if◌then◌else◌}
 use Rattle.model.specs.Grammar.{Rule, Grammar, rule_at, is_lexical}
 use Rattle.model.specs.WellFormed.{WellFormed}
 use Rattle.ranking.specs.Ranks.{Ranked, shifted, predict_ranked}

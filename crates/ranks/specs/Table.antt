@@ -1,8 +1,8 @@
 -- The table of a grammar's rules: 8 cells a rule, read without looking into the file.
 -- Assumes nothing.
-use Rattle.std.specs.Prelude.{◌≡◌, Bool, false, List, [], ◌∷◌, ◌++◌, map, ℕ, zero, suc, ◌+◌, ◌-◌, ◌*◌, ◌/◌, ◌%◌, ◌<◌, ◌≤◌, ltb, eqb, length, get_or, take}
+use Rattle.std.specs.Prelude.{◌≡◌, Bool, false, List, [], ◌∷◌, ◌++◌, map, ℕ, zero, suc, ◌+◌, ◌-◌, ◌*◌, ◌/◌, ◌%◌, ◌<◌, ◌≤◌, ltb, eqb, length, get_or, take, if◌then◌else◌}
 use Rattle.std.proofs.Math.Option.{some}
-use Rattle.model.specs.Base.{if◌then◌else◌, numbers_from}
+use Rattle.model.specs.Base.{numbers_from}
 use Rattle.model.specs.Grammar.{Rule, Grammar, rule_at, is_lexical, dimension}
 use Rattle.ranking.specs.Ranks.{Ranked, variable_ranks, rank_of, lengths}
 use Rattle.ranks.specs.Queue.{insert_all}

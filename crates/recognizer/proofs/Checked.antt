@@ -1,5 +1,6 @@
 -- A whole trace: its refusals in order, and the predictions that its steps take.
 -- Assumes nothing.
+use Rattle.std.specs.Prelude.{if◌then◌else◌}
 use mathlib.Core.Path.{◌≡◌, refl, sym, ap, ap₂, subst, ◌∙◌}
 use mathlib.Core.Bool.{Bool, true, false}
 use mathlib.Core.Option.{Option, none, some}
@@ -12,7 +13,7 @@ use lib.ListN.{length, take, drop}
 use lib.Seq.{sets, sets-eq, take_at}
 use Rattle.model.specs.declared.Refusal.{Refusal}
 use Rattle.model.specs.declared.Verdict.{Verdict}
-use Rattle.model.specs.Base.{if◌then◌else◌, ◌or_else◌}
+use Rattle.model.specs.Base.{◌or_else◌}
 use Rattle.model.specs.Verdict.{refuse_if, verdict}
 use Rattle.model.specs.Grammar.{Grammar}
 use Rattle.model.specs.GrammarFile.{start_of, grammar_refusal, grammar_of}

@@ -1,5 +1,6 @@
 -- The run along a trace, step by step: what its verdict is, and which predictions it takes.
 -- Assumes nothing.
+use Rattle.std.specs.Prelude.{if◌then◌else◌}
 use mathlib.Core.Path.{◌≡◌, refl, sym, ap, ap₂, ◌∙◌}
 use mathlib.Core.Bool.{Bool}
 use mathlib.Core.Option.{Option, none, some}
@@ -13,7 +14,6 @@ use lib.ListN.{length, get_or, drop, set, length-drop, drop_of_length-le, length
 use lib.Seq.{drop-cons, sets}
 use Rattle.model.specs.declared.Refusal.{Refusal}
 use Rattle.model.specs.declared.Verdict.{Verdict}
-use Rattle.model.specs.Base.{if◌then◌else◌}
 use Rattle.model.specs.Verdict.{refuse_if, verdict}
 use Rattle.model.specs.Grammar.{Grammar}
 use Rattle.model.specs.Trace.{no_node}

@@ -1,5 +1,6 @@
 -- Pages of the text: lines that are put behind each other at the front of a buffer, and what is left of the text after them.
 -- Assumes nothing.
+use Rattle.std.specs.Prelude.{if◌then◌else◌}
 use mathlib.Core.Path.{◌≡◌, refl, sym, ap, ap₂, subst, ◌∙◌}
 use mathlib.Core.Bool.{Bool, true, false}
 use mathlib.Core.List.{List, [], ◌∷◌, ◌++◌, append_assoc, append-nil}
@@ -10,7 +11,7 @@ use lib.ListN.{length, take, drop, length-append}
 use lib.Seq.{sets-eq, take_at, length-take-le}
 use Rattle.model.specs.declared.Refusal.{Refusal}
 use Rattle.model.specs.declared.CountVerdict.{CountVerdict}
-use Rattle.model.specs.Base.{if◌then◌else◌, each, ◌or_else◌}
+use Rattle.model.specs.Base.{each, ◌or_else◌}
 use Rattle.model.specs.Verdict.{refuse_if, count_verdict}
 use Rattle.model.specs.Grammar.{Grammar}
 use Rattle.model.specs.GrammarFile.{grammar_refusal, grammar_of, start_of}

@@ -1,5 +1,6 @@
 -- What is printed for what the program reads of its files is what document 01 says is printed for the whole files (`whole_text`), and so are the pages joined.
 -- Assumes nothing.
+use Rattle.std.specs.Prelude.{if◌then◌else◌}
 use mathlib.Core.Path.{◌≡◌, refl, sym, ap, ap₂, ◌∙◌}
 use mathlib.Core.Bool.{Bool, true, false, not, ◌&&◌}
 use mathlib.Core.List.{List, [], ◌∷◌, ◌++◌}
@@ -11,7 +12,7 @@ use lib.Dec.{T, eqb, leb, eqb→eq}
 use lib.ListN.{length, take}
 use lib.Seq.{take_all, take-nil, length-take-le}
 use Rattle.model.specs.declared.Refusal.{Refusal}
-use Rattle.model.specs.Base.{if◌then◌else◌, ◌or_else◌, each}
+use Rattle.model.specs.Base.{◌or_else◌, each}
 use Rattle.model.specs.Verdict.{refuse_if}
 use Rattle.model.specs.Grammar.{Grammar}
 use Rattle.model.specs.GrammarFile.{grammar_refusal, grammar_of, wrong_length, within, blocks}

@@ -1,5 +1,6 @@
 -- A table whose cells are those of each record holds every rule of the grammar that the file holds.
 -- Assumes nothing.
+use Rattle.std.specs.Prelude.{if◌then◌else◌}
 use mathlib.Core.Path.{◌≡◌, refl, sym, ap, ap₂, subst, ◌∙◌}
 use mathlib.Core.Option.{none}
 use mathlib.Core.Bool.{Bool, true, false}
@@ -11,7 +12,6 @@ use borrow.Author.Tests.{lt-ltb, le-ltb, eq-eqb, ne_eqb}
 use lib.Dec.{eqb}
 use lib.ListN.{length, get_or, take, drop, length-map, length-take, get_or-eq_default, get_or-map}
 use lib.Seq.{get_or-take, get_or-drop}
-use Rattle.model.specs.Base.{if◌then◌else◌}
 use Rattle.model.specs.Grammar.{Rule, Grammar, is_lexical, dimension}
 use Rattle.model.specs.GrammarFile.{fields, field, record_place, dimensions_of, rules_of, record_of, grammar_refusal, rule_of, grammar_of}
 use Rattle.model.proofs.RuleFromRecord.{Tested, category_in, three, daughters_length}

@@ -1,5 +1,6 @@
 -- What the two cells of a daughter hold, and that they make the daughter.
 -- Assumes nothing.
+use Rattle.std.specs.Prelude.{if◌then◌else◌}
 use mathlib.Core.Path.{◌≡◌, refl, sym, ap, ap₂, ◌∙◌}
 use mathlib.Core.Option.{none}
 use mathlib.Core.Bool.{Bool, true, false}
@@ -10,7 +11,7 @@ use native.Mathlib.Decide.{dec_lt}
 use borrow.Author.Tests.{lt-ltb, le-ltb}
 use lib.Dec.{ltb}
 use lib.ListN.{length, get_or, take, length-map, get_or-eq_default}
-use Rattle.model.specs.Base.{if◌then◌else◌, numbers_from}
+use Rattle.model.specs.Base.{numbers_from}
 use Rattle.model.specs.Grammar.{Rule, Grammar, dimension}
 use Rattle.model.specs.GrammarFile.{field, dimensions_of, rules_of, record_of, grammar_refusal, rule_of, grammar_of}
 use Rattle.model.proofs.Lists.{length_numbers}

@@ -1,5 +1,6 @@
 -- Numbers in rising order: two, or three, that settle as those that they come from.
 -- Assumes nothing.
+use Rattle.std.specs.Prelude.{if◌then◌else◌}
 use mathlib.Core.Path.{◌≡◌, refl, sym, ap₂, ◌∙◌}
 use mathlib.Core.Bool.{Bool, true, false}
 use mathlib.Core.List.{List, [], ◌∷◌, head-eq_of_cons-eq, tail-eq_of_cons-eq}
@@ -8,7 +9,6 @@ use native.Mathlib.Omega.{arith}
 use borrow.Author.Tests.{le-ltb, ne_eqb}
 use lib.Dec.{eqb}
 use lib.ListN.{get_or, take}
-use Rattle.model.specs.Base.{if◌then◌else◌}
 use Rattle.ranks.specs.declared.daughters.Three.{Three}
 use Rattle.ranks.specs.Queue.{insert, insert_all}
 use Rattle.ranks.specs.Daughters.{Rising}

@@ -1,5 +1,6 @@
 -- The daughters of a rule of dimension 1, ready made.
 -- Assumes nothing.
+use Rattle.std.specs.Prelude.{if◌then◌else◌}
 use mathlib.Core.Path.{◌≡◌, refl, sym, ap, ap₂, ◌∙◌}
 use mathlib.Core.Option.{none}
 use mathlib.Core.Bool.{Bool}
@@ -8,7 +9,7 @@ use Prim.Native.Nat.{ℕ, zero, suc, ◌+◌, ◌*◌, ◌/◌, ◌%◌, ◌<◌
 use native.Mathlib.Omega.{arith}
 use borrow.Author.Tests.{lt-ltb}
 use lib.ListN.{length, take}
-use Rattle.model.specs.Base.{if◌then◌else◌, numbers_from}
+use Rattle.model.specs.Base.{numbers_from}
 use Rattle.model.specs.Grammar.{Rule, Grammar}
 use Rattle.model.specs.GrammarFile.{field, dimensions_of, rules_of, record_of, grammar_refusal, rule_of, grammar_of}
 use Rattle.model.proofs.RuleFromRecord.{three, daughters_length}

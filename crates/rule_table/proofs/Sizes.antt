@@ -1,5 +1,6 @@
 -- The numbers that go into a cell are as small as their places.
 -- Assumes nothing.
+use Rattle.std.specs.Prelude.{if◌then◌else◌}
 use mathlib.Core.Path.{◌≡◌, refl}
 use mathlib.Core.Bool.{Bool, true, false}
 use mathlib.Core.List.{List}
@@ -7,7 +8,6 @@ use Prim.Native.Nat.{ℕ, zero, suc, ◌+◌, ◌-◌, ◌*◌, ◌/◌, ◌%◌
 use native.Mathlib.Omega.{arith}
 use lib.Dec.{ltb, eqb}
 use lib.ListN.{get_or}
-use Rattle.model.specs.Base.{if◌then◌else◌}
 use Rattle.model.specs.GrammarFile.{field}
 use Rattle.ranks.specs.Prediction.{Sized, unpacked}
 use Rattle.ranks.specs.Daughters.{daughter}

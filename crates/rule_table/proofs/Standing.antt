@@ -1,5 +1,6 @@
 -- Which variable is the first that is x, and in which component a variable stands.
 -- Assumes nothing.
+use Rattle.std.specs.Prelude.{if◌then◌else◌}
 use mathlib.Core.Path.{◌≡◌, refl, sym, ap, ◌∙◌}
 use mathlib.Core.Bool.{Bool, true, false}
 use mathlib.Core.List.{List}
@@ -8,7 +9,7 @@ use native.Mathlib.Omega.{arith}
 use native.Mathlib.Decide.{dec_lt}
 use borrow.Author.Tests.{ltb-true, ltb-false, lt-ltb, le-ltb, eq-eqb, ne_eqb}
 use lib.Dec.{ltb, eqb, eqb→eq}
-use Rattle.model.specs.Base.{if◌then◌else◌, sum_below}
+use Rattle.model.specs.Base.{sum_below}
 use Rattle.model.specs.GrammarFile.{field}
 use Rattle.rule_table.specs.declared.places.Stand.{Stand}
 use Rattle.rule_table.specs.Places.{first_of, stand_at, stand_of, stand_in}

@@ -1,5 +1,6 @@
 -- The rank of a variable: the rank at which its component begins, plus its position there.
 -- Assumes nothing.
+use Rattle.std.specs.Prelude.{if◌then◌else◌}
 use mathlib.Core.Path.{◌≡◌, refl, sym, ap, ap₂, ◌∙◌}
 use mathlib.Core.Bool.{Bool, true, false, ◌&&◌}
 use mathlib.Core.List.{List, [], ◌∷◌, ◌++◌, map}
@@ -9,7 +10,7 @@ use borrow.Author.Tests.{eq-eqb}
 use lib.Dec.{eqb, eqb→eq}
 use lib.ListN.{length, get_or, length-append, length-map, get_or-append}
 use lib.Seq.{get_or-append-add}
-use Rattle.model.specs.Base.{if◌then◌else◌, sum_below}
+use Rattle.model.specs.Base.{sum_below}
 use Rattle.model.specs.Grammar.{Variable, variable}
 use Rattle.model.specs.WellFormed.{named}
 use Rattle.model.proofs.Lists.{map_append}

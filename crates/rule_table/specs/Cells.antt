@@ -1,7 +1,6 @@
 -- The 8 cells of a rule, which is a record e of the grammar file, in a grammar of dimensions d.
 -- Assumes nothing.
-use Rattle.std.specs.Prelude.{◌≡◌, List, [], ◌∷◌, ℕ, ◌+◌, ◌*◌, ◌%◌, ◌<◌, min, max, ltb, eqb, length, get_or}
-use Rattle.model.specs.Base.{if◌then◌else◌}
+use Rattle.std.specs.Prelude.{◌≡◌, List, [], ◌∷◌, ℕ, ◌+◌, ◌*◌, ◌%◌, ◌<◌, min, max, ltb, eqb, length, get_or, if◌then◌else◌}
 use Rattle.model.specs.GrammarFile.{field, word_of, dimension_in}
 use Rattle.ranks.specs.declared.daughters.Three.{Three}
 use Rattle.ranks.specs.Prediction.{Prediction, packed}

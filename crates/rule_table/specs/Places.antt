@@ -1,7 +1,6 @@
 -- Where the variables of a rule stand: in which of its components, and at which position there. A rule is a record e of the grammar file.
 -- Assumes nothing.
-use Rattle.std.specs.Prelude.{ℕ, zero, suc, ◌+◌, ◌-◌, ◌*◌, ◌<◌, ◌≤◌, List, ltb, eqb}
-use Rattle.model.specs.Base.{if◌then◌else◌}
+use Rattle.std.specs.Prelude.{ℕ, zero, suc, ◌+◌, ◌-◌, ◌*◌, ◌<◌, ◌≤◌, List, ltb, eqb, if◌then◌else◌}
 use Rattle.model.specs.GrammarFile.{field}
 use Rattle.rule_table.specs.declared.places.Stand.{Stand}
 

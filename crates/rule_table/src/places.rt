@@ -1,6 +1,5 @@
 // Where the variables of a rule stand in its components. The rule is a record e of the grammar file.
-ghost use Rattle.std.specs.Prelude.{◌≡◌, ◌+◌, ◌*◌, ◌<◌, ◌≤◌, ltb};
-ghost use Rattle.model.specs.Base.{if◌then◌else◌};
+ghost use Rattle.std.specs.Prelude.{◌≡◌, ◌+◌, ◌*◌, ◌<◌, ◌≤◌, ltb, if◌then◌else◌};
 ghost use Rattle.rule_table.specs.Places.{Small, first_of, stand_at, stand_of};
 
 use grammar::byte;

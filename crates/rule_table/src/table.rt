@@ -1,8 +1,7 @@
 // The table of a grammar's rules is made, once for a call, by the constants of `ranks::table`. Here e is the record of a rule in the grammar file, and d has
 // the dimensions of the categories.
 ghost use Rattle.std.proofs.Math.Option.{none};
-ghost use Rattle.std.specs.Prelude.{◌≡◌, ◌+◌, ◌*◌, ◌<◌, ◌≤◌, ltb, length};
-ghost use Rattle.model.specs.Base.{if◌then◌else◌};
+ghost use Rattle.std.specs.Prelude.{◌≡◌, ◌+◌, ◌*◌, ◌<◌, ◌≤◌, ltb, length, if◌then◌else◌};
 ghost use Rattle.model.specs.GrammarFile.{field, grammar_refusal, grammar_of};
 ghost use Rattle.ranks.specs.Prediction.{Sized, packed};
 ghost use Rattle.ranks.specs.Daughters.{daughter};

@@ -1,7 +1,6 @@
 -- The earlier records that may hold the same rule as a record, found by their hashes: refusal 10 compares it with these alone.
 -- Assumes nothing.
-use Rattle.std.specs.Prelude.{◌≡◌, List, ℕ, zero, suc, ◌+◌, ◌*◌, ◌%◌, ◌<◌, ◌≤◌, eqb, get_or}
-use Rattle.model.specs.Base.{if◌then◌else◌}
+use Rattle.std.specs.Prelude.{◌≡◌, List, ℕ, zero, suc, ◌+◌, ◌*◌, ◌%◌, ◌<◌, ◌≤◌, eqb, get_or, if◌then◌else◌}
 use Rattle.model.specs.GrammarFile.{field}
 
 -- a sum over bytes 0 (category), 2 to 4 (daughters), 5 and 6 (word) of a record

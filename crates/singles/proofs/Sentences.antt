@@ -1,5 +1,6 @@
 -- Where a definition looks at a place of a sentence, it says of a single word what document 01 says of the word.
 -- Assumes nothing.
+use Rattle.std.specs.Prelude.{if◌then◌else◌}
 use mathlib.Core.Path.{◌≡◌, refl, ap, ap₂, ◌∙◌}
 use mathlib.Core.Bool.{Bool, true, false, not, ◌&&◌, ◌||◌}
 use mathlib.Core.List.{List, [], ◌∷◌}
@@ -11,7 +12,7 @@ use borrow.Author.Tests.{le-leb, lt-leb, eq-eqb, ne_eqb, le-ltb}
 use lib.Dec.{ltb, leb, eqb}
 use lib.ListN.{length-map}
 use Rattle.model.specs.declared.Refusal.{Refusal}
-use Rattle.model.specs.Base.{if◌then◌else◌, ◌or_else◌, same_list}
+use Rattle.model.specs.Base.{◌or_else◌, same_list}
 use Rattle.model.specs.Verdict.{refuse_if}
 use Rattle.model.specs.Grammar.{Grammar}
 use Rattle.model.specs.Step.{lowest, highest, single, singles, word_fits}

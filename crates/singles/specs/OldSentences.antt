@@ -3,12 +3,12 @@
 -- else is that of `model` and `weights`. What a call answered is said for what is refused of a grammar file and the grammar that it holds, whatever these
 -- are: of today's grammar files they are `grammar_refusal file` and `grammar_of file` of `model`; of older ones they are in the crate `old_files`.
 -- Assumes nothing.
-use Rattle.std.specs.Prelude.{ℕ, zero, suc, ◌+◌, ◌-◌, ◌*◌, ◌%◌, Bool, false, not, List, [], ◌∷◌, map, ltb, leb, eqb, length, get_or, drop}
+use Rattle.std.specs.Prelude.{ℕ, zero, suc, ◌+◌, ◌-◌, ◌*◌, ◌%◌, Bool, false, not, List, [], ◌∷◌, map, ltb, leb, eqb, length, get_or, drop, if◌then◌else◌}
 use Rattle.std.proofs.Math.Option.{Option, none, some}
 use Rattle.model.specs.declared.Refusal.{Refusal}
 use Rattle.model.specs.declared.Verdict.{Verdict}
 use Rattle.model.specs.declared.CountVerdict.{CountVerdict}
-use Rattle.model.specs.Base.{if◌then◌else◌, ◌or_else◌, each, keep, numbers_from, same_list}
+use Rattle.model.specs.Base.{◌or_else◌, each, keep, numbers_from, same_list}
 use Rattle.model.specs.Verdict.{refuse_if, verdict, count_verdict}
 use Rattle.model.specs.Grammar.{Rule, Grammar, empty_word, rule_at, is_lexical}
 use Rattle.model.specs.Step.{Prediction, State, Outcome, fails, leads, predict, begin}

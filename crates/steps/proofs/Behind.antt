@@ -1,5 +1,6 @@
 -- How many words a step reads, and where the recognizer stood before it.
 -- Assumes nothing.
+use Rattle.std.specs.Prelude.{if◌then◌else◌}
 use mathlib.Core.Path.{◌≡◌, sym, ap, ◌∙◌}
 use mathlib.Core.Bool.{Bool, true, false}
 use mathlib.Core.List.{List}
@@ -7,7 +8,6 @@ use Prim.Native.Nat.{ℕ, ◌*◌, ◌<◌, ◌≤◌}
 use native.Mathlib.Omega.{arith}
 use borrow.Author.Tests.{eq-eqb, ne_eqb}
 use lib.Dec.{eqb}
-use Rattle.model.specs.Base.{if◌then◌else◌}
 use Rattle.model.specs.Grammar.{empty_word}
 use Rattle.ranks.specs.Table.{daughters_in, word_in}
 use Rattle.steps.specs.declared.Standing.{Standing}

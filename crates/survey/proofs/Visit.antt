@@ -1,5 +1,6 @@
 -- A visit to a rule of an accepted file, by the rule's category and the tests of its daughters.
 -- Assumes nothing.
+use Rattle.std.specs.Prelude.{if◌then◌else◌}
 use mathlib.Core.Path.{◌≡◌, ap, ◌∙◌}
 use mathlib.Core.Bool.{true, false, ◌&&◌}
 use mathlib.Core.Option.{none}
@@ -9,7 +10,6 @@ use native.Mathlib.Omega.{arith}
 use borrow.Author.Tests.{eq-eqb, ne_eqb}
 use lib.Dec.{eqb}
 use lib.ListN.{get_or, set}
-use Rattle.model.specs.Base.{if◌then◌else◌}
 use Rattle.model.specs.GrammarFile.{grammar_refusal, grammar_of, rules_of, categories_of, record_of, field, daughters_of}
 use Rattle.model.specs.Survey.{ready, visit_by, visit}
 use Rattle.model.proofs.FromFile.{rule_read_lem, record_tested, dimensions_length}

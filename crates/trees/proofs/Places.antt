@@ -1,5 +1,6 @@
 -- The places of the trees of a list: where a tree ends, and that the daughters of a node stand where `daughter_place` says.
 -- Assumes nothing.
+use Rattle.std.specs.Prelude.{if◌then◌else◌}
 use mathlib.Core.Path.{◌≡◌, refl, sym, ap, subst, ◌∙◌}
 use mathlib.Core.Bool.{Bool, true, false}
 use mathlib.Core.Option.{Option, none, some}
@@ -10,7 +11,6 @@ use native.Mathlib.Decide.{dec_lt}
 use lib.Dec.{T, eqb}
 use lib.ListN.{length, get_or, drop, length-drop, drop_of_length-le}
 use lib.Seq.{drop-cons, drop-drop}
-use Rattle.model.specs.Base.{if◌then◌else◌}
 use Rattle.model.specs.declared.Refusal.{Refusal}
 use Rattle.model.specs.Grammar.{Rule, Grammar, rule_at}
 use Rattle.model.specs.Tree.{Forest, node, nil, cons, preorder, preorders, has_root, has_roots, root_by, arity_by, arity, firsts, others, forest, tree_of_list, nodes_refusal}

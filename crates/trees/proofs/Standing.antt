@@ -1,5 +1,6 @@
 -- What a tree reader finds at a place of the list.
 -- Assumes nothing.
+use Rattle.std.specs.Prelude.{if◌then◌else◌}
 use mathlib.Core.Path.{◌≡◌, refl}
 use mathlib.Core.Bool.{Bool, true, false}
 use mathlib.Core.List.{List}
@@ -8,7 +9,6 @@ use native.Mathlib.Omega.{arith}
 use borrow.Author.Tests.{ltb-true, ltb-false}
 use lib.Dec.{ltb}
 use lib.ListN.{length, get_or}
-use Rattle.model.specs.Base.{if◌then◌else◌}
 use Rattle.model.specs.declared.RuleNumber.{RuleNumber}
 use Rattle.trees.specs.declared.tree_reader.Found.TheVariants.{Rule, End}
 use Rattle.trees.specs.Found.{found_at}

@@ -1,7 +1,6 @@
 -- What stands at a place of a tree's list: a rule number, with the place where the reading goes on; or the list has ended.
 -- Assumes nothing.
-use Rattle.std.specs.Prelude.{ℕ, List, ltb, length, get_or}
-use Rattle.model.specs.Base.{if◌then◌else◌}
+use Rattle.std.specs.Prelude.{ℕ, List, ltb, length, get_or, if◌then◌else◌}
 use Rattle.trees.specs.declared.tree_reader.Found.{Found}
 use Rattle.trees.specs.declared.tree_reader.Found.TheVariants.{Rule, End}
 

@@ -1,5 +1,6 @@
 -- What stands in each block before its check, byte by byte: the numbers at the front, and the given bytes after them.
 -- Assumes nothing.
+use Rattle.std.specs.Prelude.{if◌then◌else◌}
 use mathlib.Core.Path.{◌≡◌, refl, sym, ap, ◌∙◌}
 use mathlib.Core.List.{List, [], ◌∷◌, ◌++◌}
 use Prim.Native.Nat.{ℕ, zero, suc, ◌+◌, ◌-◌, ◌*◌, ◌<◌, ◌≤◌}
@@ -9,7 +10,6 @@ use lib.Dec.{ltb}
 use lib.ListN.{get_or, replicate, get_or-append, get_or-eq_default}
 use borrow.Author.Tests.{ltb-false}
 use mathlib.Core.Bool.{Bool, true, false}
-use Rattle.model.specs.Base.{if◌then◌else◌}
 use Rattle.model.specs.GrammarFile.{fields, records_in}
 use Rattle.model.specs.Writer.{Heading, little2, padded}
 use Rattle.model.proofs.ByteLists.{fields_at, after_front, padded_length, padded_at}

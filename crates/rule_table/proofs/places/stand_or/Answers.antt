@@ -1,10 +1,10 @@
 -- `rule_table::places::stand_or` meets its contract.
 -- Assumes nothing.
+use Rattle.std.specs.Prelude.{if◌then◌else◌}
 use mathlib.Core.Path.{sym, ap, ◌∙◌}
 use mathlib.Core.Bool.{Bool}
 use native.Mathlib.Omega.{arith}
 use borrow.Author.Tests.{lt-ltb, le-ltb}
-use Rattle.model.specs.Base.{if◌then◌else◌}
 use Rattle.rule_table.specs.Places.{stand_of}
 use Rattle.rule_table.proofs.places.stand_or.Goals as goal
 

@@ -1,10 +1,10 @@
 -- `rule_table::table::lengths_cell` meets its contract.
 -- Assumes nothing.
+use Rattle.std.specs.Prelude.{if◌then◌else◌}
 use mathlib.Core.Path.{◌≡◌, ap, ◌∙◌}
 use Prim.Native.Nat.{ℕ, ◌+◌}
 use native.Mathlib.Omega.{arith}
 use lib.Dec.{ltb}
-use Rattle.model.specs.Base.{if◌then◌else◌}
 use Rattle.model.specs.GrammarFile.{field, dimension_in}
 use Rattle.rule_table.specs.Cells.{dimension_of, length_in}
 use Rattle.rule_table.proofs.table.lengths_cell.Goals as goal

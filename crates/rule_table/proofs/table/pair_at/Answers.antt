@@ -1,11 +1,11 @@
 -- `rule_table::table::pair_at` meets its contract.
 -- Assumes nothing.
+use Rattle.std.specs.Prelude.{if◌then◌else◌}
 use mathlib.Core.Path.{◌≡◌, sym, ap, ap₂, ◌∙◌}
 use Prim.Native.Nat.{ℕ, ◌+◌, ◌*◌, ◌%◌}
 use native.Mathlib.Omega.{arith}
 use lib.Dec.{ltb}
 use borrow.Author.Rules.{rules}
-use Rattle.model.specs.Base.{if◌then◌else◌}
 use Rattle.model.specs.GrammarFile.{dimension_in}
 use Rattle.ranks.specs.Prediction.{packed}
 use Rattle.rule_table.specs.declared.places.Stand.{Stand}

@@ -1,10 +1,10 @@
 -- `rule_table::table::pair_of` meets its contract.
 -- Assumes nothing.
+use Rattle.std.specs.Prelude.{if◌then◌else◌}
 use mathlib.Core.Path.{sym, ap, ◌∙◌}
 use mathlib.Core.Bool.{Bool}
 use native.Mathlib.Omega.{arith}
 use borrow.Author.Tests.{lt-ltb, le-ltb}
-use Rattle.model.specs.Base.{if◌then◌else◌}
 use Rattle.model.specs.GrammarFile.{field}
 use Rattle.rule_table.specs.Cells.{pair_at}
 use Rattle.rule_table.proofs.table.pair_of.Goals as goal

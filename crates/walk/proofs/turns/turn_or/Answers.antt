@@ -1,10 +1,10 @@
 -- `walk::turns::turn_or` meets its contract.
 -- Assumes nothing.
+use Rattle.std.specs.Prelude.{if◌then◌else◌}
 use mathlib.Core.Path.{sym, ap}
 use mathlib.Core.Bool.{Bool}
 use native.Mathlib.Omega.{arith}
 use borrow.Author.Tests.{eq-eqb, ne_eqb}
-use Rattle.model.specs.Base.{if◌then◌else◌}
 use Rattle.walk.specs.Chain.{no_rule}
 use Rattle.walk.specs.Turns.{turn_at}
 use Rattle.walk.proofs.turns.turn_or.Goals as goal
