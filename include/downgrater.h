@@ -1,4 +1,4 @@
-/* The C interface of libdowngrater (target/staticlib/libdowngrater.a, written by `rt staticlib downgrater`).
+/* The C interface of libdowngrater (target/staticlib/libdowngrater.a, written by `tools/build lib`).
  *
  * A slice is a pointer and then a length in elements; where the length is 0 the pointer may be null. Every function asks for valid pointers, for an output
  * that overlaps no input, and for nothing else: it refuses instead of failing, and a refused call changes no buffer. An output keeps what it held past the

@@ -17,6 +17,6 @@ fn main() {
         println!("cargo::rustc-link-search=native={}", folder.display());
         println!("cargo::rustc-link-lib=static=downgrater");
     } else {
-        println!("cargo::warning=there is no {}: built without the library, and no call can be made. Run `rt staticlib downgrater` at the top of the repository, or set DOWNGRATER_LIB to the folder that has libdowngrater.a", file.display());
+        println!("cargo::warning=there is no {}: built without the library, and no call can be made. Run `tools/build lib` at the top of the repository, or set DOWNGRATER_LIB to the folder that has libdowngrater.a", file.display());
     }
 }

@@ -20,7 +20,7 @@ pub struct Missing;
 impl fmt::Display for Missing {
     fn fmt(&self, f: &mut fmt::Formatter) -> fmt::Result {
         f.write_str(concat!(
-            "libdowngrater.a was not there when the crate downgrater was built: run `rt staticlib downgrater` at the top of the repository, ",
+            "libdowngrater.a was not there when the crate downgrater was built: run `tools/build lib` at the top of the repository, ",
             "or set DOWNGRATER_LIB to the folder that has it, and build again"
         ))
     }
@@ -69,6 +69,6 @@ mod tests {
 
     #[test]
     fn the_missing_library_is_said() {
-        assert!(format!("{:?}", Err::<(), _>(Missing)).contains("run `rt staticlib downgrater`"));
+        assert!(format!("{:?}", Err::<(), _>(Missing)).contains("run `tools/build lib`"));
     }
 }
