@@ -1,7 +1,7 @@
--- K1 to K10 (document 01), and words heard unclearly (document 02, paper 5), as a list of claims with one theorem for the list. K3 to K10 go through the calls,
--- on grammar files.
+-- K1 to K10 (document 01), and words heard unclearly (document 02, paper 5), as a list of claims; one theorem for the list is in proofs/Examples. K3 to K10 go
+-- through the calls, on grammar files.
 -- Assumes nothing.
-use Rattle.std.specs.Prelude.{◌≡◌, refl, ℕ, true, List, [], ◌∷◌, ◌++◌, map}
+use Rattle.std.specs.Prelude.{◌≡◌, ℕ, true, List, [], ◌∷◌, ◌++◌, map}
 use Rattle.std.proofs.Math.Option.{Option, none, some}
 use Rattle.model.specs.Verdict.{verdict_answer, count_answer, values, refusal, analysisAuthor, desk}
 use Rattle.model.specs.Grammar.{Grammar, variable, lexical, nonlexical}
@@ -178,50 +178,3 @@ unclear_words =
 
 abbrev pub examples : List (List Claim)
 examples = the_files ∷ K1 ∷ K2 ∷ K3 ∷ K4 ∷ K5 ∷ K6 ∷ K7 ∷ K8 ∷ K9 ∷ K10 ∷ lone_variable ∷ wide_component ∷ unclear_words ∷ []
-
-the_files_hold : AllHold the_files
-the_files_hold = (refl, (refl, (refl, (refl, (refl, (refl, tt))))))
-
-K1_hold : AllHold K1
-K1_hold = (refl, (refl, tt))
-
-K2_hold : AllHold K2
-K2_hold = (refl, tt)
-
-K3_hold : AllHold K3
-K3_hold = (refl, (refl, tt))
-
-K4_hold : AllHold K4
-K4_hold = (refl, (refl, (refl, (refl, (refl, tt)))))
-
-K5_hold : AllHold K5
-K5_hold = (refl, (refl, tt))
-
-K6_hold : AllHold K6
-K6_hold = (refl, tt)
-
-K7_hold : AllHold K7
-K7_hold = (refl, (refl, (refl, tt)))
-
-K8_hold : AllHold K8
-K8_hold = (refl, (refl, tt))
-
-K9_hold : AllHold K9
-K9_hold = (refl, (refl, (refl, tt)))
-
-K10_hold : AllHold K10
-K10_hold = (refl, tt)
-
-lone_variable_hold : AllHold lone_variable
-lone_variable_hold = (refl, tt)
-
-wide_component_hold : AllHold wide_component
-wide_component_hold = (refl, tt)
-
-unclear_words_hold : AllHold unclear_words
-unclear_words_hold = (refl, (refl, (refl, (refl, (refl, (refl, (refl, (refl, tt))))))))
-
--- one theorem for the list
-pub examples_hold : AllHoldIn examples
-examples_hold =
-    (the_files_hold, (K1_hold, (K2_hold, (K3_hold, (K4_hold, (K5_hold, (K6_hold, (K7_hold, (K8_hold, (K9_hold, (K10_hold, (lone_variable_hold, (wide_component_hold, (unclear_words_hold, tt))))))))))))))
