@@ -22,8 +22,8 @@ year_length year = if leap year then 366 else 365
 -- "month lengths come from a table for common and leap years": February has 28 days, in a leap year 29; April, June, September and November have 30, the others
 -- 31. Months are counted from 1
 abbrev pub length_in : Bool → ℕ → ℕ
-length_in leapYear month =
-    if eqb month 2 then (if leapYear then 29 else 28)
+length_in leap_year month =
+    if eqb month 2 then (if leap_year then 29 else 28)
     else (if eqb month 4 || eqb month 6 || eqb month 9 || eqb month 11 then 30 else 31)
 
 abbrev pub month_length : ℕ → ℕ → ℕ

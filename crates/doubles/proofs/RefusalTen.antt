@@ -79,19 +79,19 @@ below_out test (suc n) e = go (any_below test n) refl e (λ f. below_out test n 
     go true f u ih = let (j, h, v) = ih f in (j, omega arith, v)
     go false f u ih = (n, omega arith, u)
 
-module _ (g : Grammar) (in_range : DimensionsIn g) (recordAt : ℕ → List ℕ) (i : ℕ) (passes : (k : ℕ) → k ≤ i → Passes g (recordAt k)) where
+module _ (g : Grammar) (in_range : DimensionsIn g) (record_at : ℕ → List ℕ) (i : ℕ) (passes : (k : ℕ) → k ≤ i → Passes g (record_at k)) where
   abbrev test : ℕ → Bool
-  test j = same_rule (recordAt j) (recordAt i)
+  test j = same_rule (record_at j) (record_at i)
 
-  found_earlier : repeated recordAt i ≡ true → EarlierDouble g recordAt i
+  found_earlier : repeated record_at i ≡ true → EarlierDouble g record_at i
   found_earlier q =
       let (j, h, s) = below_out test i q in
-      (j, h, (meant g in_range (recordAt j) (recordAt i) (passes j (omega arith)) (passes i (omega arith))).0 s)
+      (j, h, (meant g in_range (record_at j) (record_at i) (passes j (omega arith)) (passes i (omega arith))).0 s)
 
-  is_repeated : ((k : ℕ) → k ≤ i → T (all_bytes (recordAt k))) → EarlierDouble g recordAt i → repeated recordAt i ≡ true
+  is_repeated : ((k : ℕ) → k ≤ i → T (all_bytes (record_at k))) → EarlierDouble g record_at i → repeated record_at i ≡ true
   is_repeated bytes w =
       let (j, h, r) = w in
-      any_hit test j i h ((meant g in_range (recordAt j) (recordAt i) (passes j (omega arith)) (passes i (omega arith))).1 (bytes j (omega arith)) (bytes i (omega arith)) r)
+      any_hit test j i h ((meant g in_range (record_at j) (record_at i) (passes j (omega arith)) (passes i (omega arith))).1 (bytes j (omega arith)) (bytes i (omega arith)) r)
 
 module _ (file : List ℕ) (bytes : T (all_bytes file)) (accepted : grammar_refusal file ≡ none) where
   record_passes : (i : ℕ) → i < rules_of file → Passes (grammar_of file) (record_of file i)
@@ -146,4 +146,4 @@ module _ (file : List ℕ) (bytes : T (all_bytes file)) (accepted : grammar_refu
       go hr hs w (more l) = absurd (no_earlier r s hr l (reordered_back (rule_read file r) (rule_read file s) (few r hr) (of_daughters s hs) w))
 
 pub refusal_ten : RefusalTen
-refusal_ten = record { meant = meant; met = λ g in_range recordAt i passes. (found_earlier g in_range recordAt i passes, is_repeated g in_range recordAt i passes); no_doubles = no_doubles }
+refusal_ten = record { meant = meant; met = λ g in_range record_at i passes. (found_earlier g in_range record_at i passes, is_repeated g in_range record_at i passes); no_doubles = no_doubles }

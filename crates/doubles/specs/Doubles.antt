@@ -42,7 +42,7 @@ Double g earlier e = Reordered (rule_of g.dimensions earlier) (rule_of g.dimensi
 
 -- the rule of record i is that of an earlier one in this way
 abbrev pub EarlierDouble : Grammar → (ℕ → List ℕ) → ℕ → Type 0
-EarlierDouble g recordAt i = (j : ℕ) × (j < i) × Double g (recordAt j) (recordAt i)
+EarlierDouble g record_at i = (j : ℕ) × (j < i) × Double g (record_at j) (record_at i)
 
 -- no rule of a grammar is another one with its daughters in some order
 abbrev pub NoDoubles : Grammar → Type 0
@@ -65,8 +65,8 @@ pub record RefusalTen : Type 0 where
   pub meant : (g : Grammar) → DimensionsInRange g → (earlier e : List ℕ) → Passes g earlier → Passes g e
       → (same_rule earlier e ≡ true → Double g earlier e) × (T (all_bytes earlier) → T (all_bytes e) → Double g earlier e → same_rule earlier e ≡ true)
   -- refusal 10 meets record i exactly when its rule is one of an earlier record in this way, for records in a file as for those that the writer is given
-  pub met : (g : Grammar) → DimensionsInRange g → (recordAt : ℕ → List ℕ) (i : ℕ) → ((k : ℕ) → k ≤ i → Passes g (recordAt k))
-      → (repeated recordAt i ≡ true → EarlierDouble g recordAt i)
-      × (((k : ℕ) → k ≤ i → T (all_bytes (recordAt k))) → EarlierDouble g recordAt i → repeated recordAt i ≡ true)
+  pub met : (g : Grammar) → DimensionsInRange g → (record_at : ℕ → List ℕ) (i : ℕ) → ((k : ℕ) → k ≤ i → Passes g (record_at k))
+      → (repeated record_at i ≡ true → EarlierDouble g record_at i)
+      × (((k : ℕ) → k ≤ i → T (all_bytes (record_at k))) → EarlierDouble g record_at i → repeated record_at i ≡ true)
   -- no accepted file has two rules of which one is the other with its daughters in some order
   pub no_doubles : (file : List ℕ) → T (all_bytes file) → grammar_refusal file ≡ none → NoDoubles (grammar_of file)

@@ -48,3 +48,4 @@ pub mod Verdicts
 pub mod TestLoops
 pub mod Room
 pub mod Refusals
+pub mod Examples

@@ -15,7 +15,7 @@ use Rattle.model.specs.declared.Refusal.{Refusal}
 use Rattle.model.specs.declared.Refusal.TheVariants.{Grammar as OfGrammar, Analysis as OfAnalysis, Desk as OfDesk}
 use Rattle.model.specs.declared.Verdict.{Verdict}
 use Rattle.model.specs.Base.{◌or_else◌, first_from, each, numbers_from}
-use Rattle.model.specs.Verdict.{Author, grammarAuthor, analysisAuthor, desk, Answer, values, refusal, refusal_answer, verdict_answer, count_answer, refuse_if, verdict, count_verdict}
+use Rattle.model.specs.Verdict.{Author, grammar_author, analysis_author, desk, Answer, values, refusal, refusal_answer, verdict_answer, count_answer, refuse_if, verdict, count_verdict}
 use Rattle.model.specs.Grammar.{Rule, Grammar, empty_word, rule_at, is_lexical, daughters_by}
 use Rattle.model.specs.GrammarFile.{grammar_of, categories_of, grammar_refusal, rule_refusal, blocks, rules_of, dimensions_of, words_of, record_of, wrong_category, wrong_word, wrong_variables, unused_set, repeated, wrong_length, wrong_check, wrong_block, wrong_heading, wrong_blocks, wrong_count, wrong_rest}
 use Rattle.model.specs.Writer.{Heading, file_of, heading_block}
@@ -32,8 +32,8 @@ use Rattle.model.proofs.Room.{file_fits, tree_fits, trace_fits, entry_fits, figu
 
 -- the refusal of an author, with a number and a place
 abbrev refusal_of : Author → ℕ → ℕ → Refusal
-refusal_of grammarAuthor n p = OfGrammar n p
-refusal_of analysisAuthor n p = OfAnalysis n p
+refusal_of grammar_author n p = OfGrammar n p
+refusal_of analysis_author n p = OfAnalysis n p
 refusal_of desk n p = OfDesk n p
 
 abbrev given : Test → Refusal
@@ -69,8 +69,8 @@ first_some ts a n p f =
     ∙ ap₂ (λ (x y : ℕ). some (refusal_of a x y)) f.number_is f.place_is
 
 author_back : (a : Author) (n p : ℕ) → refusal_answer (refusal_of a n p) ≡ refusal a n p
-author_back grammarAuthor n p = refl
-author_back analysisAuthor n p = refl
+author_back grammar_author n p = refl
+author_back analysis_author n p = refl
 author_back desk n p = refl
 
 answer_author : {a b : Author} {n m p q : ℕ} → refusal a n p ≡ refusal b m q → a ≡ b

@@ -1,9 +1,9 @@
--- K1 to K10 (document 01), and words heard unclearly (document 02, paper 5), as a list of claims with one theorem for the list. K3 to K10 go through the calls,
--- on grammar files.
+-- K1 to K10 (document 01), and words heard unclearly (document 02, paper 5), as a list of claims; one theorem for the list is in proofs/Examples. K3 to K10 go
+-- through the calls, on grammar files.
 -- Assumes nothing.
-use Rattle.std.specs.Prelude.{◌≡◌, refl, ℕ, true, List, [], ◌∷◌, ◌++◌, map}
+use Rattle.std.specs.Prelude.{◌≡◌, ℕ, true, List, [], ◌∷◌, ◌++◌, map}
 use Rattle.std.proofs.Math.Option.{Option, none, some}
-use Rattle.model.specs.Verdict.{verdict_answer, count_answer, values, refusal, analysisAuthor, desk}
+use Rattle.model.specs.Verdict.{verdict_answer, count_answer, values, refusal, analysis_author, desk}
 use Rattle.model.specs.Grammar.{Grammar, variable, lexical, nonlexical}
 use Rattle.model.specs.GrammarFile.{grammar_of}
 use Rattle.model.specs.Writer.{file_of, heading_of, records_of}
@@ -104,7 +104,7 @@ K4 =
     ∷ verdict_answer (trace_to_tree_verdict copy_file (singles (0 ∷ 1 ∷ 0 ∷ 1 ∷ [])) (0 ∷ 1 ∷ 5 ∷ 4 ∷ 6 ∷ 5 ∷ 6 ∷ []) (zeros 96)) is values (7 ∷ [])
     ∷ tree_to_trace_output copy_file (singles (0 ∷ 1 ∷ 0 ∷ 1 ∷ [])) (0 ∷ 1 ∷ 5 ∷ 4 ∷ 6 ∷ 6 ∷ 5 ∷ []) (zeros 96) is (0 ∷ 1 ∷ 5 ∷ 4 ∷ 6 ∷ 5 ∷ 6 ∷ zeros 89)
     ∷ verdict_answer (check_tree_verdict copy_file (singles (0 ∷ 1 ∷ 0 ∷ 1 ∷ [])) (0 ∷ 1 ∷ 5 ∷ 4 ∷ 6 ∷ 6 ∷ 5 ∷ [])) is values (7 ∷ [])
-    ∷ verdict_answer (check_trace_verdict copy_file (singles (0 ∷ 1 ∷ 0 ∷ 1 ∷ [])) (0 ∷ 1 ∷ 5 ∷ 4 ∷ 6 ∷ 6 ∷ 5 ∷ [])) is refusal analysisAuthor 15 5
+    ∷ verdict_answer (check_trace_verdict copy_file (singles (0 ∷ 1 ∷ 0 ∷ 1 ∷ [])) (0 ∷ 1 ∷ 5 ∷ 4 ∷ 6 ∷ 6 ∷ 5 ∷ [])) is refusal analysis_author 15 5
     ∷ []
 
 -- "copy, 0 1 0 1, N = 7: count 1, effort 13; limit 12 gives 25"
@@ -124,23 +124,23 @@ K6 =
 abbrev pub K7 : List Claim
 K7 =
     verdict_answer (check_trace_verdict copy_file (singles (0 ∷ 0 ∷ [])) (0 ∷ 3 ∷ 5 ∷ 5 ∷ [])) is values (4 ∷ [])
-    ∷ verdict_answer (check_trace_verdict copy_file (singles (0 ∷ 1 ∷ [])) (0 ∷ 3 ∷ 5 ∷ 5 ∷ [])) is refusal analysisAuthor 16 3
-    ∷ verdict_answer (check_trace_verdict copy_file (singles (0 ∷ 0 ∷ 0 ∷ [])) (0 ∷ 3 ∷ 5 ∷ 5 ∷ [])) is refusal analysisAuthor 18 2
+    ∷ verdict_answer (check_trace_verdict copy_file (singles (0 ∷ 1 ∷ [])) (0 ∷ 3 ∷ 5 ∷ 5 ∷ [])) is refusal analysis_author 16 3
+    ∷ verdict_answer (check_trace_verdict copy_file (singles (0 ∷ 0 ∷ 0 ∷ [])) (0 ∷ 3 ∷ 5 ∷ 5 ∷ [])) is refusal analysis_author 18 2
     ∷ []
 
 -- "0 1 5 on 0 0: 17 at 2; 0 3 5 5 5 on 0 0: 14 at 4"
 abbrev pub K8 : List Claim
 K8 =
-    verdict_answer (check_trace_verdict copy_file (singles (0 ∷ 0 ∷ [])) (0 ∷ 1 ∷ 5 ∷ [])) is refusal analysisAuthor 17 2
-    ∷ verdict_answer (check_trace_verdict copy_file (singles (0 ∷ 0 ∷ [])) (0 ∷ 3 ∷ 5 ∷ 5 ∷ 5 ∷ [])) is refusal analysisAuthor 14 4
+    verdict_answer (check_trace_verdict copy_file (singles (0 ∷ 0 ∷ [])) (0 ∷ 1 ∷ 5 ∷ [])) is refusal analysis_author 17 2
+    ∷ verdict_answer (check_trace_verdict copy_file (singles (0 ∷ 0 ∷ [])) (0 ∷ 3 ∷ 5 ∷ 5 ∷ 5 ∷ [])) is refusal analysis_author 14 4
     ∷ []
 
 -- "copy, sentence 0 0: tree 0 3 5: 19 at 3; 0 3 5 6: 20 at 3; 0 3 5 5 5: 21 at 4"
 abbrev pub K9 : List Claim
 K9 =
-    verdict_answer (check_tree_verdict copy_file (singles (0 ∷ 0 ∷ [])) (0 ∷ 3 ∷ 5 ∷ [])) is refusal analysisAuthor 19 3
-    ∷ verdict_answer (check_tree_verdict copy_file (singles (0 ∷ 0 ∷ [])) (0 ∷ 3 ∷ 5 ∷ 6 ∷ [])) is refusal analysisAuthor 20 3
-    ∷ verdict_answer (check_tree_verdict copy_file (singles (0 ∷ 0 ∷ [])) (0 ∷ 3 ∷ 5 ∷ 5 ∷ 5 ∷ [])) is refusal analysisAuthor 21 4
+    verdict_answer (check_tree_verdict copy_file (singles (0 ∷ 0 ∷ [])) (0 ∷ 3 ∷ 5 ∷ [])) is refusal analysis_author 19 3
+    ∷ verdict_answer (check_tree_verdict copy_file (singles (0 ∷ 0 ∷ [])) (0 ∷ 3 ∷ 5 ∷ 6 ∷ [])) is refusal analysis_author 20 3
+    ∷ verdict_answer (check_tree_verdict copy_file (singles (0 ∷ 0 ∷ [])) (0 ∷ 3 ∷ 5 ∷ 5 ∷ 5 ∷ [])) is refusal analysis_author 21 4
     ∷ []
 
 -- "pair, 0 0 0, N = 5: the program prints `2 12`, `0 0 1 1 1`, `0 1 0 1 1`." Its bytes, a line each.
@@ -168,60 +168,13 @@ abbrev pub unclear_words : List Claim
 unclear_words =
     verdict_answer (check_trace_verdict copy_file (single 0 ∷ range 0 1 ∷ single 0 ∷ single 1 ∷ []) (0 ∷ 1 ∷ 5 ∷ 4 ∷ 6 ∷ 5 ∷ 6 ∷ [])) is values (7 ∷ [])
     ∷ verdict_answer (check_tree_verdict copy_file (single 0 ∷ range 0 1 ∷ single 0 ∷ single 1 ∷ []) (0 ∷ 1 ∷ 5 ∷ 4 ∷ 6 ∷ 6 ∷ 5 ∷ [])) is values (7 ∷ [])
-    ∷ verdict_answer (check_tree_verdict copy_file (range 0 1 ∷ single 0 ∷ range 0 1 ∷ range 0 1 ∷ []) (0 ∷ 1 ∷ 5 ∷ 4 ∷ 6 ∷ 6 ∷ 5 ∷ [])) is refusal analysisAuthor 22 0
+    ∷ verdict_answer (check_tree_verdict copy_file (range 0 1 ∷ single 0 ∷ range 0 1 ∷ range 0 1 ∷ []) (0 ∷ 1 ∷ 5 ∷ 4 ∷ 6 ∷ 6 ∷ 5 ∷ [])) is refusal analysis_author 22 0
     ∷ count_answer (count_call copy_file (range 0 1 ∷ range 0 1 ∷ range 0 1 ∷ range 0 1 ∷ []) 7 28) is values (4 ∷ 28 ∷ [])
-    ∷ verdict_answer (check_trace_verdict copy_file (single 0 ∷ range 1 2 ∷ []) (0 ∷ 3 ∷ 5 ∷ 5 ∷ [])) is refusal analysisAuthor 11 1
-    ∷ verdict_answer (check_trace_verdict copy_file (single 0 ∷ range 2 1 ∷ []) (0 ∷ 3 ∷ 5 ∷ 5 ∷ [])) is refusal analysisAuthor 11 1
-    ∷ verdict_answer (check_trace_verdict copy_file (range 1 0 ∷ single 2 ∷ []) (0 ∷ 3 ∷ 5 ∷ 5 ∷ [])) is refusal analysisAuthor 29 0
-    ∷ verdict_answer (check_trace_verdict copy_file (range 1 0 ∷ zeros 96) (0 ∷ 3 ∷ 5 ∷ 5 ∷ [])) is refusal analysisAuthor 11 96
+    ∷ verdict_answer (check_trace_verdict copy_file (single 0 ∷ range 1 2 ∷ []) (0 ∷ 3 ∷ 5 ∷ 5 ∷ [])) is refusal analysis_author 11 1
+    ∷ verdict_answer (check_trace_verdict copy_file (single 0 ∷ range 2 1 ∷ []) (0 ∷ 3 ∷ 5 ∷ 5 ∷ [])) is refusal analysis_author 11 1
+    ∷ verdict_answer (check_trace_verdict copy_file (range 1 0 ∷ single 2 ∷ []) (0 ∷ 3 ∷ 5 ∷ 5 ∷ [])) is refusal analysis_author 29 0
+    ∷ verdict_answer (check_trace_verdict copy_file (range 1 0 ∷ zeros 96) (0 ∷ 3 ∷ 5 ∷ 5 ∷ [])) is refusal analysis_author 11 96
     ∷ []
 
 abbrev pub examples : List (List Claim)
 examples = the_files ∷ K1 ∷ K2 ∷ K3 ∷ K4 ∷ K5 ∷ K6 ∷ K7 ∷ K8 ∷ K9 ∷ K10 ∷ lone_variable ∷ wide_component ∷ unclear_words ∷ []
-
-the_files_hold : AllHold the_files
-the_files_hold = (refl, (refl, (refl, (refl, (refl, (refl, tt))))))
-
-K1_hold : AllHold K1
-K1_hold = (refl, (refl, tt))
-
-K2_hold : AllHold K2
-K2_hold = (refl, tt)
-
-K3_hold : AllHold K3
-K3_hold = (refl, (refl, tt))
-
-K4_hold : AllHold K4
-K4_hold = (refl, (refl, (refl, (refl, (refl, tt)))))
-
-K5_hold : AllHold K5
-K5_hold = (refl, (refl, tt))
-
-K6_hold : AllHold K6
-K6_hold = (refl, tt)
-
-K7_hold : AllHold K7
-K7_hold = (refl, (refl, (refl, tt)))
-
-K8_hold : AllHold K8
-K8_hold = (refl, (refl, tt))
-
-K9_hold : AllHold K9
-K9_hold = (refl, (refl, (refl, tt)))
-
-K10_hold : AllHold K10
-K10_hold = (refl, tt)
-
-lone_variable_hold : AllHold lone_variable
-lone_variable_hold = (refl, tt)
-
-wide_component_hold : AllHold wide_component
-wide_component_hold = (refl, tt)
-
-unclear_words_hold : AllHold unclear_words
-unclear_words_hold = (refl, (refl, (refl, (refl, (refl, (refl, (refl, (refl, tt))))))))
-
--- one theorem for the list
-pub examples_hold : AllHoldIn examples
-examples_hold =
-    (the_files_hold, (K1_hold, (K2_hold, (K3_hold, (K4_hold, (K5_hold, (K6_hold, (K7_hold, (K8_hold, (K9_hold, (K10_hold, (lone_variable_hold, (wide_component_hold, (unclear_words_hold, tt))))))))))))))

@@ -184,16 +184,16 @@ abbrev pub same_rule : List ℕ → List ℕ → Bool
 same_rule earlier e = same_record earlier e || same_reordered earlier e
 
 abbrev pub repeated : (ℕ → List ℕ) → ℕ → Bool
-repeated recordAt i = any_below (λ j. same_rule (recordAt j) (recordAt i)) i
+repeated record_at i = any_below (λ j. same_rule (record_at j) (record_at i)) i
 
 -- "Per rule, place its number": refusals 6 to 10 of record i, in a grammar with these dimensions, words and records
 abbrev pub record_refusal : List ℕ → ℕ → (ℕ → List ℕ) → ℕ → Option Refusal
-record_refusal dimensions words recordAt i =
-    refuse_if (wrong_category dimensions (recordAt i)) (Refusal.Grammar 6 i)
-    or_else refuse_if (wrong_word dimensions (recordAt i) words) (Refusal.Grammar 7 i)
-    or_else refuse_if (wrong_variables dimensions (recordAt i)) (Refusal.Grammar 8 i)
-    or_else refuse_if (unused_set dimensions (recordAt i)) (Refusal.Grammar 9 i)
-    or_else refuse_if (repeated recordAt i) (Refusal.Grammar 10 i)
+record_refusal dimensions words record_at i =
+    refuse_if (wrong_category dimensions (record_at i)) (Refusal.Grammar 6 i)
+    or_else refuse_if (wrong_word dimensions (record_at i) words) (Refusal.Grammar 7 i)
+    or_else refuse_if (wrong_variables dimensions (record_at i)) (Refusal.Grammar 8 i)
+    or_else refuse_if (unused_set dimensions (record_at i)) (Refusal.Grammar 9 i)
+    or_else refuse_if (repeated record_at i) (Refusal.Grammar 10 i)
 
 abbrev pub rule_refusal : List ℕ → ℕ → Option Refusal
 rule_refusal file i = record_refusal (dimensions_of file) (words_of file) (record_of file) i

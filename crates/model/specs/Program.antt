@@ -40,7 +40,7 @@ line (n ∷ m ∷ ms) = decimal n ++ (blank ∷ line (m ∷ ms))
 
 -- "byte N, then two little-endian bytes a word"; "the program's file keeps single words"
 abbrev pub limit_in : List ℕ → ℕ
-limit_in sentenceFile = get_or sentenceFile 0 0
+limit_in sentence_file = get_or sentence_file 0 0
 
 abbrev pub pairs : List ℕ → List ℕ
 pairs [] = []
@@ -48,7 +48,7 @@ pairs (a ∷ []) = []
 pairs (a ∷ b ∷ bs) = single (a + 256 * b) ∷ pairs bs
 
 abbrev pub sentence_in : List ℕ → List ℕ
-sentence_in sentenceFile = pairs (drop 1 sentenceFile)
+sentence_in sentence_file = pairs (drop 1 sentence_file)
 
 -- "effort limit 1,000,000"
 abbrev pub program_limit : ℕ
@@ -56,10 +56,10 @@ program_limit = 1000000
 
 -- "A sentence file of even length, 0 included, gives `R 11 0`, tested between the grammar and 24."
 abbrev pub program_refusal : List ℕ → List ℕ → Option Refusal
-program_refusal file sentenceFile =
+program_refusal file sentence_file =
     grammar_refusal file
-    or_else refuse_if (eqb (length sentenceFile % 2) 0) (Refusal.Analysis 11 0)
-    or_else count_refusal file (sentence_in sentenceFile) (limit_in sentenceFile) program_limit
+    or_else refuse_if (eqb (length sentence_file % 2) 0) (Refusal.Analysis 11 0)
+    or_else count_refusal file (sentence_in sentence_file) (limit_in sentence_file) program_limit
 
 -- "or `R`, number, place"
 abbrev pub printed : Option Refusal → List (List ℕ) → List ℕ
@@ -68,8 +68,8 @@ printed (some r) lines = letter_r ∷ blank ∷ line (number r ∷ place r ∷ [
 
 -- "prints count and effort, then one trace a line": of the bytes of the two files; "A file that can't be opened has length 0"
 abbrev pub program : List ℕ → List ℕ → List ℕ
-program file sentenceFile =
+program file sentence_file =
     let g = grammar_of file in
-    let sentence = sentence_in sentenceFile in
-    let n = limit_in sentenceFile in
-    printed (program_refusal file sentenceFile) ((count g sentence n ∷ effort g sentence n ∷ []) ∷ listing g sentence n)
+    let sentence = sentence_in sentence_file in
+    let n = limit_in sentence_file in
+    printed (program_refusal file sentence_file) ((count g sentence n ∷ effort g sentence n ∷ []) ∷ listing g sentence n)

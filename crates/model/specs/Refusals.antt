@@ -5,7 +5,7 @@
 use Rattle.std.specs.Prelude.{ℕ, suc, ◌-◌, ◌*◌, Bool, true, false, not, ◌&&◌, List, [], ◌∷◌, ◌++◌, map, ltb, leb, eqb, length}
 use Rattle.std.proofs.Math.Option.{Option, none, some}
 use Rattle.model.specs.Base.{each, numbers_from}
-use Rattle.model.specs.Verdict.{Author, grammarAuthor, analysisAuthor, desk}
+use Rattle.model.specs.Verdict.{Author, grammar_author, analysis_author, desk}
 use Rattle.model.specs.Grammar.{Rule, Grammar, empty_word, rule_at, daughters_by, is_lexical}
 use Rattle.model.specs.GrammarFile.{grammar_of, blocks, rules_of, dimensions_of, words_of, record_of, wrong_length, wrong_check, wrong_block, wrong_heading, wrong_blocks, wrong_count, wrong_rest, wrong_category, wrong_word, wrong_variables, unused_set, repeated}
 use Rattle.model.specs.Writer.{Heading, heading_block, file_of}
@@ -22,10 +22,10 @@ pub record Test : Type 0 where
   pub place : ℕ
 
 abbrev pub of_grammar : ℕ → ℕ → Bool → Test
-of_grammar n p b = record { meets = b; author = grammarAuthor; number = n; place = p }
+of_grammar n p b = record { meets = b; author = grammar_author; number = n; place = p }
 
 abbrev pub of_analysis : ℕ → ℕ → Bool → Test
-of_analysis n p b = record { meets = b; author = analysisAuthor; number = n; place = p }
+of_analysis n p b = record { meets = b; author = analysis_author; number = n; place = p }
 
 abbrev pub of_desk : ℕ → ℕ → Bool → Test
 of_desk n p b = record { meets = b; author = desk; number = n; place = p }

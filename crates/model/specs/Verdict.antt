@@ -13,11 +13,11 @@ use Rattle.model.specs.declared.CountVerdict.TheVariants.{Counted, NotCounted}
 
 -- "a refusal says whose it is: the grammar's, the analysis's or the desk's"
 pub data Author : Type 0 where
-  grammarAuthor analysisAuthor desk : Author
+  grammar_author analysis_author desk : Author
 
 abbrev pub author : Refusal → Author
-author (Grammar n p) = grammarAuthor
-author (Analysis n p) = analysisAuthor
+author (Grammar n p) = grammar_author
+author (Analysis n p) = analysis_author
 author (Desk n p) = desk
 
 -- "A refusal gives number and place (0 unless named)"

@@ -42,7 +42,7 @@ module _ (file : List ℕ) where
         tree_to_trace = λ sentence tree out. (refl, refl);
         counted = λ sentence n limit. refl;
         entered = λ sentence n limit m out. (refl, refl);
-        program_prints = λ sentenceFile. refl;
+        program_prints = λ sentence_file. refl;
       }
 
   sums_now : SumsKept file (grammar_refusal file) (grammar_of file)

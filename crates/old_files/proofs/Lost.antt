@@ -114,12 +114,12 @@ module _ (file : List ℕ) (between : grammar_refusal_between file ≡ none) (by
         );
         trace_weighed = λ s trace. refused_by (λ o. verdict (o or_else sentence_refusal g s or_else trace_refusal g s trace) (weight_sum g trace));
         tree_weighed = λ s tree. refused_by (λ o. verdict (o or_else sentence_refusal g s or_else tree_refusal g s tree) (weight_sum g tree));
-        program_prints = λ sentenceFile.
-            let s = sentence_in sentenceFile in
-            let n = limit_in sentenceFile in
+        program_prints = λ sentence_file.
+            let s = sentence_in sentence_file in
+            let n = limit_in sentence_file in
             refused_by (λ o.
             printed
-            (o or_else refuse_if (eqb (length sentenceFile % 2) 0) (Refusal.Analysis 11 0) or_else o or_else limits_refusal n program_limit or_else sentence_refusal g s
+            (o or_else refuse_if (eqb (length sentence_file % 2) 0) (Refusal.Analysis 11 0) or_else o or_else limits_refusal n program_limit or_else sentence_refusal g s
             or_else effort_refusal g s n program_limit)
             ((count g s n ∷ effort g s n ∷ []) ∷ listing g s n));
       }

@@ -23,8 +23,8 @@ module _ (file : List ℕ) {refused : Option Refusal} {g : Grammar} (refusal_is 
       record {
         without_sentence = (keeps file refusal_is grammar_is accepted_now).without_sentence;
         of_words = λ ws h. then_too file refusal_is grammar_is (λ o k. AsBefore file o k ws) (single_words.calls file ws h);
-        program_prints = λ sentenceFile h.
-            then_too file refusal_is grammar_is (λ o k. program file sentenceFile ≡ before.program o k sentenceFile) (single_words.prints file sentenceFile h);
+        program_prints = λ sentence_file h.
+            then_too file refusal_is grammar_is (λ o k. program file sentence_file ≡ before.program o k sentence_file) (single_words.prints file sentence_file h);
       }
 
   own_sums : OwnSums file refused g

@@ -41,11 +41,11 @@ unused_set_before dimensions e = not (all_zero (unused_bytes_before dimensions e
 
 -- refusal 10 as document 01 has it: all 24 bytes of two records are the same
 abbrev pub repeated_before : (ℕ → List ℕ) → ℕ → Bool
-repeated_before recordAt i = any_below (λ j. same_list (recordAt j) (recordAt i)) i
+repeated_before record_at i = any_below (λ j. same_list (record_at j) (record_at i)) i
 
 -- refusal 10 between papers 1 and 4: "Two records that differ only in weight still meet refusal 10." (paper 1); refusal 9 was that of today
 abbrev pub repeated_between : (ℕ → List ℕ) → ℕ → Bool
-repeated_between recordAt i = any_below (λ j. same_record (recordAt j) (recordAt i)) i
+repeated_between record_at i = any_below (λ j. same_record (record_at j) (record_at i)) i
 
 -- 6 to 10 of rule i, where `unused` meets 9 and `again` meets 10
 abbrev pub rule_tests : List ℕ → ℕ → Bool → Bool → Option Refusal
@@ -153,12 +153,12 @@ module _ (file : List ℕ) (refused : Option Refusal) (g : Grammar) where
         (entry_verdict file sentence n limit m out ≡ verdict o (length (entry g sentence n m)))
         × (entry_output file sentence n limit m out ≡ written o (entry g sentence n m) out)
     -- as `program_refusal` has it: the grammar, the sentence file's length, and then the tests of the count, of which the grammar's is the first
-    pub program_prints : (sentenceFile : List ℕ)
-        → let sentence = sentence_in sentenceFile in
-        let n = limit_in sentenceFile in
-        let o = refused or_else refuse_if (eqb (length sentenceFile % 2) 0) (Refusal.Analysis 11 0) or_else refused or_else limits_refusal n program_limit
+    pub program_prints : (sentence_file : List ℕ)
+        → let sentence = sentence_in sentence_file in
+        let n = limit_in sentence_file in
+        let o = refused or_else refuse_if (eqb (length sentence_file % 2) 0) (Refusal.Analysis 11 0) or_else refused or_else limits_refusal n program_limit
         or_else sentence_refusal g sentence or_else effort_refusal g sentence n program_limit in
-        program file sentenceFile ≡ printed o ((count g sentence n ∷ effort g sentence n ∷ []) ∷ listing g sentence n)
+        program file sentence_file ≡ printed o ((count g sentence n ∷ effort g sentence n ∷ []) ∷ listing g sentence n)
 
   -- so do the two calls of paper 1
   pub record SumsKept : Type 0 where
@@ -193,7 +193,7 @@ module _ (file : List ℕ) where
         → SurveyOutcome file out answer after → (answer ≡ Refused (Refusal.Grammar 10 i)) × (after ≡ out)
     pub trace_weighed : (sentence trace : List ℕ) → weigh_trace_verdict file sentence trace ≡ Refused (Refusal.Grammar 10 i)
     pub tree_weighed : (sentence tree : List ℕ) → weigh_tree_verdict file sentence tree ≡ Refused (Refusal.Grammar 10 i)
-    pub program_prints : (sentenceFile : List ℕ) → program file sentenceFile ≡ printed (some (Refusal.Grammar 10 i)) []
+    pub program_prints : (sentence_file : List ℕ) → program file sentence_file ≡ printed (some (Refusal.Grammar 10 i)) []
 
 module _ (g : Grammar) where
   -- no rule is an earlier one with its daughters in some order

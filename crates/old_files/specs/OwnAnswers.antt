@@ -20,7 +20,7 @@ pub record OwnAnswers (file : List ℕ) (refused : Option Refusal) (g : Grammar)
   -- the calls that are given a sentence, here one of words of 16 bits
   pub of_words : (ws : List ℕ) → Words ws → AsBefore file refused g ws
   -- for all bytes of the sentence file
-  pub program_prints : (sentenceFile : List ℕ) → Below 256 sentenceFile → program file sentenceFile ≡ before.program refused g sentenceFile
+  pub program_prints : (sentence_file : List ℕ) → Below 256 sentence_file → program file sentence_file ≡ before.program refused g sentence_file
 
 -- the sums of weights, which came with paper 1
 abbrev pub OwnSums : List ℕ → Option Refusal → Grammar → Type 0

@@ -9,12 +9,12 @@ use Rattle.model.specs.declared.CountVerdict.{CountVerdict}
 use Rattle.model.specs.declared.CountVerdict.TheVariants.{Counted, NotCounted}
 use Rattle.dates.specs.declared.DateVerdict.{DateVerdict}
 use Rattle.dates.specs.declared.DateVerdict.TheVariants.{Dated, NotDated}
-use Rattle.model.specs.Verdict.{Author, grammarAuthor, analysisAuthor, desk, author, number, place, Answer, values, refusal}
+use Rattle.model.specs.Verdict.{Author, grammar_author, analysis_author, desk, author, number, place, Answer, values, refusal}
 
 -- whose a refusal is: 0 the grammar's, 1 the analysis's, 2 the desk's
 abbrev pub author_code : Author → ℕ
-author_code grammarAuthor = 0
-author_code analysisAuthor = 1
+author_code grammar_author = 0
+author_code analysis_author = 1
 author_code desk = 2
 
 abbrev pub packed_refusal : Refusal → ℕ
@@ -34,7 +34,7 @@ packed_date (NotDated r) = packed_refusal r
 
 -- and back, in the paper's terms
 abbrev pub author_of : ℕ → Author
-author_of x = if eqb x 0 then grammarAuthor else (if eqb x 1 then analysisAuthor else desk)
+author_of x = if eqb x 0 then grammar_author else (if eqb x 1 then analysis_author else desk)
 
 abbrev pub unpacked_refusal : ℕ → Answer
 unpacked_refusal x = refusal (author_of (x / 1099511627776 % 256)) (x / 4294967296 % 256) (x % 4294967296)

@@ -56,8 +56,8 @@ module _ (g : Grammar) (sentence : List ℕ) (n : ℕ) where
   left_some text e = ap (λ (b : Bool). if b then lines_after g sentence n (take text.at.steps text.path) else []) e
 
   -- the last page
-  pub page_whole : {before after l toPrint : List ℕ} {p : ℕ} {text : Text} → Put before after 0 l p → EndsAt p text → toPrint ≡ l → PageOf g sentence n toPrint after text
-  page_whole {before} {after} {l} {toPrint} {p} {text} put whole e =
+  pub page_whole : {before after l to_print : List ℕ} {p : ℕ} {text : Text} → Put before after 0 l p → EndsAt p text → to_print ≡ l → PageOf g sentence n to_print after text
+  page_whole {before} {after} {l} {to_print} {p} {text} put whole e =
       let front : take text.end after ≡ l = ap (λ (k : ℕ). take k after) whole.end_is ∙ put_front put in
       record {
         within = omega (arith, whole.end_is, put.within);
@@ -67,9 +67,9 @@ module _ (g : Grammar) (sentence : List ℕ) (n : ℕ) where
       }
 
   -- a page that begins with a text and goes on with lines of what is left
-  pub page_after : {before between after first toPrint : List ℕ} {place : ℕ} {text next : Text} → Put before between 0 first place
-      → PutFrom g sentence n text place between after next → toPrint ≡ first ++ left_of g sentence n text → PageOf g sentence n toPrint after next
-  page_after {before} {between} {after} {first} {toPrint} {place} {text} {next} put from e =
+  pub page_after : {before between after first to_print : List ℕ} {place : ℕ} {text next : Text} → Put before between 0 first place
+      → PutFrom g sentence n text place between after next → to_print ≡ first ++ left_of g sentence n text → PageOf g sentence n to_print after next
+  page_after {before} {between} {after} {first} {to_print} {place} {text} {next} put from e =
       let whole = put_join put from.put in
       record {
         within = whole.within;

@@ -131,10 +131,10 @@ whole_text f s file bytes even r =
     ∙ whole_files f s
 
 -- pages that come one after the other are what was to be printed
-pages_joined : (g : Grammar) (sentence : List ℕ) (n : ℕ) {toPrint : List ℕ} {pages : List (List ℕ)} → Pages g sentence n toPrint pages → toPrint ≡ each (λ l. l) pages
-pages_joined g sentence n (last {toPrint} {out} {text} page e) =
+pages_joined : (g : Grammar) (sentence : List ℕ) (n : ℕ) {to_print : List ℕ} {pages : List (List ℕ)} → Pages g sentence n to_print pages → to_print ≡ each (λ l. l) pages
+pages_joined g sentence n (last {to_print} {out} {text} page e) =
     page.joined ∙ ap (λ (b : Bool). take text.end out ++ (if b then lines_after g sentence n (take text.at.steps text.path) else [])) e
-pages_joined g sentence n (more {toPrint} {out} {text} page e rest) = page.joined ∙ ap (λ (l : List ℕ). take text.end out ++ l) (pages_joined g sentence n rest)
+pages_joined g sentence n (more {to_print} {out} {text} page e rest) = page.joined ∙ ap (λ (l : List ℕ). take text.end out ++ l) (pages_joined g sentence n rest)
 
 pub prints_pages : PrintsPages
 prints_pages f s file bytes even r pages p = sym (whole_text f s file bytes even r) ∙ pages_joined (grammar_of file) (words_in bytes) (limit_in bytes) p

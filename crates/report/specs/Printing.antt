@@ -34,9 +34,9 @@ module _ (g : Grammar) (sentence : List ℕ) (n : ℕ) where
     pub steps_are : steps_of text.at ≡ n
 
   -- the page at the front of the buffer, with what is left after it, is what was to be printed; a page before the last has something in it
-  pub record PageOf (toPrint out : List ℕ) (text : Text) : Type 0 where
+  pub record PageOf (to_print out : List ℕ) (text : Text) : Type 0 where
     pub within : text.end ≤ length out
-    pub joined : toPrint ≡ take text.end out ++ left_of text
+    pub joined : to_print ≡ take text.end out ++ left_of text
     pub goes_on : text.more ≡ true → GoesOn text
     pub not_empty : text.more ≡ true → 0 < text.end
 
@@ -97,12 +97,12 @@ FirstPage file bytes even out text = PageOf (grammar_of file) (words_in bytes) (
 -- the pages that come one after the other, each as it stands in the buffer, to the last
 module _ (g : Grammar) (sentence : List ℕ) (n : ℕ) where
   pub data Pages : List ℕ → List (List ℕ) → Type 0 where
-    last : {toPrint out : List ℕ} {text : Text} → PageOf g sentence n toPrint out text → text.more ≡ false → Pages toPrint (take text.end out ∷ [])
-    more : {toPrint out : List ℕ} {text : Text} {pages : List (List ℕ)} → PageOf g sentence n toPrint out text → text.more ≡ true
-        → Pages (left_of g sentence n text) pages → Pages toPrint (take text.end out ∷ pages)
+    last : {to_print out : List ℕ} {text : Text} → PageOf g sentence n to_print out text → text.more ≡ false → Pages to_print (take text.end out ∷ [])
+    more : {to_print out : List ℕ} {text : Text} {pages : List (List ℕ)} → PageOf g sentence n to_print out text → text.more ≡ true
+        → Pages (left_of g sentence n text) pages → Pages to_print (take text.end out ∷ pages)
 
 -- the pages that follow each other from the first page on, joined, are what document 01 says is printed for the files
 abbrev pub PrintsPages : Type 0
 PrintsPages =
-    (grammarFile sentenceFile file bytes : List ℕ) (even : Bool) → ReadOf grammarFile sentenceFile file bytes even → (pages : List (List ℕ))
-    → Pages (grammar_of file) (words_in bytes) (limit_in bytes) (text_of file bytes even) pages → program grammarFile sentenceFile ≡ each (λ l. l) pages
+    (grammar_file sentence_file file bytes : List ℕ) (even : Bool) → ReadOf grammar_file sentence_file file bytes even → (pages : List (List ℕ))
+    → Pages (grammar_of file) (words_in bytes) (limit_in bytes) (text_of file bytes even) pages → program grammar_file sentence_file ≡ each (λ l. l) pages

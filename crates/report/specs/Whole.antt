@@ -43,13 +43,13 @@ abbrev pub text_of : List ℕ → List ℕ → Bool → List ℕ
 text_of file bytes even = text_by (refusal_of file (words_in bytes) (limit_in bytes) even) (grammar_of file) (words_in bytes) (limit_in bytes)
 
 -- what the program reads of its files
-pub record ReadOf (grammarFile sentenceFile file bytes : List ℕ) (even : Bool) : Type 0 where
-  pub grammar_is : file ≡ take 7169 grammarFile
-  pub sentence_is : bytes ≡ take 195 sentenceFile
-  pub parity_is : even ≡ eqb (length sentenceFile % 2) 0
+pub record ReadOf (grammar_file sentence_file file bytes : List ℕ) (even : Bool) : Type 0 where
+  pub grammar_is : file ≡ take 7169 grammar_file
+  pub sentence_is : bytes ≡ take 195 sentence_file
+  pub parity_is : even ≡ eqb (length sentence_file % 2) 0
 
 -- what is printed for what is read is what document 01 says is printed for the files
 abbrev pub WholeText : Type 0
 WholeText =
-    (grammarFile sentenceFile file bytes : List ℕ) (even : Bool) → ReadOf grammarFile sentenceFile file bytes even
-    → text_of file bytes even ≡ program grammarFile sentenceFile
+    (grammar_file sentence_file file bytes : List ℕ) (even : Bool) → ReadOf grammar_file sentence_file file bytes even
+    → text_of file bytes even ≡ program grammar_file sentence_file

@@ -98,66 +98,66 @@ pub chain_none : (hash : ℕ → ℕ) (chain : List ℕ) → Chained hash 0 chai
 chain_none hash chain = record { few = omega arith; before = λ r l. absurd (omega arith) }
 
 -- a record e compared with others
-module _ (recordAt : ℕ → List ℕ) (e : List ℕ) where
+module _ (record_at : ℕ → List ℕ) (e : List ℕ) where
   abbrev equal : ℕ → Bool
-  equal j = same_rule (recordAt j) e
+  equal j = same_rule (record_at j) e
 
   -- of the records below n, those below v are left to compare; v is 0, or one more than the number of a record with e's hash
   pub record Left (n v : ℕ) : Type 0 where
     pub below : v ≤ n
-    pub same : (j : ℕ) → v ≡ suc j → hash_at recordAt j ≡ hash_of e
+    pub same : (j : ℕ) → v ≡ suc j → hash_at record_at j ≡ hash_of e
     pub left : any_below equal n ≡ any_below equal v
 
-  other : (j : ℕ) → (hash_at recordAt j ≡ hash_of e → ⊥) → equal j ≡ false
+  other : (j : ℕ) → (hash_at record_at j ≡ hash_of e → ⊥) → equal j ≡ false
   other j d = go (equal j) refl
     where
       go : (b : Bool) → equal j ≡ b → b ≡ false
-      go true f = absurd (d (same_hash (recordAt j) e f))
+      go true f = absurd (d (same_hash (record_at j) e f))
       go false f = refl
 
-  left_latest : (n m : ℕ) → m ≤ n → any_below equal n ≡ any_below equal m → Left n (latest (hash_at recordAt) (hash_of e) m)
+  left_latest : (n m : ℕ) → m ≤ n → any_below equal n ≡ any_below equal m → Left n (latest (hash_at record_at) (hash_of e) m)
   left_latest n m l f =
       record {
-        below = omega (arith, latest_below (hash_at recordAt) (hash_of e) m);
-        same = latest_has (hash_at recordAt) (hash_of e) m;
-        left = f ∙ any_latest (hash_at recordAt) (hash_of e) equal other m;
+        below = omega (arith, latest_below (hash_at record_at) (hash_of e) m);
+        same = latest_has (hash_at record_at) (hash_of e) m;
+        left = f ∙ any_latest (hash_at record_at) (hash_of e) equal other m;
       }
 
 -- record r, which is e, is compared along its chain, from `first` on
-pub record Walk (recordAt : ℕ → List ℕ) (r : ℕ) (chain e : List ℕ) (first : ℕ) : Type 0 where
-  pub within : InChain recordAt r chain e
+pub record Walk (record_at : ℕ → List ℕ) (r : ℕ) (chain e : List ℕ) (first : ℕ) : Type 0 where
+  pub within : InChain record_at r chain e
   pub from : first ≡ get_or chain r 0
 
-pub walk : {recordAt : ℕ → List ℕ} {r : ℕ} {chain e : List ℕ} {first : ℕ} → InChain recordAt r chain e → first ≡ get_or chain r 0 → Walk recordAt r chain e first
+pub walk : {record_at : ℕ → List ℕ} {r : ℕ} {chain e : List ℕ} {first : ℕ} → InChain record_at r chain e → first ≡ get_or chain r 0 → Walk record_at r chain e first
 walk i f = record { within = i; from = f }
 
-module _ {recordAt : ℕ → List ℕ} {r : ℕ} {chain e : List ℕ} {first : ℕ} (w : Walk recordAt r chain e first) where
-  at_first : Left recordAt e r first
+module _ {record_at : ℕ → List ℕ} {r : ℕ} {chain e : List ℕ} {first : ℕ} (w : Walk record_at r chain e first) where
+  at_first : Left record_at e r first
   at_first =
-      rw (w.from ∙ w.within.chained.before r (omega arith) ∙ ap (λ (x : List ℕ). latest (hash_at recordAt) (hash_of x) r) (sym w.within.is))
-      (left_latest recordAt e r r (omega arith) refl)
+      rw (w.from ∙ w.within.chained.before r (omega arith) ∙ ap (λ (x : List ℕ). latest (hash_at record_at) (hash_of x) r) (sym w.within.is))
+      (left_latest record_at e r r (omega arith) refl)
 
-  all : repeated recordAt r ≡ any_below (equal recordAt e) first
-  all = ap (λ (x : List ℕ). any_below (λ j. same_rule (recordAt j) x) r) (sym w.within.is) ∙ at_first.left
+  all : repeated record_at r ≡ any_below (equal record_at e) first
+  all = ap (λ (x : List ℕ). any_below (λ j. same_rule (record_at j) x) r) (sym w.within.is) ∙ at_first.left
 
-  pub walk_start : Left recordAt e first first
+  pub walk_start : Left record_at e first first
   walk_start = record { below = omega arith; same = at_first.same; left = refl }
 
-  module _ {v : ℕ} (l : Left recordAt e first v) where
-    pub walk_end : v ≤ 0 → repeated recordAt r ≡ false
-    walk_end z = let s : v ≡ 0 = omega arith in all ∙ l.left ∙ ap (any_below (equal recordAt e)) s
+  module _ {v : ℕ} (l : Left record_at e first v) where
+    pub walk_end : v ≤ 0 → repeated record_at r ≡ false
+    walk_end z = let s : v ≡ 0 = omega arith in all ∙ l.left ∙ ap (any_below (equal record_at e)) s
 
     pub walk_few : v ≤ 256
     walk_few = omega (arith, l.below, at_first.below, w.within.chained.few)
 
-    pub walk_hit : 0 < v → same_rule (recordAt (v - 1)) e ≡ true → repeated recordAt r ≡ true
-    walk_hit p f = all ∙ l.left ∙ any_hit (equal recordAt e) (v - 1) v (omega arith) f
+    pub walk_hit : 0 < v → same_rule (record_at (v - 1)) e ≡ true → repeated record_at r ≡ true
+    walk_hit p f = all ∙ l.left ∙ any_hit (equal record_at e) (v - 1) v (omega arith) f
 
-    pub walk_on : {n : ℕ} → 0 < v → same_rule (recordAt (v - 1)) e ≡ false → n ≡ get_or chain (v - 1) 0 → (n < v) × Left recordAt e first n
+    pub walk_on : {n : ℕ} → 0 < v → same_rule (record_at (v - 1)) e ≡ false → n ≡ get_or chain (v - 1) 0 → (n < v) × Left record_at e first n
     walk_on {n} p f g =
         let s : v ≡ suc (v - 1) = omega arith in
-        let next : n ≡ latest (hash_at recordAt) (hash_of e) (v - 1)
-        = g ∙ w.within.chained.before (v - 1) (omega (arith, l.below, at_first.below)) ∙ ap (λ (h : ℕ). latest (hash_at recordAt) h (v - 1)) (l.same (v - 1) s) in (
-          omega (arith, next, latest_below (hash_at recordAt) (hash_of e) (v - 1)),
-          rw next (left_latest recordAt e first (v - 1) (omega (arith, l.below)) (l.left ∙ ap (any_below (equal recordAt e)) s ∙ any_less (equal recordAt e) (v - 1) f)),
+        let next : n ≡ latest (hash_at record_at) (hash_of e) (v - 1)
+        = g ∙ w.within.chained.before (v - 1) (omega (arith, l.below, at_first.below)) ∙ ap (λ (h : ℕ). latest (hash_at record_at) h (v - 1)) (l.same (v - 1) s) in (
+          omega (arith, next, latest_below (hash_at record_at) (hash_of e) (v - 1)),
+          rw next (left_latest record_at e first (v - 1) (omega (arith, l.below)) (l.left ∙ ap (any_below (equal record_at e)) s ∙ any_less (equal record_at e) (v - 1) f)),
         )

@@ -23,9 +23,9 @@ pub record Chained (hash : ℕ → ℕ) (n : ℕ) (chain : List ℕ) : Type 0 wh
 
 -- the hashes of records
 abbrev pub hash_at : (ℕ → List ℕ) → ℕ → ℕ
-hash_at recordAt r = hash_of (recordAt r)
+hash_at record_at r = hash_of (record_at r)
 
 -- e is the record of rule r, and the chain is that of the rules up to it
-pub record InChain (recordAt : ℕ → List ℕ) (r : ℕ) (chain e : List ℕ) : Type 0 where
-  pub is : e ≡ recordAt r
-  pub chained : Chained (hash_at recordAt) (r + 1) chain
+pub record InChain (record_at : ℕ → List ℕ) (r : ℕ) (chain e : List ℕ) : Type 0 where
+  pub is : e ≡ record_at r
+  pub chained : Chained (hash_at record_at) (r + 1) chain

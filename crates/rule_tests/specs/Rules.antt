@@ -8,4 +8,4 @@ use Rattle.model.specs.GrammarFile.{record_refusal}
 
 -- "Per rule, place its number": of the rules 0 to n - 1, rule after rule, the first there is
 abbrev pub rules_refusal : List ℕ → ℕ → (ℕ → List ℕ) → ℕ → Option Refusal
-rules_refusal dimensions words recordAt n = first_from (record_refusal dimensions words recordAt) 0 n
+rules_refusal dimensions words record_at n = first_from (record_refusal dimensions words record_at) 0 n

@@ -18,7 +18,7 @@ use Rattle.model.specs.Grammar.{Grammar}
 use Rattle.model.specs.Step.{lowest, highest, single, singles, word_fits}
 use Rattle.model.specs.Trace.{place_refusal, places_refusal, sentence_refusal}
 use Rattle.model.specs.Tree.{string_fits}
-use Rattle.singles.specs.OldSentences.{first_unknown, sentence_refusal as wordsRefusal}
+use Rattle.singles.specs.OldSentences.{first_unknown, sentence_refusal as words_refusal}
 use Rattle.sentences.proofs.Places.{one_number}
 use Rattle.singles.specs.AsBefore.{Words}
 
@@ -55,7 +55,7 @@ places_same words k (w ∷ ws) h =
     ∙ single_refusal words k w (h 0) (first_unknown words (suc k) ws)
 
 -- 11 is that of document 01, and 29 is never met
-pub sentence_same : (g : Grammar) (ws : List ℕ) → Words ws → sentence_refusal g (singles ws) ≡ wordsRefusal g ws
+pub sentence_same : (g : Grammar) (ws : List ℕ) → Words ws → sentence_refusal g (singles ws) ≡ words_refusal g ws
 sentence_same g ws h = ap₂ (λ (n : ℕ) (o : Option Refusal). refuse_if (ltb 96 n) (Refusal.Analysis 11 96) or_else o) (length-map ws single) (places_same g.words 0 ws h)
 
 -- "the root's yield is the sentence"

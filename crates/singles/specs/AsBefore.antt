@@ -63,5 +63,5 @@ pub record SingleWords : Type 0 where
   pub calls : (file ws : List ℕ) → Words ws → AsBefore file (grammar_refusal file) (grammar_of file) ws
   pub sums : (file ws : List ℕ) → Words ws → SumsAsBefore file (grammar_refusal file) (grammar_of file) ws
   -- for all bytes of the two files
-  pub prints : (file sentenceFile : List ℕ) → Below 256 sentenceFile
-      → program file sentenceFile ≡ before.program (grammar_refusal file) (grammar_of file) sentenceFile
+  pub prints : (file sentence_file : List ℕ) → Below 256 sentence_file
+      → program file sentence_file ≡ before.program (grammar_refusal file) (grammar_of file) sentence_file

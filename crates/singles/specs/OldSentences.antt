@@ -181,11 +181,11 @@ pairs (a ∷ []) = []
 pairs (a ∷ b ∷ bs) = (a + 256 * b) ∷ pairs bs
 
 abbrev pub program : Option Refusal → Grammar → List ℕ → List ℕ
-program refused g sentenceFile =
-    let sentence = pairs (drop 1 sentenceFile) in
-    let n = limit_in sentenceFile in
+program refused g sentence_file =
+    let sentence = pairs (drop 1 sentence_file) in
+    let n = limit_in sentence_file in
     printed
     (refused
-    or_else refuse_if (eqb (length sentenceFile % 2) 0) (Refusal.Analysis 11 0)
+    or_else refuse_if (eqb (length sentence_file % 2) 0) (Refusal.Analysis 11 0)
     or_else count_refusal refused g sentence n program_limit)
     ((length (listing g sentence n) ∷ length (live g sentence n) ∷ []) ∷ listing g sentence n)

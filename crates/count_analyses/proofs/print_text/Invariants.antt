@@ -7,7 +7,7 @@ use Rattle.report.specs.Printing.{to_come, PageOf}
 use Rattle.count_analyses.proofs.print_text.Given as goal
 
 abbrev pub invariant-loop-out : goal.invariant-loop-out
-invariant-loop-out g l = (toPrint : List ℕ) × PageOf (grammar_of l.file) (words_in l.bytes) (limit_in l.bytes) toPrint l.out l.text × (length l.out ≡ 65536)
+invariant-loop-out g l = (to_print : List ℕ) × PageOf (grammar_of l.file) (words_in l.bytes) (limit_in l.bytes) to_print l.out l.text × (length l.out ≡ 65536)
 
 abbrev pub decreases-loop-out : goal.decreases-loop-out
 decreases-loop-out g l = to_come (grammar_of l.file) (words_in l.bytes) (limit_in l.bytes) l.text

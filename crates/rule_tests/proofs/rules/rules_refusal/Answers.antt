@@ -15,16 +15,16 @@ use Rattle.rule_tests.proofs.rules.rules_refusal.Goals as goal
 pub loop-i-init : goal.loop-i-init
 loop-i-init c =
     let a = c.args in
-    let recordAt = record_in a.layout a.bytes.now in
-    (omega arith, refl, refl, latest_none (hash_at recordAt), chain_none (hash_at recordAt) (replicate 256 0), left_all (record_refusal a.dimensions.now a.words recordAt) a.n)
+    let record_at = record_in a.layout a.bytes.now in
+    (omega arith, refl, refl, latest_none (hash_at record_at), chain_none (hash_at record_at) (replicate 256 0), left_all (record_refusal a.dimensions.now a.words record_at) a.n)
 
 pub rule_refusal-rule-requires : goal.rule_refusal-rule-requires
 rule_refusal-rule-requires c =
     let a = c.args in
-    let recordAt = record_in a.layout a.bytes.now in
+    let record_at = record_in a.layout a.bytes.now in
     let inv = c.loop-i.invariant in
     let hashed = c.hash_of.ensures ∙ ap hash_of c.record_in-e.ensures in
-    let more = entered (hash_at recordAt) c.loop-i.i (omega arith) inv.1 inv.2 inv.3 inv.4 (omega arith) hashed c.enter.ensures in
+    let more = entered (hash_at record_at) c.loop-i.i (omega arith) inv.1 inv.2 inv.3 inv.4 (omega arith) hashed c.enter.ensures in
     record { is = c.record_in-e.ensures; chained = more.3 }
 
 pub returns-in_default : goal.returns-in_default
@@ -37,11 +37,11 @@ returns-in_default c =
 pub loop-i-preserved : goal.loop-i-preserved
 loop-i-preserved c =
     let a = c.args in
-    let recordAt = record_in a.layout a.bytes.now in
+    let record_at = record_in a.layout a.bytes.now in
     let inv = c.loop-i.invariant in
     let hashed = c.hash_of.ensures ∙ ap hash_of c.record_in-e.ensures in
-    let more = entered (hash_at recordAt) c.loop-i.i (omega arith) inv.1 inv.2 inv.3 inv.4 (omega arith) hashed c.enter.ensures in
-    let test = record_refusal a.dimensions.now a.words recordAt in
+    let more = entered (hash_at record_at) c.loop-i.i (omega arith) inv.1 inv.2 inv.3 inv.4 (omega arith) hashed c.enter.ensures in
+    let test = record_refusal a.dimensions.now a.words record_at in
     let pass = tests_pass (test c.loop-i.i) c.rule_refusal-rule.result c.rule_refusal-rule.ensures c.in-Passed.is in (
       omega (arith, c.loop-i-test.true),
       more.0,
