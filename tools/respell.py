@@ -38,6 +38,12 @@ APART_IN = {
     ("forms", "head_byte"): "head_byte_lem",
 }
 
+# Two constructors that stand beside others in a line, and names that are bound in definitions and proofs.
+BOUND = """
+grammarAuthor analysisAuthor recordAt sentenceFile grammarFile toPrint leapYear categoriesIn wordsRefusal oldLive oldStep oldSteps oldSentence oldRun oldTrace
+oldPlaced oldPairs oldListing oldTreeRefusal oldTraceRefusal oldScan oldRead oldComplete oldTreeOf oldTraceOf oldProgram oldApply
+"""
+
 
 def in_snake_case(name):
     words = name if name[0].isupper() else re.sub(r"(?<=[a-z0-9₀-₉'])[A-Z]", lambda m: "_" + m[0].lower(), name)
@@ -109,6 +115,7 @@ def main():
                     new[part] = in_snake_case(part)
         if in_snake_case(name) != name:
             new[name] = in_snake_case(name)
+    new.update({name: in_snake_case(name) for name in BOUND.split()})
     # the definition keeps the plain name, the lemma of the same words gets '_lem'
     met = clashes(names, new)
     for name in met:
