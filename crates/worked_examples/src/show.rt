@@ -38,8 +38,9 @@ fn read_full(input: &mut impl Read, buf: &mut [u8]) -> usize
 }
 
 // The title of a part on a line.
-pub fn title(rt: &impl Print, text: &str) -> io::Result<()> {
-    println!(rt; "{text}")
+pub fn title(rt: &impl Print, text: &[u8]) -> io::Result<()> {
+    rt.write_all(text)?;
+    println!(rt)
 }
 
 // R, the refusal's number and its place, on a line.

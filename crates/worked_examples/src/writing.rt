@@ -42,9 +42,9 @@ fn show(rt: &impl Print, file: &[u8], records: &[u8]) -> io::Result<()> {
         return print_verdict(rt, v);
     };
     if is_same(file, &out, n) {
-        title(rt, "same")
+        title(rt, b"same")
     } else {
-        title(rt, "other")
+        title(rt, b"other")
     }
 }
 
