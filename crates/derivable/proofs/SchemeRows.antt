@@ -90,11 +90,17 @@ move_small a p s e = heads a.head refl e
 pub none_is_some : {A C : Type 0} {x : A} → std.None ≡ std.Some x → C
 none_is_some {A} {C} {x} e = let z : ⊥ = cc in absurd z
 
+pub some_same : {A : Type 0} {x y : A} → std.Some x ≡ std.Some y → x ≡ y
+some_same {A} {x} {y} e = cc
+
 pub merged_row : {merged : Merged} {scheme : MergeScheme} {row : List ℕ} → std.Some merged ≡ std.Some (record { scheme = scheme; row = row }) → merged.row ≡ row
-merged_row {merged} {scheme} {row} e = let z : merged ≡ record { scheme = scheme; row = row } = cc in ap (λ (m : Merged). m.row) z
+merged_row e = ap (λ (m : Merged). m.row) (some_same e)
+
+pub merged_scheme : {merged : Merged} {scheme : MergeScheme} {row : List ℕ} → std.Some merged ≡ std.Some (record { scheme = scheme; row = row }) → merged.scheme ≡ scheme
+merged_scheme e = ap (λ (m : Merged). m.scheme) (some_same e)
 
 pub moved_row : {moved : Moved} (t : ℕ) (c row : List ℕ) → std.Some moved ≡ std.Some (move_code t c row) → moved.row ≡ row
-moved_row {moved} t c row e = let z : moved ≡ move_code t c row = cc in ap (λ (m : Moved). m.row) z ∙ of_code c
+moved_row t c row e = ap (λ (m : Moved). m.row) (some_same e) ∙ of_code c
   where
     of_code : (c : List ℕ) → (move_code t c row).row ≡ row
     of_code [] = refl
