@@ -17,7 +17,8 @@ use Rattle.minimalist.specs.Lexicon.{Entry, entry_of, entry_bytes, lexicon_of}
 use Rattle.minimalist.specs.Schemes.{Form, merge_scheme, move_scheme, lexical_form}
 use Rattle.minimalist.specs.Closure.{is_among, add_form, add_forms, result_of, results_of, forms_after, forms_of}
 use Rattle.minimalist.proofs.Forms.{added_all}
-use Rattle.derivable.specs.Tables.{form_at, Table, Holds}
+use Rattle.derivable.specs.declared.tables.FormTable.{FormTable}
+use Rattle.derivable.specs.Tables.{form_at, Holds}
 use Rattle.derivable.specs.Rounds.{Grows, with_merge, with_move, with_merges, with_round, with_round_of, with_entry, Rounds, Derived}
 use Rattle.derivable.proofs.RoundLaws.{closed_still}
 
@@ -60,18 +61,18 @@ each_further f F j h =
     ∙ ap (λ (l : List Form). each f (take j F) ++ l) (append-nil (f (form_at F j)))
 
 -- one growth after another
-pub grows_then : {f g h : List Form → List Form} {before mid after : List ℕ} {n k r : ℕ} → Grows f before n k mid → Grows g mid k r after
-    → ((forms : List Form) → n ≡ length forms → g (f forms) ≡ h forms) → Grows h before n r after
-grows_then {f} {g} {h} {before} {mid} {after} {n} {k} {r} p q e =
+pub grows_then : {f g h : List Form → List Form} {before mid after : FormTable} → Grows f before mid → Grows g mid after
+    → ((forms : List Form) → before.count ≡ length forms → g (f forms) ≡ h forms) → Grows h before after
+grows_then {f} {g} {h} {before} {mid} {after} p q e =
     record {
       least = omega (arith, p.least, q.least);
       most = q.most;
-      holds = λ forms t. subst (Holds after r) (e forms t.1) (q.holds (f forms) (p.holds forms t));
+      holds = λ forms t. subst (Holds after.rows after.count) (e forms t.1) (q.holds (f forms) (p.holds forms t));
     }
 
-pub grows_same : {f h : List Form → List Form} {before after : List ℕ} {n r : ℕ} → Grows f before n r after → ((forms : List Form) → n ≡ length forms → f forms ≡ h forms) → Grows h before n r after
-grows_same {f} {h} {before} {after} {n} {r} p e =
-    record { least = p.least; most = p.most; holds = λ forms t. subst (Holds after r) (e forms t.1) (p.holds forms t) }
+pub grows_same : {f h : List Form → List Form} {before after : FormTable} → Grows f before after → ((forms : List Form) → before.count ≡ length forms → f forms ≡ h forms) → Grows h before after
+grows_same {f} {h} {before} {after} p e =
+    record { least = p.least; most = p.most; holds = λ forms t. subst (Holds after.rows after.count) (e forms t.1) (p.holds forms t) }
 
 -- the merges of form i, and one more
 module _ (i j n : ℕ) (forms : List Form) (l : n ≡ length forms) (hi : i < n) (hj : j < n) where
@@ -117,43 +118,43 @@ pub round_whole : (i m : ℕ) → i ≡ m → (forms : List Form) → m ≡ leng
 round_whole i m e forms l = ap (λ (x : List Form). add_forms forms (each (λ a. each (λ b. result_of (merge_scheme a b)) forms ++ result_of (move_scheme a)) x)) (take_all i forms (omega arith))
 
 -- nothing was done yet
-pub grows_none : {f : List Form → List Form} (table : List ℕ) (n : ℕ) → n ≤ 64 → ((forms : List Form) → forms ≡ f forms) → Grows f table n n table
-grows_none {f} table n few e = record { least = omega arith; most = few; holds = λ forms t. subst (Holds table n) (e forms) t }
+pub grows_none : {f : List Form → List Form} (table : FormTable) → table.count ≤ 64 → ((forms : List Form) → forms ≡ f forms) → Grows f table table
+grows_none {f} table few e = record { least = omega arith; most = few; holds = λ forms t. subst (Holds table.rows table.count) (e forms) t }
 
 -- rounds
-pub no_rounds : (table : List ℕ) (n : ℕ) → n ≤ 64 → Rounds 0 table n n table
-no_rounds table n few = record { most = few; holds = λ lexicon t. t }
+pub no_rounds : (table : FormTable) → table.count ≤ 64 → Rounds 0 table table
+no_rounds table few = record { most = few; holds = λ lexicon t. t }
 
-module _ (k : ℕ) {table mid after : List ℕ} {n now r : ℕ} (so_far : Rounds k table n now mid) (round : Grows with_round mid now r after) where
-  pub rounds_more : Rounds (k + 1) table n r after
+module _ (k : ℕ) {table mid after : FormTable} (so_far : Rounds k table mid) (round : Grows with_round mid after) where
+  pub rounds_more : Rounds (k + 1) table after
   rounds_more =
       record {
         most = round.most;
-        holds = λ lexicon t. subst (λ (j : ℕ). Holds after r (forms_after lexicon j)) (sym (add-one k)) (round.holds (forms_after lexicon k) (so_far.holds lexicon t));
+        holds = λ lexicon t. subst (λ (j : ℕ). Holds after.rows after.count (forms_after lexicon j)) (sym (add-one k)) (round.holds (forms_after lexicon k) (so_far.holds lexicon t));
       }
 
   -- a round that adds nothing is the last
-  pub rounds_still : r ≡ now → (last : ℕ) → k ≤ last → Rounds last table n now after
+  pub rounds_still : after.count ≡ mid.count → (last : ℕ) → k ≤ last → Rounds last table after
   rounds_still e last h =
       record {
-        most = so_far.most;
+        most = round.most;
         holds = λ lexicon t. done lexicon (so_far.holds lexicon t) (added_all (forms_after lexicon k) (results_of (forms_after lexicon k))).change;
       }
     where
-      done : (lexicon : List Entry) → Holds mid now (forms_after lexicon k)
+      done : (lexicon : List Entry) → Holds mid.rows mid.count (forms_after lexicon k)
           → (add_forms (forms_after lexicon k) (results_of (forms_after lexicon k)) ≡ forms_after lexicon k) ⊎ (length (forms_after lexicon k) < length (add_forms (forms_after lexicon k) (results_of (forms_after lexicon k))))
-          → Holds after now (forms_after lexicon last)
+          → Holds after.rows after.count (forms_after lexicon last)
       done lexicon t (inl same) =
           let z : k + (last - k) ≡ last = omega arith in
           let stays : forms_after lexicon k ≡ forms_after lexicon last = sym (closed_still lexicon k same (last - k)) ∙ ap (forms_after lexicon) z in
-          subst (Holds after now) stays ((subst (Table after) same (round.holds (forms_after lexicon k) t).0, t.1))
+          subst (Holds after.rows after.count) (same ∙ stays) (round.holds (forms_after lexicon k) t)
       done lexicon t (inr more) = let z : ⊥ = omega (arith, t.1, (round.holds (forms_after lexicon k) t).1) in absurd z
 
-pub rounds_all : (k last : ℕ) {table after : List ℕ} {n r : ℕ} → k ≡ last → Rounds k table n r after → Rounds last table n r after
-rounds_all k last {table} {after} {n} {r} e p = subst (λ (j : ℕ). Rounds j table n r after) e p
+pub rounds_all : (k last : ℕ) {table after : FormTable} → k ≡ last → Rounds k table after → Rounds last table after
+rounds_all k last {table} {after} e p = subst (λ (j : ℕ). Rounds j table after) e p
 
 -- the entries, one further
-pub no_entries : (table : List ℕ) → Holds table 0 []
+pub no_entries : (table : List (List ℕ)) → Holds table 0 []
 no_entries table = (
   record {
     few = omega arith;
@@ -180,15 +181,16 @@ module _ (bytes : List ℕ) where
       z : 0 + i ≡ i
       z = omega arith
 
-  pub entries_more : (i : ℕ) {e table after : List ℕ} {n r : ℕ} → e ≡ entry_bytes bytes i → Holds table n (forms_after (first_entries i) 0) → Grows (with_entry e) table n r after → Holds after r (forms_after (first_entries (i + 1)) 0)
-  entries_more i {e} {table} {after} {n} {r} b t p =
-      subst (Holds after r) (ap (λ (x : List ℕ). with_entry x (forms_after (first_entries i) 0)) b ∙ entries_further i) (p.holds (forms_after (first_entries i) 0) t)
+  pub entries_more : (i : ℕ) {e : List ℕ} {table after : FormTable} → e ≡ entry_bytes bytes i → Holds table.rows table.count (forms_after (first_entries i) 0) → Grows (with_entry e) table after
+      → Holds after.rows after.count (forms_after (first_entries (i + 1)) 0)
+  entries_more i {e} {table} {after} b t p =
+      subst (Holds after.rows after.count) (ap (λ (x : List ℕ). with_entry x (forms_after (first_entries i) 0)) b ∙ entries_further i) (p.holds (forms_after (first_entries i) 0) t)
 
   -- all rounds after the entries; and what a table of the derivable forms holds
-  pub derived_by : {mid after : List ℕ} {n r : ℕ} → Holds mid n (forms_after (lexicon_of bytes) 0) → Rounds 63 mid n r after → Derived bytes r after
+  pub derived_by : {mid after : FormTable} → Holds mid.rows mid.count (forms_after (lexicon_of bytes) 0) → Rounds 63 mid after → Derived bytes after
   unfolding Derived
   derived_by t p = p.holds (lexicon_of bytes) t
 
-  pub derived_holds : {table : List ℕ} {r : ℕ} → Derived bytes r table → Holds table r (forms_of (lexicon_of bytes))
+  pub derived_holds : {table : FormTable} → Derived bytes table → Holds table.rows table.count (forms_of (lexicon_of bytes))
   unfolding Derived
   derived_holds d = d

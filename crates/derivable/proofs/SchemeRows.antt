@@ -1,7 +1,8 @@
 -- A table with one form more: that of a row, of a merge, of a move, of an entry.
 -- Assumes nothing.
 use Rattle.std.specs.Prelude.{if◌then◌else◌}
-use mathlib.Core.Path.{◌≡◌, refl, sym, subst, ◌∙◌}
+use Rattle.std.specs.Prelude as std
+use mathlib.Core.Path.{◌≡◌, refl, sym, ap, subst, ◌∙◌}
 use mathlib.Core.Bool.{Bool, true, false, ◌&&◌}
 use mathlib.Core.Option.{Option, none, some}
 use mathlib.Core.List.{List, [], ◌∷◌, ◌++◌, map}
@@ -15,30 +16,34 @@ use Rattle.minimalist.specs.Lexicon.{selects, is_licensor, entry_of}
 use Rattle.minimalist.specs.Schemes.{Form, Instance, merge_by, merge_if, merge_scheme, how_many_begin, moving_after, move_by, move_if, move_scheme, no_features, wrong_moving, left_out, lexical_form}
 use Rattle.minimalist.specs.Closure.{add_forms, result_of}
 use Rattle.minimalist.proofs.Right.{few_moving}
-use Rattle.forms.specs.Rows.{row_of, Small, SaysLeftOut, merge_number, MergeIs, SaysMerge, place_in, move_code, MoveIs, SaysMove}
+use Rattle.forms.specs.Rows.{row_of, Small, SaysLeftOut, MergeIs, SaysMerge, mover_of, move_code, MoveIs, SaysMove}
+use Rattle.forms.specs.declared.merges.MergeScheme.{MergeScheme}
+use Rattle.forms.specs.declared.merges.Merged.{Merged}
+use Rattle.forms.specs.declared.moves.Moved.{Moved}
+use Rattle.derivable.specs.declared.tables.FormTable.{FormTable}
 use Rattle.forms.proofs.MoveRows.{how_many, placed}
 use Rattle.derivable.specs.Tables.{row_at, form_at, Holds, Added}
 use Rattle.derivable.specs.Rounds.{Grows, AddedKept, with_merge, with_move, with_entry}
 use Rattle.derivable.proofs.RoundLaws.{entry_small, joined_small, moved_small}
 
 -- the form of a row, unless it is left out
-module _ {before row : List ℕ} {n : ℕ} {out : Bool} (says : SaysLeftOut row out) where
-  pub kept_not : out ≡ true → n ≤ 64 → AddedKept before n row n before
+module _ {before : FormTable} {row : List ℕ} {out : Bool} (says : SaysLeftOut row out) where
+  pub kept_not : out ≡ true → before.count ≤ 64 → AddedKept before row before
   kept_not e few =
       record {
         least = omega arith;
         most = few;
-        holds = λ a small r forms t. subst (λ (b : Bool). Holds before n (add_forms forms (if b then [] else a ∷ []))) (sym e ∙ says a small r) t;
+        holds = λ a small r forms t. subst (λ (b : Bool). Holds before.rows before.count (add_forms forms (if b then [] else a ∷ []))) (sym e ∙ says a small r) t;
       }
 
-  pub kept_so : {after : List ℕ} {r : ℕ} → out ≡ false → Added before n row r after → AddedKept before n row r after
-  kept_so {after} {r} e p =
+  pub kept_so : {after : FormTable} → out ≡ false → Added before row after → AddedKept before row after
+  kept_so {after} e p =
       record {
         least = p.least;
         most = p.most;
         holds = λ a small w forms t.
             let not_left : left_out a ≡ false = sym (says a small w) ∙ e in
-            subst (λ (b : Bool). Holds after r (add_forms forms (if b then [] else a ∷ []))) (sym not_left)
+            subst (λ (b : Bool). Holds after.rows after.count (add_forms forms (if b then [] else a ∷ []))) (sym not_left)
             (p.holds forms a t small (or_r (no_features a.head) (wrong_moving a.moving) not_left) w);
       }
 
@@ -81,70 +86,78 @@ move_small a p s e = heads a.head refl e
     heads [] ea w = none_some (sym w)
     heads (x ∷ α) ea w = tested (is_licensor x) (eqb (how_many_begin (x + 16) a.moving) 1) x α ea refl w
 
--- an instance there is has a number that is not 0
-pub merge_number_lem : (x : Bool) (l : List ℕ) → 0 ≡ merge_number x l → ⊥
-merge_number_lem true [] e = omega arith
-merge_number_lem false [] e = omega arith
-merge_number_lem true (f ∷ l) e = omega arith
-merge_number_lem false (f ∷ l) e = omega arith
+-- none is not one that there is, and one is only itself
+pub none_is_some : {A C : Type 0} {x : A} → std.None ≡ std.Some x → C
+none_is_some {A} {C} {x} e = let z : ⊥ = cc in absurd z
 
-pub move_number : (t : ℕ) (c : List ℕ) → 0 ≡ move_code t c → ⊥
-move_number t [] e = omega arith
-move_number t (m ∷ []) e = omega arith
-move_number t (m ∷ f ∷ β) e = omega arith
+pub some_same : {A : Type 0} {x y : A} → std.Some x ≡ std.Some y → x ≡ y
+some_same {A} {x} {y} e = cc
+
+pub merged_row : {merged : Merged} {scheme : MergeScheme} {row : List ℕ} → std.Some merged ≡ std.Some (record { scheme = scheme; row = row }) → merged.row ≡ row
+merged_row e = ap (λ (m : Merged). m.row) (some_same e)
+
+pub merged_scheme : {merged : Merged} {scheme : MergeScheme} {row : List ℕ} → std.Some merged ≡ std.Some (record { scheme = scheme; row = row }) → merged.scheme ≡ scheme
+merged_scheme e = ap (λ (m : Merged). m.scheme) (some_same e)
+
+pub moved_row : {moved : Moved} (t : ℕ) (c row : List ℕ) → std.Some moved ≡ std.Some (move_code t c row) → moved.row ≡ row
+moved_row t c row e = ap (λ (m : Moved). m.row) (some_same e) ∙ of_code c
+  where
+    of_code : (c : List ℕ) → (move_code t c row).row ≡ row
+    of_code [] = refl
+    of_code (m ∷ []) = refl
+    of_code (m ∷ f ∷ β) = refl
 
 -- a merge of rows i and j, which the table holds
-module _ {before x y row : List ℕ} {n i j made : ℕ} (hi : i < n) (hj : j < n) (ex : x ≡ row_at before i) (ey : y ≡ row_at before j) (says : SaysMerge x y made row) where
-  module _ (forms : List Form) (t : Holds before n forms) where
+module _ {before : FormTable} {x y : List ℕ} {i j : ℕ} {made : std.Option Merged} (hi : i < before.count) (hj : j < before.count) (ex : x ≡ row_at before.rows i) (ey : y ≡ row_at before.rows j) (says : SaysMerge x y made) where
+  module _ (forms : List Form) (t : Holds before.rows before.count forms) where
     pub both_few : length (form_at forms i).moving + length (form_at forms j).moving ≤ 6
     both_few = omega (arith, few_moving (form_at forms i).moving (t.0.kept i (omega (arith, t.1))), few_moving (form_at forms j).moving (t.0.kept j (omega (arith, t.1))))
 
-    pub merge_is : MergeIs (form_at forms i) (form_at forms j) (merge_scheme (form_at forms i) (form_at forms j)) made row
+    pub merge_is : MergeIs (form_at forms i) (form_at forms j) (merge_scheme (form_at forms i) (form_at forms j)) made
     merge_is =
         says (form_at forms i) (form_at forms j) (t.0.small i (omega (arith, t.1))) (t.0.small j (omega (arith, t.1))) both_few
         (ex ∙ t.0.rows i (omega (arith, t.1))) (ey ∙ t.0.rows j (omega (arith, t.1)))
 
-  pub merge_none : made ≡ 0 → n ≤ 64 → Grows (with_merge i j) before n n before
+  pub merge_none : made ≡ std.None → before.count ≤ 64 → Grows (with_merge i j) before before
   merge_none e few = record { least = omega arith; most = few; holds = λ forms t. go forms t (merge_scheme (form_at forms i) (form_at forms j)) (merge_is forms t) }
     where
-      go : (forms : List Form) → Holds before n forms → (o : Option Instance) → MergeIs (form_at forms i) (form_at forms j) o made row → Holds before n (add_forms forms (result_of o))
+      go : (forms : List Form) → Holds before.rows before.count forms → (o : Option Instance) → MergeIs (form_at forms i) (form_at forms j) o made → Holds before.rows before.count (add_forms forms (result_of o))
       go forms t none m = t
-      go forms t (some s) m = absurd (merge_number_lem (form_at forms i).lexical (drop 1 (form_at forms j).head) (sym e ∙ m.0))
+      go forms t (some s) m = none_is_some (sym e ∙ m)
 
-  pub merge_some : {after : List ℕ} {r : ℕ} → (made ≡ 0 → ⊥) → AddedKept before n row r after → Grows (with_merge i j) before n r after
-  merge_some {after} {r} d p =
+  pub merge_some : {after : FormTable} (merged : Merged) → made ≡ std.Some merged → AddedKept before merged.row after → Grows (with_merge i j) before after
+  merge_some {after} merged d p =
       record { least = p.least; most = p.most; holds = λ forms t. go forms t (merge_scheme (form_at forms i) (form_at forms j)) refl (merge_is forms t) }
     where
-      go : (forms : List Form) → Holds before n forms → (o : Option Instance) → merge_scheme (form_at forms i) (form_at forms j) ≡ o
-          → MergeIs (form_at forms i) (form_at forms j) o made row → Holds after r (add_forms forms (result_of o))
-      go forms t none w m = absurd (d m)
+      go : (forms : List Form) → Holds before.rows before.count forms → (o : Option Instance) → merge_scheme (form_at forms i) (form_at forms j) ≡ o
+          → MergeIs (form_at forms i) (form_at forms j) o made → Holds after.rows after.count (add_forms forms (result_of o))
+      go forms t none w m = none_is_some (sym m ∙ d)
       go forms t (some s) w m =
           p.holds s.result
           (merge_small (form_at forms i) (form_at forms j) (t.0.small i (omega (arith, t.1))) (t.0.small j (omega (arith, t.1))) (both_few forms t) s w)
-          m.1 forms t
+          (merged_row (sym d ∙ m)) forms t
 
 -- a move of row i
-module _ {before x row : List ℕ} {n i made : ℕ} (hi : i < n) (ex : x ≡ row_at before i) (says : SaysMove x made row) where
-  pub move_is : (forms : List Form) → Holds before n forms → MoveIs (form_at forms i) (move_scheme (form_at forms i)) made row
+module _ {before : FormTable} {x : List ℕ} {i : ℕ} {made : std.Option Moved} (hi : i < before.count) (ex : x ≡ row_at before.rows i) (says : SaysMove x made) where
+  pub move_is : (forms : List Form) → Holds before.rows before.count forms → MoveIs (form_at forms i) (move_scheme (form_at forms i)) made
   move_is forms t = says (form_at forms i) (t.0.small i (omega (arith, t.1))) (ex ∙ t.0.rows i (omega (arith, t.1)))
 
-  pub move_none : made ≡ 0 → n ≤ 64 → Grows (with_move i) before n n before
+  pub move_none : made ≡ std.None → before.count ≤ 64 → Grows (with_move i) before before
   move_none e few = record { least = omega arith; most = few; holds = λ forms t. go forms t (move_scheme (form_at forms i)) (move_is forms t) }
     where
-      go : (forms : List Form) → Holds before n forms → (o : Option Instance) → MoveIs (form_at forms i) o made row → Holds before n (add_forms forms (result_of o))
+      go : (forms : List Form) → Holds before.rows before.count forms → (o : Option Instance) → MoveIs (form_at forms i) o made → Holds before.rows before.count (add_forms forms (result_of o))
       go forms t none m = t
-      go forms t (some s) m =
-          let at = place_in (get_or (form_at forms i).head 0 0 + 16) (map (λ c. get_or c 0 0) (form_at forms i).moving) in
-          absurd (move_number at (get_or (form_at forms i).moving at []) (sym e ∙ m.0))
+      go forms t (some s) m = none_is_some (sym e ∙ m)
 
-  pub move_some : {after : List ℕ} {r : ℕ} → (made ≡ 0 → ⊥) → AddedKept before n row r after → Grows (with_move i) before n r after
-  move_some {after} {r} d p =
+  pub move_some : {after : FormTable} (moved : Moved) → made ≡ std.Some moved → AddedKept before moved.row after → Grows (with_move i) before after
+  move_some {after} moved d p =
       record { least = p.least; most = p.most; holds = λ forms t. go forms t (move_scheme (form_at forms i)) refl (move_is forms t) }
     where
-      go : (forms : List Form) → Holds before n forms → (o : Option Instance) → move_scheme (form_at forms i) ≡ o → MoveIs (form_at forms i) o made row → Holds after r (add_forms forms (result_of o))
-      go forms t none w m = absurd (d m)
-      go forms t (some s) w m = p.holds s.result (move_small (form_at forms i) (t.0.small i (omega (arith, t.1))) s w) m.1 forms t
+      go : (forms : List Form) → Holds before.rows before.count forms → (o : Option Instance) → move_scheme (form_at forms i) ≡ o → MoveIs (form_at forms i) o made
+          → Holds after.rows after.count (add_forms forms (result_of o))
+      go forms t none w m = none_is_some (sym m ∙ d)
+      go forms t (some s) w m = p.holds s.result (move_small (form_at forms i) (t.0.small i (omega (arith, t.1))) s w) (moved_row (mover_of (form_at forms i)) (get_or (form_at forms i).moving (mover_of (form_at forms i)) []) (row_of s.result) (sym d ∙ m)) forms t
 
 -- the form of an entry
-pub entry_added : (e : List ℕ) {before row after : List ℕ} {n r : ℕ} → row ≡ row_of (lexical_form (entry_of e)) → Added before n row r after → Grows (with_entry e) before n r after
+pub entry_added : (e : List ℕ) {row : List ℕ} {before after : FormTable} → row ≡ row_of (lexical_form (entry_of e)) → Added before row after → Grows (with_entry e) before after
 entry_added e w p = record { least = p.least; most = p.most; holds = λ forms t. p.holds forms (lexical_form (entry_of e)) t (entry_small e) refl w }

@@ -1,6 +1,6 @@
 -- A table of forms: finding a form by its row, and adding one.
 -- Assumes nothing.
-use Rattle.std.specs.Prelude.{if◌then◌else◌}
+use Rattle.std.specs.Prelude.{if◌then◌else◌, Option, Some, None, is_some, MatchOption}
 use mathlib.Core.Path.{◌≡◌, refl, sym, ap, ap₂, subst, ◌∙◌}
 use mathlib.Core.Bool.{Bool, true, false, ◌||◌}
 use mathlib.Core.List.{List, [], ◌∷◌, ◌++◌}
@@ -9,30 +9,22 @@ use native.Mathlib.Omega.{arith}
 use native.Mathlib.Decide.{dec_lt, ℕ_discrete}
 use native.Mathlib.Numerals.{add-one}
 use lib.Dec.{T, ltb, leb-suc-suc}
-use lib.ListN.{length, get_or, set, length-append, get_or-append}
+use lib.ListN.{length, get_or, set, take, length-append, get_or-append}
+use Rattle.std.specs.List.{position_or_len}
+use Rattle.std.proofs.lemmas.List.Recursion.{is_position_or_len}
+use Rattle.std.proofs.lemmas.List.{get_or-take, length-take-le}
 use lib.Seq.{get_or-append_seam, ext_get_or, get_or-set_same, get_or-set_other}
 use borrow.Author.Tests.{lt-ltb, le-ltb}
 use Rattle.model.specs.Base.{same_list}
 use Rattle.model.proofs.Tests.{not_both, passes, list_same, same_list_lem}
-use Rattle.model.proofs.ByteLists.{fields_same, fields_length, fields_at}
 use Rattle.minimalist.specs.Schemes.{Form, wrong_moving}
 use Rattle.minimalist.specs.Closure.{same_form, is_among, add_form}
 use Rattle.minimalist.specs.Numbering.{place_of}
 use Rattle.minimalist.proofs.Forms.{same_form_lem, form_same}
 use Rattle.forms.specs.Rows.{row_of, Small}
-use Rattle.derivable.specs.Tables.{row_at, first_same, form_at, Table, Pasted, Holds, Added}
+use Rattle.derivable.specs.Tables.{row_at, first_same, form_at, Table, Holds, Added}
+use Rattle.derivable.specs.declared.tables.FormTable.{FormTable}
 use Rattle.forms.proofs.RowLaws.{row_one}
-
--- one turn further
-module _ (rows : ℕ → List ℕ) (row : List ℕ) (k n : ℕ) where
-  pub same_found : k < n → same_list (rows k) row ≡ true → first_same rows row k (n - k) ≡ k
-  same_found h t = let e : n - k ≡ suc (n - (k + 1)) = omega arith in rw e (rw t)
-
-  pub same_later : k < n → same_list (rows k) row ≡ false → first_same rows row k (n - k) ≡ first_same rows row (k + 1) (n - (k + 1))
-  same_later h t = let e : n - k ≡ suc (n - (k + 1)) = omega arith in rw (e, add-one k) (rw t)
-
-  pub same_none : n ≤ k → first_same rows row k (n - k) ≡ k
-  same_none h = let e : n - k ≡ 0 = omega arith in rw e
 
 -- rows are the same where the forms are
 pub rows_same : (b a : Form) → Small b → Small a → same_list (row_of b) (row_of a) ≡ same_form b a
@@ -49,7 +41,7 @@ rows_same b a p q = go (same_form b a) (same_list (row_of b) (row_of a)) refl re
         not_both (sym (passes (same_form a a) (form_same a)) ∙ ap (λ (x : Form). same_form x a) (sym e) ∙ u)
 
 -- the form's place by its row
-module _ (table : List ℕ) (a : Form) (q : Small a) where
+module _ (table : List (List ℕ)) (a : Form) (q : Small a) where
   place_from : (forms : List Form) (k : ℕ) → ((i : ℕ) → i < length forms → (row_at table (k + i) ≡ row_of (form_at forms i)) × Small (form_at forms i))
       → first_same (row_at table) (row_of a) k (length forms) ≡ k + place_of forms a
   place_from [] k h = omega arith
@@ -83,16 +75,87 @@ among_place (b ∷ bs) a = go (same_form b a) (among_place bs a)
     go true ih = sym (lt-ltb 0 (suc (length bs)) (omega arith))
     go false ih = ih ∙ sym (leb-suc-suc (suc (place_of bs a)) (length bs))
 
--- adding
-module _ (before : List ℕ) (n : ℕ) (row : List ℕ) where
-  pub add_found : n ≤ 64 → first_same (row_at before) row 0 n < n → Added before n row n before
-  add_found few h = record { least = omega arith; most = few; holds = λ forms a t q w r. subst (Holds before n) (sym (still forms a t q r)) t }
-    where
-      still : (forms : List Form) (a : Form) → Holds before n forms → Small a → row ≡ row_of a → add_form forms a ≡ forms
-      still forms a t q r = rw (among_place forms a ∙ lt-ltb (place_of forms a) (length forms) (omega (arith, place_is before a q forms n row (sym t.1) t.0 r)))
+-- the rows of the forms alone
+pub holds_first : (table : List (List ℕ)) (n : ℕ) → n ≤ length table → (forms : List Form) → Holds table n forms → Holds (take n table) (length (take n table)) forms
+holds_first table n h forms t = (
+  record {
+    few = t.0.few;
+    rows = λ i l. get_or-take n table i [] (omega (arith, t.1)) ∙ t.0.rows i l;
+    small = t.0.small;
+    kept = t.0.kept;
+  },
+  length-take-le n table h ∙ t.1,
+)
 
-  pub add_full : n ≤ 64 → 63 < n → Added before n row n before
-  add_full few h = record { least = omega arith; most = few; holds = λ forms a t q w r. subst (Holds before n) (sym (still forms a t.1)) t }
+-- the place where a form is looked for
+abbrev pub sought : List (List ℕ) → ℕ → List ℕ → ℕ
+sought table n row = first_same (row_at (take n table)) row 0 (length (take n table))
+
+-- where a search finds a row
+module _ (row : List ℕ) where
+  abbrev seek : List (List ℕ) → ℕ
+  seek [] = 0
+  seek (x ∷ xs) = if same_list x row then 0 else suc (seek xs)
+
+  first_seek : (rows : ℕ → List ℕ) (xs : List (List ℕ)) (from : ℕ) → ((i : ℕ) → i < length xs → rows (from + i) ≡ get_or xs i []) → first_same rows row from (length xs) ≡ from + seek xs
+  first_seek rows [] from e = omega arith
+  first_seek rows (x ∷ xs) from e =
+      go (same_list x row) refl
+      (first_seek rows xs (suc from) (λ i h. let z : suc from + i ≡ from + suc i = omega arith in ap rows z ∙ e (suc i) (omega arith)))
+    where
+      here : rows from ≡ x
+      here = let z : from ≡ from + 0 = omega arith in ap rows z ∙ e 0 (omega arith)
+
+      go : (t : Bool) → same_list x row ≡ t → first_same rows row (suc from) (length xs) ≡ suc from + seek xs
+          → (if same_list (rows from) row then from else first_same rows row (suc from) (length xs)) ≡ from + (if t then 0 else suc (seek xs))
+      go true w ih = rw (ap (λ (l : List ℕ). same_list l row) here ∙ w) (omega arith)
+      go false w ih = rw (ap (λ (l : List ℕ). same_list l row) here ∙ w) (omega arith)
+
+  pub place_sought_is : (xs : List (List ℕ)) → position_or_len (λ x. same_list x row) xs ≡ first_same (row_at xs) row 0 (length xs)
+  place_sought_is xs =
+      sym (is_position_or_len seek (λ x. same_list x row) refl step xs)
+      ∙ (let z : 0 + seek xs ≡ seek xs = omega arith in sym z)
+      ∙ sym (first_seek (row_at xs) xs 0 (λ i h. let z : 0 + i ≡ i = omega arith in ap (row_at xs) z))
+    where
+      step : (x : List ℕ) (xs : List (List ℕ)) → (if same_list x row then 0 else suc (seek xs)) ≡ (if same_list x row then 0 else (1 + seek xs))
+      step x xs = let z : suc (seek xs) ≡ 1 + seek xs = omega arith in rw z
+
+-- what a search among the rows of the forms answers
+abbrev pub Found : List (List ℕ) → List ℕ → Option ℕ → Type 0
+Found F row r = MatchOption r (length F ≤ first_same (row_at F) row 0 (length F)) (λ i. (i < length F) × (i ≡ first_same (row_at F) row 0 (length F)))
+
+module _ (table : List (List ℕ)) (n : ℕ) (row : List ℕ) (long : n ≤ length table) (F : List (List ℕ)) (e : F ≡ take n table) where
+  pub none_found : (r : Option ℕ) → Found F row r → is_some r ≡ false → n ≤ sought table n row
+  none_found None h s =
+      let z : length (take n table) ≤ sought table n row = subst (λ (F : List (List ℕ)). length F ≤ first_same (row_at F) row 0 (length F)) e h in
+      omega (arith, length-take-le n table long)
+  none_found (Some i) h s = not_both s
+
+  pub some_found : (r : Option ℕ) → Found F row r → is_some r ≡ true → sought table n row < n
+  some_found None h s = not_both (sym s)
+  some_found (Some i) h s =
+      let z : i ≡ sought table n row = subst (λ (F : List (List ℕ)). i ≡ first_same (row_at F) row 0 (length F)) e h.1 in
+      let y : i < length (take n table) = subst (λ (F : List (List ℕ)). i < length F) e h.0 in
+      omega (arith, length-take-le n table long)
+
+-- adding
+module _ (table : List (List ℕ)) (n : ℕ) (row : List ℕ) (long : n ≤ length table) where
+  abbrev before : FormTable
+  before = record { rows = table; count = n }
+
+  place_sought : (forms : List Form) (a : Form) → Holds table n forms → Small a → row ≡ row_of a → sought table n row ≡ place_of forms a
+  place_sought forms a t q r =
+      let u = holds_first table n long forms t in
+      place_is (take n table) a q forms (length (take n table)) row (sym u.1) u.0 r
+
+  pub add_found : n ≤ 64 → sought table n row < n → Added before row before
+  add_found few h = record { least = omega arith; most = few; holds = λ forms a t q w r. subst (Holds table n) (sym (still forms a t q r)) t }
+    where
+      still : (forms : List Form) (a : Form) → Holds table n forms → Small a → row ≡ row_of a → add_form forms a ≡ forms
+      still forms a t q r = rw (among_place forms a ∙ lt-ltb (place_of forms a) (length forms) (omega (arith, place_sought forms a t q r, t.1)))
+
+  pub add_full : n ≤ 64 → 63 < n → Added before row before
+  add_full few h = record { least = omega arith; most = few; holds = λ forms a t q w r. subst (Holds table n) (sym (still forms a t.1)) t }
     where
       go : (forms : List Form) (a : Form) (x : Bool) → (if (x || true) then forms else forms ++ (a ∷ [])) ≡ forms
       go forms a true = refl
@@ -101,16 +164,19 @@ module _ (before : List ℕ) (n : ℕ) (row : List ℕ) where
       still : (forms : List Form) (a : Form) → n ≡ length forms → add_form forms a ≡ forms
       still forms a l = rw (lt-ltb 63 (length forms) (omega arith)) (go forms a (is_among forms a))
 
-  grown_by : (after : List ℕ) → length before ≡ 4096 → length row ≡ 64 → n ≤ first_same (row_at before) row 0 n → n ≤ 63 → Pasted before n row after
-      → (forms : List Form) (a : Form) → length forms ≡ n → Table before forms → Small a → wrong_moving a.moving ≡ false → row ≡ row_of a → Holds after (n + 1) (add_form forms a)
-  grown_by after long wide h k s forms a l t q w r =
+  grown_by : n < length table → n ≤ sought table n row → n ≤ 63
+      → (forms : List Form) (a : Form) → Holds table n forms → Small a → wrong_moving a.moving ≡ false → row ≡ row_of a → Holds (set table n row) (n + 1) (add_form forms a)
+  grown_by wide h k forms a t q w r =
       (subst (λ (f : List Form). Table after f) (sym more) grown, sym count ∙ ap length (sym more))
     where
+      after : List (List ℕ)
+      after = set table n row
+
       more : add_form forms a ≡ forms ++ (a ∷ [])
-      more = rw (among_place forms a ∙ le-ltb (place_of forms a) (length forms) (omega (arith, place_is before a q forms n row l t r)), le-ltb 63 (length forms) (omega arith))
+      more = rw (among_place forms a ∙ le-ltb (place_of forms a) (length forms) (omega (arith, place_sought forms a t q r, t.1)), le-ltb 63 (length forms) (omega (arith, t.1)))
 
       count : length (forms ++ (a ∷ [])) ≡ n + 1
-      count = length-append forms (a ∷ []) ∙ (let e : length forms + 1 ≡ n + 1 = omega arith in e)
+      count = length-append forms (a ∷ []) ∙ (let e : length forms + 1 ≡ n + 1 = omega (arith, t.1) in e)
 
       old_form : (i : ℕ) → i < length forms → form_at (forms ++ (a ∷ [])) i ≡ form_at forms i
       old_form i h = get_or-append forms (a ∷ []) (record { lexical = false; head = []; moving = [] }) i h
@@ -118,25 +184,23 @@ module _ (before : List ℕ) (n : ℕ) (row : List ℕ) where
       new_form : (i : ℕ) → i ≡ length forms → form_at (forms ++ (a ∷ [])) i ≡ a
       new_form i h = ap (form_at (forms ++ (a ∷ []))) h ∙ get_or-append_seam forms a [] (record { lexical = false; head = []; moving = [] })
 
-      old_row : (i : ℕ) → i < n → row_at after i ≡ row_at before i
-      old_row i h = fields_same after before (64 * i) (64 * i) 64 (omega (arith, s.long)) (omega arith) (λ j m. s.old (64 * i + j) (omega arith))
+      old_row : (i : ℕ) → i < n → row_at after i ≡ row_at table i
+      old_row i h = get_or-set_other table n i row [] (λ z. omega arith)
 
       new_row : row_at after n ≡ row
-      new_row =
-          ext_get_or 0 (row_at after n) row (fields_length after (64 * n) 64 (omega (arith, s.long)) ∙ sym wide)
-          (λ p m. fields_at after (64 * n) 64 p (omega (arith, fields_length after (64 * n) 64 (omega (arith, s.long)))) ∙ s.new p (omega (arith, fields_length after (64 * n) 64 (omega (arith, s.long)))))
+      new_row = get_or-set_same table n row [] wide
 
       rows_at : (i : ℕ) → Dec (i < n) → i < length (forms ++ (a ∷ [])) → row_at after i ≡ row_of (form_at (forms ++ (a ∷ [])) i)
-      rows_at i (yes m) h = old_row i m ∙ t.rows i (omega arith) ∙ ap row_of (sym (old_form i (omega arith)))
-      rows_at i (no m) h = let e : i ≡ n = omega (arith, count) in ap (row_at after) e ∙ new_row ∙ r ∙ ap row_of (sym (new_form i (e ∙ sym l)))
+      rows_at i (yes m) h = old_row i m ∙ t.0.rows i (omega (arith, t.1)) ∙ ap row_of (sym (old_form i (omega (arith, t.1))))
+      rows_at i (no m) h = let e : i ≡ n = omega (arith, count) in ap (row_at after) e ∙ new_row ∙ r ∙ ap row_of (sym (new_form i (e ∙ t.1)))
 
       small_at : (i : ℕ) → Dec (i < n) → i < length (forms ++ (a ∷ [])) → Small (form_at (forms ++ (a ∷ [])) i)
-      small_at i (yes m) h = subst Small (sym (old_form i (omega arith))) (t.small i (omega arith))
-      small_at i (no m) h = let e : i ≡ n = omega (arith, count) in subst Small (sym (new_form i (e ∙ sym l))) q
+      small_at i (yes m) h = subst Small (sym (old_form i (omega (arith, t.1)))) (t.0.small i (omega (arith, t.1)))
+      small_at i (no m) h = let e : i ≡ n = omega (arith, count) in subst Small (sym (new_form i (e ∙ t.1))) q
 
       kept_at : (i : ℕ) → Dec (i < n) → i < length (forms ++ (a ∷ [])) → wrong_moving (form_at (forms ++ (a ∷ [])) i).moving ≡ false
-      kept_at i (yes m) h = ap (λ (x : Form). wrong_moving x.moving) (old_form i (omega arith)) ∙ t.kept i (omega arith)
-      kept_at i (no m) h = let e : i ≡ n = omega (arith, count) in ap (λ (x : Form). wrong_moving x.moving) (new_form i (e ∙ sym l)) ∙ w
+      kept_at i (yes m) h = ap (λ (x : Form). wrong_moving x.moving) (old_form i (omega (arith, t.1))) ∙ t.0.kept i (omega (arith, t.1))
+      kept_at i (no m) h = let e : i ≡ n = omega (arith, count) in ap (λ (x : Form). wrong_moving x.moving) (new_form i (e ∙ t.1)) ∙ w
 
       grown : Table after (forms ++ (a ∷ []))
       grown =
@@ -147,22 +211,10 @@ module _ (before : List ℕ) (n : ℕ) (row : List ℕ) where
             kept = λ i h. kept_at i (dec_lt i n) h;
           }
 
-  pub add_new : (after : List ℕ) → length before ≡ 4096 → length row ≡ 64 → n ≤ first_same (row_at before) row 0 n → n ≤ 63 → Pasted before n row after → Added before n row (n + 1) after
-  add_new after long wide h k s =
+  pub add_new : n < length table → n ≤ sought table n row → n ≤ 63 → Added before row (record { rows = set table n row; count = n + 1 })
+  add_new wide h k =
       record {
         least = omega arith;
         most = omega arith;
-        holds = λ forms a t q w r. grown_by after long wide h k s forms a (sym t.1) t.0 q w r;
+        holds = λ forms a t q w r. grown_by wide h k forms a t q w r;
       }
-
--- a row put byte by byte, one byte further
-module _ (t row first : List ℕ) (at p : ℕ) where
-  pub put_new : at + p < length t → ((q : ℕ) → q < p → get_or t (at + q) 0 ≡ get_or row q 0) → (q : ℕ) → q < p + 1 → get_or (set t (at + p) (get_or row p 0)) (at + q) 0 ≡ get_or row q 0
-  put_new h e q l = go (ℕ_discrete q p)
-    where
-      go : Dec (q ≡ p) → get_or (set t (at + p) (get_or row p 0)) (at + q) 0 ≡ get_or row q 0
-      go (yes s) = ap (λ (x : ℕ). get_or (set t (at + p) (get_or row p 0)) (at + x) 0) s ∙ get_or-set_same t (at + p) (get_or row p 0) 0 h ∙ ap (λ (x : ℕ). get_or row x 0) (sym s)
-      go (no d) = get_or-set_other t (at + p) (at + q) (get_or row p 0) 0 (λ z. d (omega arith)) ∙ e q (omega arith)
-
-  pub put_old : ((q : ℕ) → q < at → get_or t q 0 ≡ get_or first q 0) → (q : ℕ) → q < at → get_or (set t (at + p) (get_or row p 0)) q 0 ≡ get_or first q 0
-  put_old e q l = get_or-set_other t (at + p) q (get_or row p 0) 0 (λ z. omega arith) ∙ e q l

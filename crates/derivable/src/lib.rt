@@ -5,4 +5,4 @@ mod rounds;
 mod tables;
 
 pub use rounds::derivable_forms;
-pub use tables::{TABLE, find_row, row_of};
+pub use tables::{FormTable, find_row};

@@ -1,3 +1,4 @@
+pub mod Made
 pub mod RowLaws
 pub mod RowForms
 pub mod MergeRows

@@ -1,6 +1,6 @@
 -- The row of a merge, byte by byte.
 -- Assumes nothing.
-use Rattle.std.specs.Prelude.{if◌then◌else◌}
+use Rattle.std.specs.Prelude.{if◌then◌else◌, Option, Some, None}
 use mathlib.Core.Path.{◌≡◌, refl, sym, ap, ap₂, ◌∙◌}
 use mathlib.Core.Bool.{Bool, true, false}
 use mathlib.Core.List.{List, [], ◌∷◌, ◌++◌}
@@ -13,6 +13,9 @@ use lib.Seq.{get_or-append-add, get_or-drop}
 use borrow.Author.Tests.{lt-ltb, le-ltb, le-leb, lt-leb, eq-eqb, ne_eqb}
 use Rattle.minimalist.specs.Lexicon.{selects}
 use Rattle.minimalist.specs.Schemes.{Form, merge_if, merge_scheme}
+use Rattle.forms.specs.declared.merges.MergeScheme.{MergeScheme}
+use Rattle.forms.specs.declared.merges.MergeScheme.TheVariants.{First, Second, Third}
+use Rattle.forms.specs.declared.merges.Merged.{Merged}
 use Rattle.forms.specs.Rows.{flag, head_byte, row_byte, row_of, Small, rest_byte, going_byte, late_byte, merge_byte, FilledBy, merge_number, MergeIs, SaysMerge}
 use Rattle.forms.proofs.RowLaws.{row_by, cell_is, head_at, flag_at, count_at, chain_at, first_at}
 use Rattle.lexicon.proofs.FeatureKinds.{no_category}
@@ -100,42 +103,9 @@ module _ (a b : Form) (small-a : Small a) (small_b : Small b) (few : length a.mo
     pub merge_row : (row : List ℕ) → FilledBy (merge_byte (row_of a) (row_of b) i j from) row → row ≡ row_of r
     merge_row row f = row_by r row f.0 (λ p l. f.1 p l ∙ merge_byte_lem p l)
 
--- by the code's tests
-module _ (a : List ℕ) (n p : ℕ) where
-  pub rest_early : p < 5 → get_or a (p + 1) 0 ≡ rest_byte a n p
-  rest_early h = rw (lt-ltb p 5 h)
-
-  pub rest_count : 5 ≤ p → p ≡ 7 → n % 256 ≡ rest_byte a n p
-  rest_count h e = rw (le-ltb p 5 h, eq-eqb p 7 e)
-
-  pub rest_none : 5 ≤ p → (p ≡ 7 → ⊥) → 0 ≡ rest_byte a n p
-  rest_none h e = rw (le-ltb p 5 h, ne_eqb p 7 e)
-
-module _ (b : List ℕ) (j k x : ℕ) where
-  pub going_chain : 0 < k → get_or b (8 * k + x) 0 ≡ going_byte b k x
-  going_chain h = rw (lt-ltb 0 k h)
-
-  pub going_head : k ≤ 0 → x < 5 → get_or b (x + 1) 0 ≡ going_byte b k x
-  going_head h l = rw (le-ltb 0 k h, lt-ltb x 5 l)
-
-  pub going_none : k ≤ 0 → 5 ≤ x → 0 ≡ going_byte b k x
-  going_none h l = rw (le-ltb 0 k h, le-ltb x 5 l)
-
-  pub late_here : k ≤ j → going_byte b k x ≡ late_byte b j k x
-  late_here h = rw (le-leb k j h)
-
-  pub late_none : j < k → 0 ≡ late_byte b j k x
-  late_none h = rw (lt-leb k j h)
-
-module _ (a b : List ℕ) (i j from p : ℕ) where
-  pub merge_head : p < 8 → rest_byte a (i + j + 1 - from) p ≡ merge_byte a b i j from p
-  merge_head h = rw (lt-ltb p 8 h)
-
-  pub merge_first : 8 ≤ p → p / 8 ≤ i → get_or a p 0 ≡ merge_byte a b i j from p
-  merge_first h l = rw (le-ltb p 8 h, le-leb (p / 8) i l)
-
-  pub merge_second : 8 ≤ p → i < p / 8 → late_byte b j (p / 8 - i - 1 + from) (p % 8) ≡ merge_byte a b i j from p
-  merge_second h l = rw (le-ltb p 8 h, lt-leb (p / 8) i l)
+-- what a merge answers
+abbrev pub merged : MergeScheme → List ℕ → Option Merged
+merged s row = Some (record { scheme = s; row = row })
 
 -- what a merge of rows says of the forms
 no_head : (s : ℕ) → selects s 0 ≡ false
@@ -154,88 +124,80 @@ module _ (x y : List ℕ) (a b : Form) (small-a : Small a) (small_b : Small b) (
   meets : (s f : ℕ) (α β : List ℕ) → a.head ≡ s ∷ α → b.head ≡ f ∷ β → selects (get_or x 0 0) (get_or y 0 0) ≡ selects s f
   meets s f α β e g = ap₂ selects (first_a ∙ ap (λ (l : List ℕ). get_or l 0 0) e) (first_b ∙ ap (λ (l : List ℕ). get_or l 0 0) g)
 
-  none_says : (after : List ℕ) → selects (get_or x 0 0) (get_or y 0 0) ≡ false → MergeIs a b (merge_scheme a b) 0 after
-  none_says after w = go a.head refl b.head refl
+  none_says : selects (get_or x 0 0) (get_or y 0 0) ≡ false → MergeIs a b (merge_scheme a b) None
+  none_says w = go a.head refl b.head refl
     where
-      go : (h : List ℕ) → a.head ≡ h → (k : List ℕ) → b.head ≡ k → MergeIs a b (merge_if a b h k) 0 after
+      go : (h : List ℕ) → a.head ≡ h → (k : List ℕ) → b.head ≡ k → MergeIs a b (merge_if a b h k) None
       go [] e k g = refl
       go (s ∷ α) e [] g = refl
       go (s ∷ α) e (f ∷ β) g = rw (sym (meets s f α β e g) ∙ w)
 
-  filled_of : (from m n : ℕ) (after : List ℕ) → from ≤ 1 → m ≡ get_or x 7 0 → n ≡ get_or y 7 0 → FilledBy (merge_byte x y m n from) after → after ≡ row_of (joined a b from)
-  filled_of from m n after o em en f =
+  filled_of : (from : ℕ) (after : List ℕ) → from ≤ 1 → FilledBy (merge_byte x y (get_or x 7 0) (get_or y 7 0) from) after → after ≡ row_of (joined a b from)
+  filled_of from after o f =
       merge_row a b small-a small_b few from o after
-      (f.0, λ p l. f.1 p l ∙ ap₂ (λ (u v : List ℕ). merge_byte u v m n from p) ra rb ∙ ap₂ (λ (u v : ℕ). merge_byte (row_of a) (row_of b) u v from p) im jn)
-    where
-      im : m ≡ length a.moving
-      im = em ∙ ap (λ (l : List ℕ). get_or l 7 0) ra ∙ count_at a
+      (f.0, λ p l. f.1 p l ∙ ap₂ (λ (u v : List ℕ). merge_byte u v (get_or u 7 0) (get_or v 7 0) from p) ra rb ∙ ap₂ (λ (u v : ℕ). merge_byte (row_of a) (row_of b) u v from p) (count_at a) (count_at b))
 
-      jn : n ≡ length b.moving
-      jn = en ∙ ap (λ (l : List ℕ). get_or l 7 0) rb ∙ count_at b
-
-  moving_says : (m n : ℕ) (after : List ℕ) → selects (get_or x 0 0) (get_or y 0 0) ≡ true → (get_or y 1 0 ≡ 0 → ⊥) → m ≡ get_or x 7 0 → n ≡ get_or y 7 0
-      → FilledBy (merge_byte x y m n 0) after → MergeIs a b (merge_scheme a b) 3 after
-  moving_says m n after w d em en f = go a.head refl b.head refl
+  moving_says : (after : List ℕ) → selects (get_or x 0 0) (get_or y 0 0) ≡ true → (get_or y 1 0 ≡ 0 → ⊥)
+      → FilledBy (merge_byte x y (get_or x 7 0) (get_or y 7 0) 0) after → MergeIs a b (merge_scheme a b) (merged Third after)
+  moving_says after w d f = go a.head refl b.head refl
     where
       row_is : after ≡ row_of (joined a b 0)
-      row_is = filled_of 0 m n after (omega arith) em en f
+      row_is = filled_of 0 after (omega arith) f
 
-      go : (h : List ℕ) → a.head ≡ h → (k : List ℕ) → b.head ≡ k → MergeIs a b (merge_if a b h k) 3 after
+      go : (h : List ℕ) → a.head ≡ h → (k : List ℕ) → b.head ≡ k → MergeIs a b (merge_if a b h k) (merged Third after)
       go [] e k g = not_both (sym w ∙ ap (λ (s : ℕ). selects s (get_or y 0 0)) (first_a ∙ ap (λ (l : List ℕ). get_or l 0 0) e))
       go (s ∷ α) e [] g = not_both (sym w ∙ ap (selects (get_or x 0 0)) (first_b ∙ ap (λ (l : List ℕ). get_or l 0 0) g) ∙ no_head (get_or x 0 0))
       go (s ∷ α) e (f₁ ∷ []) g = absurd (d (second_b ∙ ap (λ (l : List ℕ). get_or l 1 0) g))
       go (s ∷ α) e (f₁ ∷ f₂ ∷ β) g =
           rw (sym (meets s f₁ α (f₂ ∷ β) e g) ∙ w)
-          (number a.lexical ∙ ap (λ (l : List ℕ). merge_number a.lexical (drop 1 l)) (sym g), row_is ∙ ap₂ (λ (h k : List ℕ). row_of (record { lexical = false; head = drop 1 h; moving = a.moving ++ (drop 1 k ∷ b.moving) })) e g)
+          (ap₂ merged (number a.lexical ∙ ap (λ (l : List ℕ). merge_number a.lexical (drop 1 l)) (sym g)) (row_is ∙ ap₂ (λ (h k : List ℕ). row_of (record { lexical = false; head = drop 1 h; moving = a.moving ++ (drop 1 k ∷ b.moving) })) e g))
         where
-          number : (t : Bool) → 3 ≡ merge_number t (f₂ ∷ β)
+          number : (t : Bool) → Third ≡ merge_number t (f₂ ∷ β)
           number true = refl
           number false = refl
 
-  landed_says : (r m n : ℕ) (after : List ℕ) → selects (get_or x 0 0) (get_or y 0 0) ≡ true → get_or y 1 0 ≡ 0 → m ≡ get_or x 7 0 → n ≡ get_or y 7 0
-      → FilledBy (merge_byte x y m n 1) after → r ≡ merge_number a.lexical [] → MergeIs a b (merge_scheme a b) r after
-  landed_says r m n after w d em en f num = go a.head refl b.head refl
+  landed_says : (r : MergeScheme) (after : List ℕ) → selects (get_or x 0 0) (get_or y 0 0) ≡ true → get_or y 1 0 ≡ 0
+      → FilledBy (merge_byte x y (get_or x 7 0) (get_or y 7 0) 1) after → r ≡ merge_number a.lexical [] → MergeIs a b (merge_scheme a b) (merged r after)
+  landed_says r after w d f num = go a.head refl b.head refl
     where
       row_is : after ≡ row_of (joined a b 1)
-      row_is = filled_of 1 m n after (omega arith) em en f
+      row_is = filled_of 1 after (omega arith) f
 
-      go : (h : List ℕ) → a.head ≡ h → (k : List ℕ) → b.head ≡ k → MergeIs a b (merge_if a b h k) r after
+      go : (h : List ℕ) → a.head ≡ h → (k : List ℕ) → b.head ≡ k → MergeIs a b (merge_if a b h k) (merged r after)
       go [] e k g = not_both (sym w ∙ ap (λ (s : ℕ). selects s (get_or y 0 0)) (first_a ∙ ap (λ (l : List ℕ). get_or l 0 0) e))
       go (s ∷ α) e [] g = not_both (sym w ∙ ap (selects (get_or x 0 0)) (first_b ∙ ap (λ (l : List ℕ). get_or l 0 0) g) ∙ no_head (get_or x 0 0))
       go (s ∷ α) e (f₁ ∷ []) g =
           rw (sym (meets s f₁ α [] e g) ∙ w)
-          (num ∙ ap (λ (l : List ℕ). merge_number a.lexical (drop 1 l)) (sym g), row_is ∙ ap (λ (h : List ℕ). row_of (record { lexical = false; head = drop 1 h; moving = a.moving ++ b.moving })) e)
+          (ap₂ merged (num ∙ ap (λ (l : List ℕ). merge_number a.lexical (drop 1 l)) (sym g)) (row_is ∙ ap (λ (h : List ℕ). row_of (record { lexical = false; head = drop 1 h; moving = a.moving ++ b.moving })) e))
       go (s ∷ α) e (f₁ ∷ f₂ ∷ β) g = absurd (small_b.head_set 1 (omega (arith, ap length g)) (sym second_b ∙ d))
 
-  lexical_one : get_or x 6 0 ≡ 1 → 1 ≡ merge_number a.lexical []
+  lexical_one : get_or x 6 0 ≡ 1 → First ≡ merge_number a.lexical []
   lexical_one e = go a.lexical (sym (ap (λ (l : List ℕ). get_or l 6 0) ra ∙ flag_at a) ∙ e)
     where
-      go : (t : Bool) → flag t ≡ 1 → 1 ≡ merge_number t []
+      go : (t : Bool) → flag t ≡ 1 → First ≡ merge_number t []
       go true w = refl
       go false w = let z : ⊥ = omega arith in absurd z
 
-  lexical_not : (get_or x 6 0 ≡ 1 → ⊥) → 2 ≡ merge_number a.lexical []
+  lexical_not : (get_or x 6 0 ≡ 1 → ⊥) → Second ≡ merge_number a.lexical []
   lexical_not d = go a.lexical (λ w. d (ap (λ (l : List ℕ). get_or l 6 0) ra ∙ flag_at a ∙ w))
     where
-      go : (t : Bool) → (flag t ≡ 1 → ⊥) → 2 ≡ merge_number t []
+      go : (t : Bool) → (flag t ≡ 1 → ⊥) → Second ≡ merge_number t []
       go true w = absurd (w refl)
       go false w = refl
 
 -- what the code answers
 module _ (x y : List ℕ) where
-  pub says_none : (after : List ℕ) → selects (get_or x 0 0) (get_or y 0 0) ≡ false → SaysMerge x y 0 after
-  says_none after w a b sa sb few ra rb = none_says x y a b sa sb few ra rb after w
+  pub says_none : selects (get_or x 0 0) (get_or y 0 0) ≡ false → SaysMerge x y None
+  says_none w a b sa sb few ra rb = none_says x y a b sa sb few ra rb w
 
-  pub says_moving : (m n : ℕ) (after : List ℕ) → selects (get_or x 0 0) (get_or y 0 0) ≡ true → (get_or y 1 0 ≡ 0 → ⊥) → m ≡ get_or x 7 0 → n ≡ get_or y 7 0
-      → FilledBy (merge_byte x y m n 0) after → SaysMerge x y 3 after
-  says_moving m n after w d em en f a b sa sb few ra rb = moving_says x y a b sa sb few ra rb m n after w d em en f
+  pub says_moving : (after : List ℕ) → selects (get_or x 0 0) (get_or y 0 0) ≡ true → (get_or y 1 0 ≡ 0 → ⊥)
+      → FilledBy (merge_byte x y (get_or x 7 0) (get_or y 7 0) 0) after → SaysMerge x y (merged Third after)
+  says_moving after w d f a b sa sb few ra rb = moving_says x y a b sa sb few ra rb after w d f
 
-  pub says_after_entry : (m n : ℕ) (after : List ℕ) → selects (get_or x 0 0) (get_or y 0 0) ≡ true → get_or y 1 0 ≡ 0 → m ≡ get_or x 7 0 → n ≡ get_or y 7 0
-      → FilledBy (merge_byte x y m n 1) after → get_or x 6 0 ≡ 1 → SaysMerge x y 1 after
-  says_after_entry m n after w d em en f k a b sa sb few ra rb =
-      landed_says x y a b sa sb few ra rb 1 m n after w d em en f (lexical_one x y a b sa sb few ra rb k)
+  pub says_after_entry : (after : List ℕ) → selects (get_or x 0 0) (get_or y 0 0) ≡ true → get_or y 1 0 ≡ 0
+      → FilledBy (merge_byte x y (get_or x 7 0) (get_or y 7 0) 1) after → get_or x 6 0 ≡ 1 → SaysMerge x y (merged First after)
+  says_after_entry after w d f k a b sa sb few ra rb = landed_says x y a b sa sb few ra rb First after w d f (lexical_one x y a b sa sb few ra rb k)
 
-  pub says_before : (m n : ℕ) (after : List ℕ) → selects (get_or x 0 0) (get_or y 0 0) ≡ true → get_or y 1 0 ≡ 0 → m ≡ get_or x 7 0 → n ≡ get_or y 7 0
-      → FilledBy (merge_byte x y m n 1) after → (get_or x 6 0 ≡ 1 → ⊥) → SaysMerge x y 2 after
-  says_before m n after w d em en f k a b sa sb few ra rb =
-      landed_says x y a b sa sb few ra rb 2 m n after w d em en f (lexical_not x y a b sa sb few ra rb k)
+  pub says_before : (after : List ℕ) → selects (get_or x 0 0) (get_or y 0 0) ≡ true → get_or y 1 0 ≡ 0
+      → FilledBy (merge_byte x y (get_or x 7 0) (get_or y 7 0) 1) after → (get_or x 6 0 ≡ 1 → ⊥) → SaysMerge x y (merged Second after)
+  says_before after w d f k a b sa sb few ra rb = landed_says x y a b sa sb few ra rb Second after w d f (lexical_not x y a b sa sb few ra rb k)

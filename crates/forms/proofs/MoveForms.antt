@@ -1,6 +1,6 @@
 -- What a move of a row says of the form.
 -- Assumes nothing.
-use Rattle.std.specs.Prelude.{if◌then◌else◌}
+use Rattle.std.specs.Prelude.{if◌then◌else◌, Option, Some, None}
 use mathlib.Core.Path.{◌≡◌, refl, sym, ap, ap₂, subst, ◌∙◌}
 use mathlib.Core.Bool.{Bool, true, false}
 use mathlib.Core.List.{List, [], ◌∷◌, map}
@@ -15,9 +15,14 @@ use Rattle.model.specs.Base.{occurrences}
 use Rattle.model.proofs.Tests.{not_both}
 use Rattle.minimalist.specs.Lexicon.{is_licensor}
 use Rattle.minimalist.specs.Schemes.{Form, how_many_begin, left_over, moving_after, move_if, move_scheme}
+use Rattle.model.specs.Base.{numbers_from}
+use Rattle.model.proofs.Lists.{length_numbers}
+use Rattle.forms.specs.declared.moves.MoveScheme.{MoveScheme}
+use Rattle.forms.specs.declared.moves.MoveScheme.TheVariants.{Fourth, Fifth}
+use Rattle.forms.specs.declared.moves.Moved.{Moved}
 use Rattle.forms.specs.Rows.{head_byte, row_byte, row_of, NonZero, Small, rest_byte, FilledBy, firsts_in, place_in, land_byte, stay_byte, move_byte, move_code, MoveIs, SaysMove}
 use Rattle.forms.proofs.RowLaws.{row_by, row_long, cell_is, head_at, count_at, chain_at, first_at}
-use Rattle.forms.proofs.RowForms.{firsts_of, first_more, first_end}
+use Rattle.forms.proofs.RowForms.{firsts_of}
 use Rattle.forms.proofs.MoveRows.{how_many, placed, landed, landed_long, stayed, stayed_long}
 
 module _ (a : Form) (small : Small a) (m : ℕ) (set : m ≡ 0 → ⊥) where
@@ -89,10 +94,10 @@ module _ (a : Form) (small : Small a) (m : ℕ) (set : m ≡ 0 → ⊥) where
             let x : p ≡ 8 * suc (p / 8 - 1) + p % 8 = omega arith in
             rw (le-ltb p 8 (omega arith)) (l (omega arith) ∙ sym (cell_is r p (suc (p / 8 - 1)) (p % 8) x (omega arith)))
 
-    pub land_row : left_over (get_or cs t []) ≡ [] → (row : List ℕ) → FilledBy (move_byte (row_of a) (length cs) t true) row → row ≡ row_of r
+    pub land_row : left_over (get_or cs t []) ≡ [] → (row : List ℕ) → FilledBy (move_byte (row_of a) (length cs) t Fourth) row → row ≡ row_of r
     land_row e row f = row_by r row f.0 (λ p l. f.1 p l ∙ row_part (length cs - 1) p (land_byte (row_of a) t p) (sym (landed_long m set cs inside e)) (omega (arith, small.moving_few)) (λ h. land_chain e p h))
 
-    pub stay_row : left_over (get_or cs t []) ≡ drop 1 (get_or cs t []) ∷ [] → (row : List ℕ) → FilledBy (move_byte (row_of a) (length cs) t false) row → row ≡ row_of r
+    pub stay_row : left_over (get_or cs t []) ≡ drop 1 (get_or cs t []) ∷ [] → (row : List ℕ) → FilledBy (move_byte (row_of a) (length cs) t Fifth) row → row ≡ row_of r
     stay_row e row f = row_by r row f.0 (λ p l. f.1 p l ∙ row_part (length cs) p (stay_byte (row_of a) t p) (sym (stayed_long m set cs (drop 1 (get_or cs t [])) inside e)) (omega (arith, small.moving_few)) (λ h. stay_chain e p h))
 
 -- by the code's tests
@@ -106,24 +111,28 @@ chain_stays [] d = absurd (d refl)
 chain_stays (m ∷ []) d = absurd (d refl)
 chain_stays (m ∷ f ∷ β) d = refl
 
-code_ends : (t : ℕ) (c : List ℕ) → left_over c ≡ [] → t < 7 → (33 + t) % 256 ≡ move_code t c
-code_ends t [] e h = omega arith
-code_ends t (m ∷ []) e h = omega arith
-code_ends t (m ∷ f ∷ β) e h = let z : ◌≡◌ {A = ℕ} 1 0 = ap length e in absurd (omega arith)
+-- what a move answers
+abbrev pub moved : MoveScheme → ℕ → List ℕ → Option Moved
+moved s t row = Some (record { scheme = s; chain = t + 1; row = row })
 
-code_stays : (t : ℕ) (c : List ℕ) → (get_or c 1 0 ≡ 0 → ⊥) → t < 7 → (41 + t) % 256 ≡ move_code t c
-code_stays t [] d h = absurd (d refl)
-code_stays t (m ∷ []) d h = absurd (d refl)
-code_stays t (m ∷ f ∷ β) d h = omega arith
+code_ends : (t : ℕ) (c row : List ℕ) → left_over c ≡ [] → moved Fourth t row ≡ Some (move_code t c row)
+code_ends t [] row e = refl
+code_ends t (m ∷ []) row e = refl
+code_ends t (m ∷ f ∷ β) row e = let z : ◌≡◌ {A = ℕ} 1 0 = ap length e in absurd (omega arith)
+
+code_stays : (t : ℕ) (c row : List ℕ) → (get_or c 1 0 ≡ 0 → ⊥) → moved Fifth t row ≡ Some (move_code t c row)
+code_stays t [] row d = absurd (d refl)
+code_stays t (m ∷ []) row d = absurd (d refl)
+code_stays t (m ∷ f ∷ β) row d = refl
 
 module _ (x : List ℕ) (a : Form) (small : Small a) (ra : x ≡ row_of a) where
   first_a : get_or x 0 0 ≡ get_or a.head 0 0
   first_a = first_at x a ra
 
-  none_says : (after : List ℕ) → is_licensor (get_or x 0 0) ≡ false → MoveIs a (move_scheme a) 0 after
-  none_says after w = go a.head refl
+  none_says : is_licensor (get_or x 0 0) ≡ false → MoveIs a (move_scheme a) None
+  none_says w = go a.head refl
     where
-      go : (h : List ℕ) → a.head ≡ h → MoveIs a (move_if a h) 0 after
+      go : (h : List ℕ) → a.head ≡ h → MoveIs a (move_if a h) None
       go [] e = refl
       go (p ∷ α) e = rw (sym (ap is_licensor (first_a ∙ ap (λ (l : List ℕ). get_or l 0 0) e)) ∙ w)
 
@@ -146,10 +155,10 @@ module _ (x : List ℕ) (a : Form) (small : Small a) (ra : x ≡ row_of a) where
     many_is : how_many_begin m a.moving ≡ occurrences m (firsts_in x 0 n)
     many_is = how_many m set a.moving ∙ ap (occurrences m) (sym firsts_are)
 
-    not_one_says : (after : List ℕ) → (occurrences m (firsts_in x 0 n) ≡ 1 → ⊥) → MoveIs a (move_scheme a) 0 after
-    not_one_says after d = go a.head refl
+    not_one_says : (occurrences m (firsts_in x 0 n) ≡ 1 → ⊥) → MoveIs a (move_scheme a) None
+    not_one_says d = go a.head refl
       where
-        go : (h : List ℕ) → a.head ≡ h → MoveIs a (move_if a h) 0 after
+        go : (h : List ℕ) → a.head ≡ h → MoveIs a (move_if a h) None
         go [] e = refl
         go (p ∷ α) e =
             let q : f ≡ p = f_is ∙ ap (λ (l : List ℕ). get_or l 0 0) e in
@@ -166,99 +175,53 @@ module _ (x : List ℕ) (a : Form) (small : Small a) (ra : x ≡ row_of a) where
       second_is : get_or x (8 * (t + 1) + 1) 0 ≡ get_or (get_or a.moving t []) 1 0
       second_is = ap (λ (l : List ℕ). get_or l (8 * (t + 1) + 1) 0) ra ∙ chain_at a (8 * (t + 1) + 1) t 1 refl (omega arith) (omega (arith, t_is, within, small.moving_few))
 
-      filled_of : (b : Bool) (after : List ℕ) → FilledBy (move_byte x n t b) after → FilledBy (move_byte (row_of a) (length a.moving) (place_in m (map (λ c. get_or c 0 0) a.moving)) b) after
+      filled_of : (b : MoveScheme) (after : List ℕ) → FilledBy (move_byte x n t b) after → FilledBy (move_byte (row_of a) (length a.moving) (place_in m (map (λ c. get_or c 0 0) a.moving)) b) after
       filled_of b after g = (g.0, λ p l. g.1 p l ∙ ap (λ (r : List ℕ). move_byte r n t b p) ra ∙ ap₂ (λ (u v : ℕ). move_byte (row_of a) u v b p) n_is t_is)
 
-      -- the instance there is, with this code and row
-      some_says : (r : ℕ) (after : List ℕ) → r ≡ move_code (place_in m (map (λ c. get_or c 0 0) a.moving)) (get_or a.moving (place_in m (map (λ c. get_or c 0 0) a.moving)) [])
-          → after ≡ row_of (record { lexical = false; head = drop 1 a.head; moving = moving_after m a.moving }) → MoveIs a (move_scheme a) r after
+      -- the instance there is, with this scheme, chain and row
+      some_says : (r : Option Moved) (after : List ℕ) → r ≡ Some (move_code (place_in m (map (λ c. get_or c 0 0) a.moving)) (get_or a.moving (place_in m (map (λ c. get_or c 0 0) a.moving)) []) after)
+          → after ≡ row_of (record { lexical = false; head = drop 1 a.head; moving = moving_after m a.moving }) → MoveIs a (move_scheme a) r
       some_says r after er ea = go a.head refl
         where
-          go : (h : List ℕ) → a.head ≡ h → MoveIs a (move_if a h) r after
+          go : (h : List ℕ) → a.head ≡ h → MoveIs a (move_if a h) r
           go [] e = let q : f ≡ 0 = f_is ∙ ap (λ (l : List ℕ). get_or l 0 0) e in not_both (sym lic ∙ ap is_licensor q)
           go (p ∷ α) e =
               let q : f ≡ p = f_is ∙ ap (λ (l : List ℕ). get_or l 0 0) e in
-              rw (sym (ap is_licensor q) ∙ lic, eq-eqb (how_many_begin (p + 16) a.moving) 1 (ap (λ (s : ℕ). how_many_begin (s + 16) a.moving) (sym q) ∙ many_is ∙ one)) (
-                er ∙ ap (λ (s : ℕ). move_code (place_in (s + 16) (map (λ c. get_or c 0 0) a.moving)) (get_or a.moving (place_in (s + 16) (map (λ c. get_or c 0 0) a.moving)) [])) f_is,
-                ea ∙ ap₂ (λ (h : List ℕ) (s : ℕ). row_of (record { lexical = false; head = drop 1 h; moving = moving_after (s + 16) a.moving })) e q,
-              )
+              rw (sym (ap is_licensor q) ∙ lic, eq-eqb (how_many_begin (p + 16) a.moving) 1 (ap (λ (s : ℕ). how_many_begin (s + 16) a.moving) (sym q) ∙ many_is ∙ one))
+              (er
+              ∙ ap₂ (λ (s : ℕ) (row : List ℕ). Some (move_code (place_in (s + 16) (map (λ c. get_or c 0 0) a.moving)) (get_or a.moving (place_in (s + 16) (map (λ c. get_or c 0 0) a.moving)) []) row)) f_is
+              (ea ∙ ap₂ (λ (h : List ℕ) (s : ℕ). row_of (record { lexical = false; head = drop 1 h; moving = moving_after (s + 16) a.moving })) e q))
 
-      ends_says : (after : List ℕ) → get_or x (8 * (t + 1) + 1) 0 ≡ 0 → FilledBy (move_byte x n t true) after → MoveIs a (move_scheme a) ((33 + t) % 256) after
+      ends_says : (after : List ℕ) → get_or x (8 * (t + 1) + 1) 0 ≡ 0 → FilledBy (move_byte x n t Fourth) after → MoveIs a (move_scheme a) (moved Fourth t after)
       ends_says after e g =
           let left = chain_ends (get_or a.moving t []) (small.chain_set t) (sym second_is ∙ e) in
-          some_says ((33 + t) % 256) after
-          (code_ends t (get_or a.moving t []) left (omega (arith, t_is, within, small.moving_few)) ∙ ap (λ (s : ℕ). move_code s (get_or a.moving s [])) t_is)
-          (land_row a small m set within (ap (λ (s : ℕ). left_over (get_or a.moving s [])) (sym t_is) ∙ left) after (filled_of true after g))
+          some_says (moved Fourth t after) after
+          (code_ends t (get_or a.moving t []) after left ∙ ap (λ (s : ℕ). Some (move_code s (get_or a.moving s []) after)) t_is)
+          (land_row a small m set within (ap (λ (s : ℕ). left_over (get_or a.moving s [])) (sym t_is) ∙ left) after (filled_of Fourth after g))
 
-      stays_says : (after : List ℕ) → (get_or x (8 * (t + 1) + 1) 0 ≡ 0 → ⊥) → FilledBy (move_byte x n t false) after → MoveIs a (move_scheme a) ((41 + t) % 256) after
+      stays_says : (after : List ℕ) → (get_or x (8 * (t + 1) + 1) 0 ≡ 0 → ⊥) → FilledBy (move_byte x n t Fifth) after → MoveIs a (move_scheme a) (moved Fifth t after)
       stays_says after d g =
           let other : get_or (get_or a.moving t []) 1 0 ≡ 0 → ⊥ = λ z. d (second_is ∙ z) in
-          some_says ((41 + t) % 256) after
-          (code_stays t (get_or a.moving t []) other (omega (arith, t_is, within, small.moving_few)) ∙ ap (λ (s : ℕ). move_code s (get_or a.moving s [])) t_is)
-          (stay_row a small m set within (subst (λ (s : ℕ). left_over (get_or a.moving s []) ≡ drop 1 (get_or a.moving s []) ∷ []) t_is (chain_stays (get_or a.moving t []) other)) after (filled_of false after g))
+          some_says (moved Fifth t after) after
+          (code_stays t (get_or a.moving t []) after other ∙ ap (λ (s : ℕ). Some (move_code s (get_or a.moving s []) after)) t_is)
+          (stay_row a small m set within (subst (λ (s : ℕ). left_over (get_or a.moving s []) ≡ drop 1 (get_or a.moving s []) ∷ []) t_is (chain_stays (get_or a.moving t []) other)) after (filled_of Fifth after g))
 
 module _ (x : List ℕ) where
-  pub says_no_licensor : (after : List ℕ) → is_licensor (get_or x 0 0) ≡ false → SaysMove x 0 after
-  says_no_licensor after w a s ra = none_says x a s ra after w
+  pub says_no_licensor : is_licensor (get_or x 0 0) ≡ false → SaysMove x None
+  says_no_licensor w a s ra = none_says x a s ra w
 
-  module _ (f n : ℕ) (ef : f ≡ get_or x 0 0) (en : n ≡ get_or x 7 0) (lic : is_licensor f ≡ true) (after : List ℕ) where
-    pub says_not_one : (occurrences (f + 16) (firsts_in x 0 n) ≡ 1 → ⊥) → SaysMove x 0 after
-    says_not_one d a s ra = not_one_says x a s ra f n ef en lic after d
+  module _ (f n : ℕ) (ef : f ≡ get_or x 0 0) (en : n ≡ get_or x 7 0) (lic : is_licensor f ≡ true) where
+    pub says_not_one : (occurrences (f + 16) (firsts_in x 0 n) ≡ 1 → ⊥) → SaysMove x None
+    says_not_one d a s ra = not_one_says x a s ra f n ef en lic d
 
-    module _ (one : occurrences (f + 16) (firsts_in x 0 n) ≡ 1) (t : ℕ) (et : t ≡ place_in (f + 16) (firsts_in x 0 n)) where
-      pub says_ends : get_or x (8 * (t + 1) + 1) 0 ≡ 0 → FilledBy (move_byte x n t true) after → SaysMove x ((33 + t) % 256) after
-      says_ends e g a s ra = ends_says x a s ra f n ef en lic one t et after e g
+    module _ (one : occurrences (f + 16) (firsts_in x 0 n) ≡ 1) where
+      -- there is such a chain
+      pub some_begins : place_in (f + 16) (firsts_in x 0 n) < n
+      some_begins = omega (arith, placed (f + 16) (λ z. omega arith) (firsts_in x 0 n) one, length-map (numbers_from 0 n) (λ j. get_or x (8 * (j + 1)) 0), length_numbers 0 n)
 
-      pub says_stays : (get_or x (8 * (t + 1) + 1) 0 ≡ 0 → ⊥) → FilledBy (move_byte x n t false) after → SaysMove x ((41 + t) % 256) after
-      says_stays d g a s ra = stays_says x a s ra f n ef en lic one t et after d g
+      module _ (t : ℕ) (et : t ≡ place_in (f + 16) (firsts_in x 0 n)) (after : List ℕ) where
+        pub says_ends : get_or x (8 * (t + 1) + 1) 0 ≡ 0 → FilledBy (move_byte x n t Fourth) after → SaysMove x (moved Fourth t after)
+        says_ends e g a s ra = ends_says x a s ra f n ef en lic one t et after e g
 
-module _ (m : ℕ) (row : List ℕ) (k n : ℕ) where
-  pub many_here : k < n → m ≡ get_or row (8 * (k + 1)) 0 → occurrences m (firsts_in row k (n - k)) ≡ 1 + occurrences m (firsts_in row (k + 1) (n - (k + 1)))
-  many_here h e = rw (first_more row k n h) (rw (eq-eqb m (get_or row (8 * (k + 1)) 0) e))
-
-  pub many_later : k < n → (m ≡ get_or row (8 * (k + 1)) 0 → ⊥) → occurrences m (firsts_in row k (n - k)) ≡ occurrences m (firsts_in row (k + 1) (n - (k + 1)))
-  many_later h e = rw (first_more row k n h) (rw (ne_eqb m (get_or row (8 * (k + 1)) 0) e) (omega arith))
-
-  pub many_end : n ≤ k → occurrences m (firsts_in row k (n - k)) ≡ 0
-  many_end h = rw (first_end row k n h)
-
-  pub place_here : k < n → m ≡ get_or row (8 * (k + 1)) 0 → place_in m (firsts_in row k (n - k)) ≡ 0
-  place_here h e = rw (first_more row k n h) (rw (eq-eqb m (get_or row (8 * (k + 1)) 0) e))
-
-  pub place_later : k < n → (m ≡ get_or row (8 * (k + 1)) 0 → ⊥) → place_in m (firsts_in row k (n - k)) ≡ 1 + place_in m (firsts_in row (k + 1) (n - (k + 1)))
-  place_later h e = rw (first_more row k n h) (rw (ne_eqb m (get_or row (8 * (k + 1)) 0) e) (omega arith))
-
-  pub place_end : n ≤ k → place_in m (firsts_in row k (n - k)) ≡ 0
-  place_end h = rw (first_end row k n h)
-
-module _ (a : List ℕ) (n t p : ℕ) where
-  pub land_first : p / 8 - 1 < t → get_or a p 0 ≡ land_byte a t p
-  land_first h = rw (lt-ltb (p / 8 - 1) t h)
-
-  pub land_next : t ≤ p / 8 - 1 → get_or a (p + 8) 0 ≡ land_byte a t p
-  land_next h = rw (le-ltb (p / 8 - 1) t h)
-
-  pub stay_other : (p / 8 - 1 ≡ t → ⊥) → get_or a p 0 ≡ stay_byte a t p
-  stay_other h = rw (ne_eqb (p / 8 - 1) t h)
-
-  pub stay_rest : p / 8 - 1 ≡ t → p % 8 < 5 → get_or a (p + 1) 0 ≡ stay_byte a t p
-  stay_rest h l = rw (eq-eqb (p / 8 - 1) t h, lt-ltb (p % 8) 5 l)
-
-  pub stay_none : p / 8 - 1 ≡ t → 5 ≤ p % 8 → 0 ≡ stay_byte a t p
-  stay_none h l = rw (eq-eqb (p / 8 - 1) t h, le-ltb (p % 8) 5 l)
-
-  pub move_head_ends : (e : Bool) → p < 8 → e ≡ true → rest_byte a (n - 1) p ≡ move_byte a n t e p
-  move_head_ends true h w = rw (lt-ltb p 8 h)
-  move_head_ends false h w = not_both (sym w)
-
-  pub move_head_stays : (e : Bool) → p < 8 → e ≡ false → rest_byte a n p ≡ move_byte a n t e p
-  move_head_stays false h w = rw (lt-ltb p 8 h)
-  move_head_stays true h w = not_both w
-
-  pub move_ends : (e : Bool) → 8 ≤ p → e ≡ true → land_byte a t p ≡ move_byte a n t e p
-  move_ends true h w = rw (le-ltb p 8 h)
-  move_ends false h w = not_both (sym w)
-
-  pub move_stays : (e : Bool) → 8 ≤ p → e ≡ false → stay_byte a t p ≡ move_byte a n t e p
-  move_stays false h w = rw (le-ltb p 8 h)
-  move_stays true h w = not_both w
+        pub says_stays : (get_or x (8 * (t + 1) + 1) 0 ≡ 0 → ⊥) → FilledBy (move_byte x n t Fifth) after → SaysMove x (moved Fifth t after)
+        says_stays d g a s ra = stays_says x a s ra f n ef en lic one t et after d g

@@ -7,7 +7,6 @@ use mathlib.Core.List.{List, [], ◌∷◌, map}
 use Prim.Native.Nat.{ℕ, zero, suc, ◌+◌, ◌-◌, ◌*◌, ◌/◌, ◌%◌, ◌<◌, ◌≤◌}
 use native.Mathlib.Omega.{arith}
 use native.Mathlib.Decide.{dec_lt, ℕ_discrete}
-use native.Mathlib.Numerals.{add-one}
 use lib.Dec.{eqb}
 use lib.ListN.{length, get_or, length-map, get_or-eq_default, get_or-map}
 use lib.Seq.{ext_get_or}
@@ -19,7 +18,7 @@ use Rattle.model.proofs.Lists.{length_numbers}
 use Rattle.minimalist.specs.Lexicon.{is_licensee, before_zero, entry_of}
 use Rattle.minimalist.specs.Schemes.{Form, lexical_form, no_features, any_same_first, wrong_moving, left_out}
 use Rattle.minimalist.specs.Made.{start_form}
-use Rattle.forms.specs.Rows.{flag, row_byte, head_byte, row_of, NonZero, Small, entry_byte, start_byte, firsts_in, any_same, wrong_firsts}
+use Rattle.forms.specs.Rows.{flag, row_byte, head_byte, row_of, NonZero, Small, entry_byte, start_byte, firsts_in, any_same, wrong_firsts, FilledBy}
 use Rattle.lexicon.proofs.FeatureKinds.{bounds}
 use Rattle.lexicon.proofs.EntryWalks.{six_long}
 use Rattle.forms.proofs.RowLaws.{listed_at, row_by, cell_is, head_at, count_at, chain_at}
@@ -97,14 +96,6 @@ module _ (start : ℕ) (x : Bool) where
       go (no h) (no z) (yes s) = rw (ne_eqb p 0 z, eq-eqb p 6 s) (sym (still_flag (start_form start x) refl p s))
       go (no h) (no z) (no s) = rw (ne_eqb p 0 z, ne_eqb p 6 s) (sym (still_rest (start_form start x) refl p (omega arith)))
 
--- the first bytes, one chain further
-module _ (row : List ℕ) (k n : ℕ) where
-  pub first_more : k < n → firsts_in row k (n - k) ≡ get_or row (8 * (k + 1)) 0 ∷ firsts_in row (k + 1) (n - (k + 1))
-  first_more h = let e : n - k ≡ suc (n - (k + 1)) = omega arith in rw (e, add-one k)
-
-  pub first_end : n ≤ k → firsts_in row k (n - k) ≡ []
-  first_end h = let e : n - k ≡ 0 = omega arith in rw e
-
 abbrev first : List ℕ → ℕ
 first c = get_or c 0 0
 
@@ -161,54 +152,9 @@ module _ (a : Form) (small : Small a) where
         ∙ ap (λ (n : ℕ). wrong_firsts (firsts_in (row_of a) 0 n)) (count_at a)
         ∙ ap wrong_firsts firsts_of ∙ wrong_firsts_lem a.moving ∙ sym (rw (some_head (λ z. d (first_byte ∙ z))))
 
--- by the code's tests
-module _ (six : List ℕ) (n p : ℕ) where
-  pub entry_here : p < n → get_or six p 0 ≡ entry_byte six n p
-  entry_here h = rw (lt-ltb p n h)
-
-  pub entry_flag : n ≤ p → p ≡ 6 → 1 ≡ entry_byte six n p
-  entry_flag h e = rw (le-ltb p n h, eq-eqb p 6 e)
-
-  pub entry_none : n ≤ p → (p ≡ 6 → ⊥) → 0 ≡ entry_byte six n p
-  entry_none h e = rw (le-ltb p n h, ne_eqb p 6 e)
-
-module _ (start : ℕ) (x : Bool) (p : ℕ) where
-  pub start_here : p ≡ 0 → start ≡ start_byte start x p
-  start_here h = rw (eq-eqb p 0 h)
-
-  pub start_flag : (p ≡ 0 → ⊥) → p ≡ 6 → flag x ≡ start_byte start x p
-  start_flag h e = rw (ne_eqb p 0 h, eq-eqb p 6 e)
-
-  pub start_none : (p ≡ 0 → ⊥) → (p ≡ 6 → ⊥) → 0 ≡ start_byte start x p
-  start_none h e = rw (ne_eqb p 0 h, ne_eqb p 6 e)
-
 -- a filled row
-pub filled_row : (a : Form) (f : ℕ → ℕ) → ((p : ℕ) → f p ≡ row_byte a p) → (l : List ℕ) (p : ℕ) → length l ≡ 64 → 64 ≤ p → ((q : ℕ) → q < p → get_or l q 0 ≡ f q) → l ≡ row_of a
-filled_row a f e l p h k g = row_by a l h (λ q m. g q (omega arith) ∙ e q)
-
--- the first bytes by the code's tests
-module _ (m : ℕ) (row : List ℕ) (k n : ℕ) where
-  pub begins_here : k < n → m ≡ get_or row (8 * (k + 1)) 0 → any_same m (firsts_in row k (n - k)) ≡ true
-  begins_here h e = rw (first_more row k n h) (rw (eq-eqb m (get_or row (8 * (k + 1)) 0) e))
-
-  pub begins_not : k < n → (m ≡ get_or row (8 * (k + 1)) 0 → ⊥) → any_same m (firsts_in row k (n - k)) ≡ any_same m (firsts_in row (k + 1) (n - (k + 1)))
-  begins_not h e = rw (first_more row k n h) (rw (ne_eqb m (get_or row (8 * (k + 1)) 0) e))
-
-  pub begins_end : n ≤ k → any_same m (firsts_in row k (n - k)) ≡ false
-  begins_end h = rw (first_end row k n h)
-
-module _ (row : List ℕ) (k n m : ℕ) (e : m ≡ get_or row (8 * (k + 1)) 0) where
-  pub wrong_none : k < n → is_licensee m ≡ false → wrong_firsts (firsts_in row k (n - k)) ≡ true
-  wrong_none h t = rw (first_more row k n h) (ap (λ (x : ℕ). not (is_licensee x) || (any_same x (firsts_in row (k + 1) (n - (k + 1))) || wrong_firsts (firsts_in row (k + 1) (n - (k + 1))))) (sym e) ∙ rw t)
-
-  pub wrong_twice : k < n → is_licensee m ≡ true → any_same m (firsts_in row (k + 1) (n - (k + 1))) ≡ true → wrong_firsts (firsts_in row k (n - k)) ≡ true
-  wrong_twice h t s = rw (first_more row k n h) (ap (λ (x : ℕ). not (is_licensee x) || (any_same x (firsts_in row (k + 1) (n - (k + 1))) || wrong_firsts (firsts_in row (k + 1) (n - (k + 1))))) (sym e) ∙ rw (t, s))
-
-  pub wrong_later : k < n → is_licensee m ≡ true → any_same m (firsts_in row (k + 1) (n - (k + 1))) ≡ false → wrong_firsts (firsts_in row k (n - k)) ≡ wrong_firsts (firsts_in row (k + 1) (n - (k + 1)))
-  wrong_later h t s = rw (first_more row k n h) (ap (λ (x : ℕ). not (is_licensee x) || (any_same x (firsts_in row (k + 1) (n - (k + 1))) || wrong_firsts (firsts_in row (k + 1) (n - (k + 1))))) (sym e) ∙ rw (t, s))
-
-pub wrong_end : (row : List ℕ) (k n : ℕ) → n ≤ k → wrong_firsts (firsts_in row k (n - k)) ≡ false
-wrong_end row k n h = rw (first_end row k n h)
+pub filled_row : (a : Form) (f : ℕ → ℕ) → ((p : ℕ) → f p ≡ row_byte a p) → (l : List ℕ) → FilledBy f l → l ≡ row_of a
+filled_row a f e l g = row_by a l g.0 (λ q m. g.1 q m ∙ e q)
 
 pub entry_found : (e six : List ℕ) (n : ℕ) → six ≡ fields e 2 6 → n ≡ length (before_zero six) → (p : ℕ) → entry_byte six n p ≡ row_byte (lexical_form (entry_of e)) p
 entry_found e six n s m p = ap₂ (λ (l : List ℕ) (k : ℕ). entry_byte l k p) s (m ∙ ap (λ (l : List ℕ). length (before_zero l)) s) ∙ entry_row e p

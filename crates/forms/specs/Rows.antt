@@ -2,10 +2,17 @@
 -- many chains move. Cells 1 to 7 are the moving chains'. A byte past the features is 0.
 -- Assumes nothing.
 use Rattle.std.specs.Prelude.{◌≡◌, Bool, true, false, ◌||◌, not, List, [], ◌∷◌, map, ℕ, zero, suc, ◌+◌, ◌-◌, ◌*◌, ◌≤◌, ◌<◌, ◌/◌, ◌%◌, ltb, leb, eqb, length, get_or, drop, if◌then◌else◌}
+use Rattle.std.specs.Prelude as std
 use Rattle.std.proofs.Math.Option.{Option, none, some}
 use Rattle.model.specs.Base.{numbers_from}
 use Rattle.minimalist.specs.Lexicon.{is_licensee}
 use Rattle.minimalist.specs.Schemes.{Form, Instance, left_out, merge_scheme, move_scheme}
+use Rattle.forms.specs.declared.merges.MergeScheme.{MergeScheme}
+use Rattle.forms.specs.declared.merges.MergeScheme.TheVariants.{First, Second, Third}
+use Rattle.forms.specs.declared.merges.Merged.{Merged}
+use Rattle.forms.specs.declared.moves.MoveScheme.{MoveScheme}
+use Rattle.forms.specs.declared.moves.MoveScheme.TheVariants.{Fourth, Fifth}
+use Rattle.forms.specs.declared.moves.Moved.{Moved}
 
 abbrev pub flag : Bool → ℕ
 flag true = 1
@@ -81,20 +88,20 @@ merge_byte a b i j from p =
 abbrev pub FilledBy : (ℕ → ℕ) → List ℕ → Type 0
 FilledBy f row = (length row ≡ 64) × ((p : ℕ) → p < 64 → get_or row p 0 ≡ f p)
 
--- the number of the scheme of a merge: the first two where nothing is left of the second head
-abbrev pub merge_number : Bool → List ℕ → ℕ
-merge_number true [] = 1
-merge_number false [] = 2
-merge_number x (f ∷ β) = 3
+-- the scheme of a merge: the first two where nothing is left of the second head
+abbrev pub merge_number : Bool → List ℕ → MergeScheme
+merge_number true [] = First
+merge_number false [] = Second
+merge_number x (f ∷ β) = Third
 
--- what a merge of rows answers: 0 where there is none, else the scheme's number, with the row of its category
-abbrev pub MergeIs : Form → Form → Option Instance → ℕ → List ℕ → Type 0
-MergeIs a b none r after = r ≡ 0
-MergeIs a b (some s) r after = (r ≡ merge_number a.lexical (drop 1 b.head)) × (after ≡ row_of s.result)
+-- what a merge of rows answers: its scheme, with the row of its category, if there is one
+abbrev pub MergeIs : Form → Form → Option Instance → std.Option Merged → Type 0
+MergeIs a b none r = r ≡ std.None
+MergeIs a b (some s) r = r ≡ std.Some (record { scheme = merge_number a.lexical (drop 1 b.head); row = row_of s.result })
 
-abbrev pub SaysMerge : List ℕ → List ℕ → ℕ → List ℕ → Type 0
-SaysMerge x y r after =
-    (a b : Form) → Small a → Small b → length a.moving + length b.moving ≤ 6 → x ≡ row_of a → y ≡ row_of b → MergeIs a b (merge_scheme a b) r after
+abbrev pub SaysMerge : List ℕ → List ℕ → std.Option Merged → Type 0
+SaysMerge x y r =
+    (a b : Form) → Small a → Small b → length a.moving + length b.moving ≤ 6 → x ≡ row_of a → y ≡ row_of b → MergeIs a b (merge_scheme a b) r
 
 -- Moves. The place of m among bytes, and of the first chain that begins with m; how many there are if there is none
 abbrev pub place_in : ℕ → List ℕ → ℕ
@@ -108,23 +115,23 @@ land_byte a t p = if ltb (p / 8 - 1) t then get_or a p 0 else get_or a (p + 8) 0
 abbrev pub stay_byte : List ℕ → ℕ → ℕ → ℕ
 stay_byte a t p = if eqb (p / 8 - 1) t then (if ltb (p % 8) 5 then get_or a (p + 1) 0 else 0) else get_or a p 0
 
-abbrev pub move_byte : List ℕ → ℕ → ℕ → Bool → ℕ → ℕ
-move_byte a n t true p = if ltb p 8 then rest_byte a (n - 1) p else land_byte a t p
-move_byte a n t false p = if ltb p 8 then rest_byte a n p else stay_byte a t p
+abbrev pub move_byte : List ℕ → ℕ → ℕ → MoveScheme → ℕ → ℕ
+move_byte a n t Fourth p = if ltb p 8 then rest_byte a (n - 1) p else land_byte a t p
+move_byte a n t Fifth p = if ltb p 8 then rest_byte a n p else stay_byte a t p
 
--- 8 times the scheme's number, 4 or 5, plus the number of the chain that moves, from 1 on
-abbrev pub move_code : ℕ → List ℕ → ℕ
-move_code t [] = 33 + t
-move_code t (m ∷ []) = 33 + t
-move_code t (m ∷ f ∷ β) = 41 + t
+-- the scheme and the number, from 1 on, of the chain in place t, which moves; with the row of the category
+abbrev pub move_code : ℕ → List ℕ → List ℕ → Moved
+move_code t [] row = record { scheme = Fourth; chain = t + 1; row = row }
+move_code t (m ∷ []) row = record { scheme = Fourth; chain = t + 1; row = row }
+move_code t (m ∷ f ∷ β) row = record { scheme = Fifth; chain = t + 1; row = row }
 
 -- the place of the chain that moves
 abbrev pub mover_of : Form → ℕ
 mover_of a = place_in (get_or a.head 0 0 + 16) (map (λ c. get_or c 0 0) a.moving)
 
-abbrev pub MoveIs : Form → Option Instance → ℕ → List ℕ → Type 0
-MoveIs a none r after = r ≡ 0
-MoveIs a (some s) r after = (r ≡ move_code (mover_of a) (get_or a.moving (mover_of a) [])) × (after ≡ row_of s.result)
+abbrev pub MoveIs : Form → Option Instance → std.Option Moved → Type 0
+MoveIs a none r = r ≡ std.None
+MoveIs a (some s) r = r ≡ std.Some (move_code (mover_of a) (get_or a.moving (mover_of a) []) (row_of s.result))
 
-abbrev pub SaysMove : List ℕ → ℕ → List ℕ → Type 0
-SaysMove x r after = (a : Form) → Small a → x ≡ row_of a → MoveIs a (move_scheme a) r after
+abbrev pub SaysMove : List ℕ → std.Option Moved → Type 0
+SaysMove x r = (a : Form) → Small a → x ≡ row_of a → MoveIs a (move_scheme a) r

@@ -1,5 +1,5 @@
 // Forms as rows of 64 bytes: 8 cells of 8, the head's and those of the moving chains.
-ghost use Rattle.std.specs.Prelude.{◌≡◌, ◌-◌, ◌<◌, length, get_or};
+ghost use Rattle.std.specs.Prelude.{◌≡◌, ◌+◌, ◌-◌, ◌*◌, ◌<◌, get_or};
 ghost use Rattle.minimalist.specs.Lexicon.{entry_of};
 ghost use Rattle.minimalist.specs.Schemes.{lexical_form};
 ghost use Rattle.minimalist.specs.Made.{start_form};
@@ -7,9 +7,13 @@ ghost use Rattle.forms.specs.Rows.{row_of, SaysLeftOut, entry_byte, start_byte, 
 
 use grammar::{byte, fields};
 use lexicon::{before_zero, is_licensee};
+use std::array::from_fn;
 
 // The bytes of a row.
 pub const ROW: usize = 64;
+
+// A row.
+pub type Row = [u8; ROW];
 
 // The bytes of a cell of a row.
 pub const CELL: usize = 8;
@@ -25,61 +29,52 @@ fn entry_byte(six: &[u8], n: usize, p: usize) -> u8
     ensures { result ≡ entry_byte six.now n p }
 {
     if p < n {
-        return byte(six, p);
+        byte(six, p)
+    } else {
+        u8::from(p == LEXICAL)
     }
-    if p == LEXICAL {
-        return 1;
-    }
-    0
 }
 
-// Puts the row of an entry's lexical form, from the entry's 8 bytes.
-pub fn put_entry_row(e: &[u8], row: &mut [u8])
-    requires { length row.old ≡ 64 }
-    ensures { row.new ≡ row_of (lexical_form (entry_of e.now)) }
+// The row of an entry's lexical form, from the entry's 8 bytes.
+pub fn entry_row(e: &[u8]) -> Row
+    ensures { result ≡ row_of (lexical_form (entry_of e.now)) }
 {
     let six = fields(e, 2, 6);
     let n = before_zero(six);
-    let mut p: usize = 0;
-    while p < ROW {
-        row[p] = entry_byte(six, n, p);
-        p += 1;
-    }
+    from_fn(|p| entry_byte(six, n, p))
 }
 
 // Byte p of the row of the wanted category's form.
 fn start_byte(start: u8, lexical: bool, p: usize) -> u8
     ensures { result ≡ start_byte start lexical p }
 {
-    if p == 0 {
-        return start;
+    match p {
+        0 => start,
+        LEXICAL => u8::from(lexical),
+        _ => 0,
     }
-    if p == LEXICAL {
-        if lexical {
-            return 1;
-        }
-        return 0;
-    }
-    0
 }
 
-// Puts the row of the wanted category's form, lexical or derived.
-pub fn put_start_row(start: u8, lexical: bool, row: &mut [u8])
-    requires { length row.old ≡ 64 }
-    ensures { row.new ≡ row_of (start_form start lexical) }
+// The row of the wanted category's form, lexical or derived.
+pub fn start_row(start: u8, lexical: bool) -> Row
+    ensures { result ≡ row_of (start_form start lexical) }
 {
-    let mut p: usize = 0;
-    while p < ROW {
-        row[p] = start_byte(start, lexical, p);
-        p += 1;
-    }
+    from_fn(|p| start_byte(start, lexical, p))
 }
 
 // How many chains move.
 pub fn movers(row: &[u8]) -> usize
     ensures { (result ≡ get_or row.now 7 0) × (result < 256) }
 {
-    byte(row, MOVERS) as usize
+    usize::from(byte(row, MOVERS))
+}
+
+// The first byte of moving chain j.
+pub fn first_byte(row: &[u8], j: usize) -> u8
+    requires { j < 256 }
+    ensures { result ≡ get_or row.now (8 * (j + 1)) 0 }
+{
+    byte(row, CELL * (j + 1))
 }
 
 // Whether a moving chain from chain k on, of n, begins with the byte m.
@@ -87,14 +82,7 @@ fn begins_later(row: &[u8], k: usize, n: usize, m: u8) -> bool
     requires { n < 256 }
     ensures { result ≡ any_same m (firsts_in row.now k (n - k)) }
 {
-    let mut j = k;
-    while j < n {
-        if m == byte(row, CELL * (j + 1)) {
-            return true;
-        }
-        j += 1;
-    }
-    false
+    (k..n).any(|j| m == first_byte(row, j))
 }
 
 // Whether the n moving chains are wrong: one begins with no licensee, or two with the same.
@@ -102,26 +90,15 @@ fn wrong_moving(row: &[u8], n: usize) -> bool
     requires { n < 256 }
     ensures { result ≡ wrong_firsts (firsts_in row.now 0 n) }
 {
-    let mut k: usize = 0;
-    while k < n {
-        let m = byte(row, CELL * (k + 1));
-        if !is_licensee(m) {
-            return true;
-        }
-        if begins_later(row, k + 1, n, m) {
-            return true;
-        }
-        k += 1;
-    }
-    false
+    (0..n).any(|k| {
+        let m = first_byte(row, k);
+        !is_licensee(m) || begins_later(row, k + 1, n, m)
+    })
 }
 
 // Whether the form of the row is left out.
 pub fn left_out(row: &[u8]) -> bool
     ensures { SaysLeftOut row.now result }
 {
-    if byte(row, 0) == 0 {
-        return true;
-    }
-    wrong_moving(row, movers(row))
+    byte(row, 0) == 0 || wrong_moving(row, movers(row))
 }

@@ -5,6 +5,6 @@ mod forms;
 mod merges;
 mod moves;
 
-pub use forms::{ROW, left_out, movers, put_entry_row, put_start_row};
-pub use merges::merge_rows;
-pub use moves::{chain_in, move_row, scheme_in};
+pub use forms::{ROW, Row, entry_row, left_out, movers, start_row};
+pub use merges::{MergeScheme, Merged, merge_rows};
+pub use moves::{MoveScheme, Moved, move_row};

@@ -1,22 +1,37 @@
 // The merge of two forms, as rows: the first three schemes.
-ghost use Rattle.std.specs.Prelude.{◌≡◌, ◌<◌, ◌≤◌, length};
+ghost use Rattle.std.specs.Prelude.{◌≡◌, ◌<◌, ◌≤◌, get_or};
 ghost use Rattle.forms.specs.Rows.{rest_byte, going_byte, late_byte, merge_byte, FilledBy, SaysMerge};
 
-use crate::forms::{CELL, LEXICAL, MOVERS, ROW, movers};
+use crate::forms::{CELL, LEXICAL, MOVERS, Row, movers};
 use grammar::byte;
 use lexicon::selects;
+use std::array::from_fn;
+
+// The schemes of a merge: the strings of the two heads are joined where the second has no feature left, after an entry or before another form; else its
+// chain moves.
+#[derive(Clone, Copy, PartialEq, Eq)]
+pub enum MergeScheme {
+    First,
+    Second,
+    Third,
+}
+
+// A merge: its scheme, and the row of the category.
+#[derive(Clone, Copy)]
+pub struct Merged {
+    pub scheme: MergeScheme,
+    pub row: Row,
+}
 
 // Byte p of a head's cell without its first feature, where n chains move.
 pub fn rest_byte(a: &[u8], n: usize, p: usize) -> u8
     ensures { result ≡ rest_byte a.now n p }
 {
-    if p < 5 {
-        return byte(a, p + 1);
+    match p {
+        0..=4 => byte(a, p + 1),
+        MOVERS => (n % 256) as u8,
+        _ => 0,
     }
-    if p == MOVERS {
-        return (n % 256) as u8;
-    }
-    0
 }
 
 // Byte x of cell k as it goes on; cell 0 is what is left of the head.
@@ -27,10 +42,7 @@ fn going_byte(b: &[u8], k: usize, x: usize) -> u8
     if 0 < k {
         return byte(b, CELL * k + x);
     }
-    if x < 5 {
-        return byte(b, x + 1);
-    }
-    0
+    if x < 5 { byte(b, x + 1) } else { 0 }
 }
 
 // The same up to cell j, and 0 after it.
@@ -38,10 +50,7 @@ fn late_byte(b: &[u8], j: usize, k: usize, x: usize) -> u8
     requires { (k < 512) × (x < 8) }
     ensures { result ≡ late_byte b.now j k x }
 {
-    if k <= j {
-        return going_byte(b, k, x);
-    }
-    0
+    if k <= j { going_byte(b, k, x) } else { 0 }
 }
 
 // Byte p of the row of a merge, where i and j chains move and those of b go on from cell `from` on.
@@ -58,33 +67,36 @@ fn merge_byte(a: &[u8], b: &[u8], i: usize, j: usize, from: usize, p: usize) -> 
     late_byte(b, j, p / CELL - i - 1 + from, p % CELL)
 }
 
-// Puts the row of a merge.
-fn put_merge(a: &[u8], b: &[u8], i: usize, j: usize, from: usize, row: &mut [u8])
-    requires { (i < 256) × (j < 256) × (from ≤ 1) × (length row.old ≡ 64) }
-    ensures { FilledBy (merge_byte a.now b.now i j from) row.new }
+// The row of a merge.
+fn merge_row(a: &[u8], b: &[u8], from: usize) -> Row
+    requires { from ≤ 1 }
+    ensures { FilledBy (merge_byte a.now b.now (get_or a.now 7 0) (get_or b.now 7 0) from) result }
 {
-    let mut p: usize = 0;
-    while p < ROW {
-        row[p] = merge_byte(a, b, i, j, from, p);
-        p += 1;
-    }
+    let i = movers(a);
+    let j = movers(b);
+    from_fn(|p| merge_byte(a, b, i, j, from, p))
 }
 
-// Merges two forms: the scheme's number, 1 to 3, with the row of the category; 0 where there is none.
-pub fn merge_rows(a: &[u8], b: &[u8], row: &mut [u8]) -> u8
-    requires { length row.old ≡ 64 }
-    ensures { SaysMerge a.now b.now result row.new }
+// Merges two forms, if a scheme does.
+pub fn merge_rows(a: &[u8], b: &[u8]) -> Option<Merged>
+    ensures { SaysMerge a.now b.now result }
 {
     if !selects(byte(a, 0), byte(b, 0)) {
-        return 0;
+        return None;
     }
     if byte(b, 1) != 0 {
-        put_merge(a, b, movers(a), movers(b), 0, row);
-        return 3;
+        return Some(Merged {
+            scheme: MergeScheme::Third,
+            row: merge_row(a, b, 0),
+        });
     }
-    put_merge(a, b, movers(a), movers(b), 1, row);
-    if byte(a, LEXICAL) == 1 {
-        return 1;
-    }
-    2
+    let scheme = if byte(a, LEXICAL) == 1 {
+        MergeScheme::First
+    } else {
+        MergeScheme::Second
+    };
+    Some(Merged {
+        scheme,
+        row: merge_row(a, b, 1),
+    })
 }

@@ -1,6 +1,6 @@
 -- The bytes put are those of the rule's record, and records one after another.
 -- Assumes nothing.
-use Rattle.std.specs.Prelude.{if◌then◌else◌}
+use Rattle.std.specs.Prelude.{if◌then◌else◌, Option, Some, None}
 use mathlib.Core.Path.{◌≡◌, refl, sym, ap, ◌∙◌}
 use mathlib.Core.Bool.{Bool, true, false}
 use mathlib.Core.List.{List, [], ◌∷◌, ◌++◌, append-nil}
@@ -19,9 +19,14 @@ use Rattle.grammar_to_file.specs.FileFor.{record_for}
 use Rattle.grammar_to_file.proofs.FileHolds.{records_long}
 use Rattle.minimalist.specs.Schemes.{singles, joined_variables}
 use Rattle.made_records.specs.declared.Shape.{Shape}
+use Rattle.made_records.specs.declared.Records.{Records}
+use Rattle.forms.specs.declared.merges.MergeScheme.{MergeScheme}
+use Rattle.forms.specs.declared.merges.MergeScheme.TheVariants.{First, Second, Third}
+use Rattle.forms.specs.declared.moves.MoveScheme.{MoveScheme}
+use Rattle.forms.specs.declared.moves.MoveScheme.TheVariants.{Fourth, Fifth}
 use Rattle.made_records.specs.declared.MadeRule.{MadeRule}
 use Rattle.made_records.specs.declared.MadeRule.TheVariants.{Start, Entry, Merge, Move}
-use Rattle.made_records.specs.Records.{as_rule, Fits, single, pair, front_of, shape_of, record_byte, Put, Held, AddsRule}
+use Rattle.made_records.specs.Records.{as_rule, Fits, merge_components, move_components, merge_shape, move_shape, front_of, shape_of, record_byte, Put, told, Held, AddsRule}
 
 -- the 24 bytes, and that they are those of the rule's record
 abbrev bytes_of : List ℕ → Shape → List ℕ
@@ -36,64 +41,54 @@ few P a b c d (suc (suc (suc zero))) h = d
 few P a b c d (suc (suc (suc (suc n)))) h = let z : ⊥ = omega arith in absurd z
 
 module _ (c x y : ℕ) where
-  -- a merge by the third scheme, else by the first or the second
-  abbrev MergeRight : Bool → Bool → ℕ → ℕ → Type 0
-  MergeRight third first i j =
-      bytes_of (c ∷ 2 ∷ x ∷ y ∷ 0 ∷ 0 ∷ 0 ∷ []) (if third then single i 3 (j + 1) else (if first then pair 0 4 i 4 j else pair 4 0 i 4 j))
-      ≡ record_for
-      (nonlexical c (x ∷ y ∷ [])
-      (if third then (variable 0 0 ∷ []) ∷ (singles 0 1 i ++ singles 1 0 (suc j)) else joined_variables first ∷ (singles 0 1 i ++ singles 1 1 j)))
+  abbrev MergeRight : MergeScheme → ℕ → ℕ → Type 0
+  MergeRight s i j = bytes_of (c ∷ 2 ∷ x ∷ y ∷ 0 ∷ 0 ∷ 0 ∷ []) (merge_shape s i j) ≡ record_for (nonlexical c (x ∷ y ∷ []) (merge_components s i j))
 
   all_few : (P : ℕ → ℕ → Type 0) → ((j : ℕ) → j ≤ 3 → P 0 j) → ((j : ℕ) → j ≤ 3 → P 1 j) → ((j : ℕ) → j ≤ 3 → P 2 j) → ((j : ℕ) → j ≤ 3 → P 3 j) → (i j : ℕ) → i ≤ 3 → j ≤ 3 → P i j
   all_few P p q r s i j h k = few (λ i. (j : ℕ) → j ≤ 3 → P i j) p q r s i h j k
 
-  merge_right : (third first : Bool) (i j : ℕ) → i ≤ 3 → j ≤ 3 → MergeRight third first i j
-  merge_right true first =
-      all_few (MergeRight true first)
-      (few (MergeRight true first 0) refl refl refl refl)
-      (few (MergeRight true first 1) refl refl refl refl)
-      (few (MergeRight true first 2) refl refl refl refl)
-      (few (MergeRight true first 3) refl refl refl refl)
-  merge_right false true =
-      all_few (MergeRight false true)
-      (few (MergeRight false true 0) refl refl refl refl)
-      (few (MergeRight false true 1) refl refl refl refl)
-      (few (MergeRight false true 2) refl refl refl refl)
-      (few (MergeRight false true 3) refl refl refl refl)
-  merge_right false false =
-      all_few (MergeRight false false)
-      (few (MergeRight false false 0) refl refl refl refl)
-      (few (MergeRight false false 1) refl refl refl refl)
-      (few (MergeRight false false 2) refl refl refl refl)
-      (few (MergeRight false false 3) refl refl refl refl)
+  merge_right : (s : MergeScheme) (i j : ℕ) → i ≤ 3 → j ≤ 3 → MergeRight s i j
+  merge_right First =
+      all_few (MergeRight First)
+      (few (MergeRight First 0) refl refl refl refl)
+      (few (MergeRight First 1) refl refl refl refl)
+      (few (MergeRight First 2) refl refl refl refl)
+      (few (MergeRight First 3) refl refl refl refl)
+  merge_right Second =
+      all_few (MergeRight Second)
+      (few (MergeRight Second 0) refl refl refl refl)
+      (few (MergeRight Second 1) refl refl refl refl)
+      (few (MergeRight Second 2) refl refl refl refl)
+      (few (MergeRight Second 3) refl refl refl refl)
+  merge_right Third =
+      all_few (MergeRight Third)
+      (few (MergeRight Third 0) refl refl refl refl)
+      (few (MergeRight Third 1) refl refl refl refl)
+      (few (MergeRight Third 2) refl refl refl refl)
+      (few (MergeRight Third 3) refl refl refl refl)
 
-  -- a move by the fourth scheme, else by the fifth
-  abbrev MoveRight : Bool → ℕ → ℕ → Type 0
-  MoveRight fourth n t =
-      bytes_of (c ∷ 1 ∷ x ∷ 0 ∷ 0 ∷ 0 ∷ 0 ∷ []) (if fourth then pair t 0 (t - 1) t (n - t) else single n 0 0)
-      ≡ record_for
-      (nonlexical c (x ∷ [])
-      (if fourth then (variable 0 t ∷ variable 0 0 ∷ []) ∷ (singles 0 1 (t - 1) ++ singles 0 (suc t) (n - t)) else (variable 0 0 ∷ []) ∷ singles 0 1 n))
+  abbrev MoveRight : MoveScheme → ℕ → ℕ → Type 0
+  MoveRight s n t = bytes_of (c ∷ 1 ∷ x ∷ 0 ∷ 0 ∷ 0 ∷ 0 ∷ []) (move_shape s n t) ≡ record_for (nonlexical c (x ∷ []) (move_components s n t))
 
-  move_right : (fourth : Bool) (n t : ℕ) → n ≤ 3 → t ≤ 3 → MoveRight fourth n t
-  move_right true =
-      all_few (MoveRight true)
-      (few (MoveRight true 0) refl refl refl refl)
-      (few (MoveRight true 1) refl refl refl refl)
-      (few (MoveRight true 2) refl refl refl refl)
-      (few (MoveRight true 3) refl refl refl refl)
-  move_right false =
-      all_few (MoveRight false)
-      (few (MoveRight false 0) refl refl refl refl)
-      (few (MoveRight false 1) refl refl refl refl)
-      (few (MoveRight false 2) refl refl refl refl)
-      (few (MoveRight false 3) refl refl refl refl)
+  move_right : (s : MoveScheme) (n t : ℕ) → n ≤ 3 → t ≤ 3 → MoveRight s n t
+  move_right Fourth =
+      all_few (MoveRight Fourth)
+      (few (MoveRight Fourth 0) refl refl refl refl)
+      (few (MoveRight Fourth 1) refl refl refl refl)
+      (few (MoveRight Fourth 2) refl refl refl refl)
+      (few (MoveRight Fourth 3) refl refl refl refl)
+  move_right Fifth =
+      all_few (MoveRight Fifth)
+      (few (MoveRight Fifth 0) refl refl refl refl)
+      (few (MoveRight Fifth 1) refl refl refl refl)
+      (few (MoveRight Fifth 2) refl refl refl refl)
+      (few (MoveRight Fifth 3) refl refl refl refl)
 
 made_record : (r : MadeRule) → Fits r → bytes_of (front_of r) (shape_of r) ≡ record_for (as_rule r)
 made_record (Start x) h = refl
 made_record (Entry c w) h = refl
-made_record (Merge c x y s i j) h = merge_right c.0 x.0 y.0 (eqb s 3) (eqb s 1) i j h.0 h.1
-made_record (Move c x s n t) h = move_right c.0 x.0 0 (eqb s 4) n t h.0 h.1
+made_record (Merge c x y s i j) h = merge_right c.0 x.0 y.0 s i j h.0 h.1
+made_record (Move c x s n t) h = move_right c.0 x.0 0 s n t h.0 h.1
 
 byte_is : (front : List ℕ) (s : Shape) (p : ℕ) → p < 24 → record_byte front s p ≡ get_or (bytes_of front s) p 0
 byte_is front s p h =
@@ -131,46 +126,65 @@ module _ (before after all new : List ℕ) (k : ℕ) (room : 24 * k + 24 ≤ len
           ∙ sym (after_front all new (24 * k) i (i - 24 * k) long (sym z))
 
 -- how many rules there are, by the count
-counted : (n k : ℕ) → k ≡ (if ltb 256 n then 257 else n) → (k < 256 → k ≡ n) × (256 ≤ k → 256 ≤ n)
-counted n k e = go (dec_lt 256 n)
+none_some : {C : Type 0} (n : ℕ) → None ≡ Some n → C
+none_some n e = let z : ⊥ = cc in absurd z
+
+told_one : (n k : ℕ) → Some k ≡ told n → k ≡ n
+told_one n k e = go (ltb 256 n) e
   where
-    go : Dec (256 < n) → (k < 256 → k ≡ n) × (256 ≤ k → 256 ≤ n)
-    go (yes h) = let z : k ≡ 257 = e ∙ rw (lt-ltb 256 n h) in (λ l. absurd (omega arith), λ l. omega arith)
-    go (no h) = let z : k ≡ n = e ∙ rw (le-ltb 256 n (omega arith)) in (λ l. z, λ l. omega arith)
+    go : (t : Bool) → Some k ≡ (if t then None else Some n) → k ≡ n
+    go true e = none_some k (sym e)
+    go false e = cc
+
+told_none : (n : ℕ) → None ≡ told n → 256 < n
+told_none n e = go (dec_lt 256 n)
+  where
+    go : Dec (256 < n) → 256 < n
+    go (yes h) = h
+    go (no h) = none_some n (e ∙ rw (le-ltb 256 n (omega arith)))
 
 -- how many rules there are, where they are at most 256
-pub count_is : {records : List ℕ} {k : ℕ} {rules : List Rule} → Held records k rules → length rules ≤ 256 → k ≡ length rules
+pub count_is : {records : Records} {rules : List Rule} → Held records rules → length rules ≤ 256 → records.count ≡ Some (length rules)
 count_is {rules = rules} held h = held.count ∙ rw (le-ltb 256 (length rules) h)
 
-module _ (rule : MadeRule) (before : List ℕ) (k : ℕ) where
+-- no rules
+pub none_held : (bytes : List ℕ) → length bytes ≡ 6144 → Held (record { bytes = bytes; count = Some 0 }) []
+none_held bytes long = record { long = long; count = refl; are = λ h. refl }
+
+module _ (rule : MadeRule) (bytes : List ℕ) where
   more : (rules : List Rule) → length (rules ++ (as_rule rule ∷ [])) ≡ length rules + 1
   more rules = length-append rules (as_rule rule ∷ [])
 
-  pub rule_over : 256 ≤ k → AddsRule rule before k 257 before
-  rule_over h fits rules held =
-      let many : 256 ≤ length rules = (counted (length rules) k held.count).1 h in
+  over : (count : Option ℕ) → ((rules : List Rule) → Held (record { bytes = bytes; count = count }) rules → 256 ≤ length rules)
+      → AddsRule rule (record { bytes = bytes; count = count }) (record { bytes = bytes; count = None })
+  over count many fits rules held =
       record {
         long = held.long;
-        count = sym (rw (lt-ltb 256 (length (rules ++ (as_rule rule ∷ []))) (omega (arith, more rules))));
-        are = λ l. absurd (omega (arith, more rules));
+        count = sym (rw (lt-ltb 256 (length (rules ++ (as_rule rule ∷ []))) (omega (arith, more rules, many rules held))));
+        are = λ l. absurd (omega (arith, more rules, many rules held));
       }
 
-  pub rule_put : (after : List ℕ) → k < 256 → Put (record_byte (front_of rule) (shape_of rule)) before k after → AddsRule rule before k (k + 1) after
-  rule_put after h put fits rules held =
+  pub rule_over : (count : Option ℕ) → ((k : ℕ) → count ≡ Some k → 256 ≤ k) → AddsRule rule (record { bytes = bytes; count = count }) (record { bytes = bytes; count = None })
+  rule_over None h = over None (λ rules held. let z : 256 < length rules = told_none (length rules) held.count in omega arith)
+  rule_over (Some k) h = over (Some k) (λ rules held. omega (arith, h k refl, told_one (length rules) k held.count))
+
+  pub rule_put : (after : List ℕ) (k : ℕ) → k < 256 → Put (record_byte (front_of rule) (shape_of rule)) bytes k after
+      → AddsRule rule (record { bytes = bytes; count = Some k }) (record { bytes = after; count = Some (k + 1) })
+  rule_put after k h put fits rules held =
       record {
         long = put.long ∙ held.long;
-        count = (let z : k + 1 ≡ length (rules ++ (as_rule rule ∷ [])) = omega (arith, more rules, n) in z) ∙ sym (rw (le-ltb 256 (length (rules ++ (as_rule rule ∷ []))) (omega (arith, more rules, n))));
+        count = ap Some (let z : k + 1 ≡ length (rules ++ (as_rule rule ∷ [])) = omega (arith, more rules, n) in z) ∙ sym (rw (le-ltb 256 (length (rules ++ (as_rule rule ∷ []))) (omega (arith, more rules, n))));
         are = λ l. ap (λ (m : ℕ). take m after) whole ∙ joined ∙ sym (each_append record_for rules (as_rule rule ∷ []));
       }
     where
       n : k ≡ length rules
-      n = (counted (length rules) k held.count).0 h
+      n = told_one (length rules) k held.count
 
       whole : 24 * length (rules ++ (as_rule rule ∷ [])) ≡ 24 * k + 24
       whole = omega (arith, more rules, n)
 
       joined : take (24 * k + 24) after ≡ each record_for rules ++ (record_for (as_rule rule) ++ [])
       joined =
-          one_more before after (each record_for rules) (record_for (as_rule rule) ++ []) k (omega (arith, put.long, held.long)) (records_long rules ∙ ap (λ (m : ℕ). 24 * m) (sym n))
-          (records_long (as_rule rule ∷ [])) (ap (λ (m : ℕ). take (24 * m) before) n ∙ held.are (omega (arith, n)))
+          one_more bytes after (each record_for rules) (record_for (as_rule rule) ++ []) k (omega (arith, put.long, held.long)) (records_long rules ∙ ap (λ (m : ℕ). 24 * m) (sym n))
+          (records_long (as_rule rule ∷ [])) (ap (λ (m : ℕ). take (24 * m) bytes) n ∙ held.are (omega (arith, n)))
           (λ p l. put.new p l ∙ byte_is (front_of rule) (shape_of rule) p l ∙ ap (λ (s : List ℕ). get_or s p 0) (made_record rule fits ∙ sym (append-nil (record_for (as_rule rule))))) put.old

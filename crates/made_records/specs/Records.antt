@@ -1,6 +1,6 @@
 -- The rules of the made grammar by their kinds, as rules and as records; and records one after another.
 -- Assumes nothing.
-use Rattle.std.specs.Prelude.{◌≡◌, List, [], ◌∷◌, ◌++◌, ℕ, suc, ◌+◌, ◌-◌, ◌*◌, ◌/◌, ◌%◌, ◌<◌, ◌≤◌, ltb, leb, eqb, length, get_or, take, if◌then◌else◌}
+use Rattle.std.specs.Prelude.{◌≡◌, Option, Some, None, true, false, List, [], ◌∷◌, ◌++◌, ℕ, suc, ◌+◌, ◌-◌, ◌*◌, ◌/◌, ◌%◌, ◌<◌, ◌≤◌, ltb, leb, eqb, length, get_or, take, if◌then◌else◌}
 use Rattle.model.specs.Base.{each}
 use Rattle.model.specs.Grammar.{Variable, Rule, variable, lexical, nonlexical}
 use Rattle.grammar_to_file.specs.FileFor.{record_for}
@@ -8,15 +8,21 @@ use Rattle.minimalist.specs.Schemes.{singles, joined_variables}
 use Rattle.made_records.specs.declared.MadeRule.{MadeRule}
 use Rattle.made_records.specs.declared.MadeRule.TheVariants.{Start, Entry, Merge, Move}
 use Rattle.made_records.specs.declared.Shape.{Shape}
+use Rattle.made_records.specs.declared.Records.{Records}
+use Rattle.forms.specs.declared.merges.MergeScheme.{MergeScheme}
+use Rattle.forms.specs.declared.merges.MergeScheme.TheVariants.{First, Second, Third}
+use Rattle.forms.specs.declared.moves.MoveScheme.{MoveScheme}
+use Rattle.forms.specs.declared.moves.MoveScheme.TheVariants.{Fourth, Fifth}
 
--- the components of a merge by scheme s of daughters with i and j moving chains, and of a move by scheme s of chain t, from 1 on, of n
-abbrev pub merge_components : ℕ → ℕ → ℕ → List (List Variable)
-merge_components s i j =
-    if eqb s 3 then (variable 0 0 ∷ []) ∷ (singles 0 1 i ++ singles 1 0 (suc j)) else joined_variables (eqb s 1) ∷ (singles 0 1 i ++ singles 1 1 j)
+-- the components of a merge of daughters with i and j moving chains, and of a move of chain t, from 1 on, of n
+abbrev pub merge_components : MergeScheme → ℕ → ℕ → List (List Variable)
+merge_components First i j = joined_variables true ∷ (singles 0 1 i ++ singles 1 1 j)
+merge_components Second i j = joined_variables false ∷ (singles 0 1 i ++ singles 1 1 j)
+merge_components Third i j = (variable 0 0 ∷ []) ∷ (singles 0 1 i ++ singles 1 0 (suc j))
 
-abbrev pub move_components : ℕ → ℕ → ℕ → List (List Variable)
-move_components s n t =
-    if eqb s 4 then (variable 0 t ∷ variable 0 0 ∷ []) ∷ (singles 0 1 (t - 1) ++ singles 0 (suc t) (n - t)) else (variable 0 0 ∷ []) ∷ singles 0 1 n
+abbrev pub move_components : MoveScheme → ℕ → ℕ → List (List Variable)
+move_components Fourth n t = (variable 0 t ∷ variable 0 0 ∷ []) ∷ (singles 0 1 (t - 1) ++ singles 0 (suc t) (n - t))
+move_components Fifth n t = (variable 0 0 ∷ []) ∷ singles 0 1 n
 
 -- the rule
 abbrev pub as_rule : MadeRule → Rule
@@ -39,11 +45,14 @@ single low before high = record { joined = 1; head = 0; next = 0; low = low; bef
 abbrev pub pair : ℕ → ℕ → ℕ → ℕ → ℕ → Shape
 pair head next low before high = record { joined = 2; head = head; next = next; low = low; before = before; high = high }
 
-abbrev pub merge_shape : ℕ → ℕ → ℕ → Shape
-merge_shape s i j = if eqb s 3 then single i 3 (j + 1) else (if eqb s 1 then pair 0 4 i 4 j else pair 4 0 i 4 j)
+abbrev pub merge_shape : MergeScheme → ℕ → ℕ → Shape
+merge_shape First i j = pair 0 4 i 4 j
+merge_shape Second i j = pair 4 0 i 4 j
+merge_shape Third i j = single i 3 (j + 1)
 
-abbrev pub move_shape : ℕ → ℕ → ℕ → Shape
-move_shape s n t = if eqb s 4 then pair t 0 (t - 1) t (n - t) else single n 0 0
+abbrev pub move_shape : MoveScheme → ℕ → ℕ → Shape
+move_shape Fourth n t = pair t 0 (t - 1) t (n - t)
+move_shape Fifth n t = single n 0 0
 
 abbrev pub shape_of : MadeRule → Shape
 shape_of (Start x) = single 0 0 0
@@ -77,15 +86,19 @@ pub record Put (f : ℕ → ℕ) (before : List ℕ) (k : ℕ) (after : List ℕ
   pub new : (p : ℕ) → p < 24 → get_or after (24 * k + p) 0 ≡ f p
   pub old : (q : ℕ) → q < 24 * k → get_or after q 0 ≡ get_or before q 0
 
--- The rules' records stand one after another, for 256 rules at most; k is how many rules there are, 257 where they are more.
-pub record Held (records : List ℕ) (k : ℕ) (rules : List Rule) : Type 0 where
-  pub long : length records ≡ 6144
-  pub count : k ≡ (if ltb 256 (length rules) then 257 else length rules)
-  pub are : length rules ≤ 256 → take (24 * length rules) records ≡ each record_for rules
+-- how many rules are told: none where there are more than 256
+abbrev pub told : ℕ → Option ℕ
+told n = if ltb 256 n then None else Some n
+
+-- The rules' records stand one after another, for 256 rules at most.
+pub record Held (records : Records) (rules : List Rule) : Type 0 where
+  pub long : length records.bytes ≡ 6144
+  pub count : records.count ≡ told (length rules)
+  pub are : length rules ≤ 256 → take (24 * length rules) records.bytes ≡ each record_for rules
 
 -- what adding rules does: whatever rules there were, these come after them
-abbrev pub Adds : List Rule → List ℕ → ℕ → ℕ → List ℕ → Type 0
-Adds new before k r after = (rules : List Rule) → Held before k rules → Held after r (rules ++ new)
+abbrev pub Adds : List Rule → Records → Records → Type 0
+Adds new before after = (rules : List Rule) → Held before rules → Held after (rules ++ new)
 
-abbrev pub AddsRule : MadeRule → List ℕ → ℕ → ℕ → List ℕ → Type 0
-AddsRule rule before k r after = Fits rule → Adds (as_rule rule ∷ []) before k r after
+abbrev pub AddsRule : MadeRule → Records → Records → Type 0
+AddsRule rule before after = Fits rule → Adds (as_rule rule ∷ []) before after

@@ -1,20 +1,28 @@
 // The records of the rules of the grammar made from a lexicon (document 02, paper 6): 24 bytes each, one after another.
 #![tactic(auto)]
 
-ghost use Rattle.std.specs.Prelude.{◌≡◌, ◌+◌, ◌*◌, ◌<◌, ◌≤◌, length};
-ghost use Rattle.made_records.specs.Records.{single, pair, merge_shape, move_shape, front_of, shape_of, run_code, code_at, size_at, record_byte, Put, AddsRule};
+ghost use Rattle.std.specs.Prelude.{◌≡◌, ◌+◌, ◌*◌, ◌<◌, ◌≤◌, [], length};
+ghost use Rattle.made_records.specs.Records.{single, pair, merge_shape, move_shape, front_of, shape_of, run_code, code_at, size_at, record_byte, Put, Held, AddsRule};
 
+use forms::{MergeScheme, MoveScheme};
 use grammar::{byte, less};
 use model::{Category, Word};
 
-// The most rules; one more stands for too many.
-pub const RULES: usize = 256;
+// The most rules.
+const RULES: usize = 256;
 
 // The bytes of a record.
 pub const RECORD: usize = 24;
 
 // The bytes of the most records.
-pub const RECORDS: usize = 6144;
+const RECORDS: usize = 6144;
+
+// The records of rules, one after another, and how many rules there are; none is said where they are too many.
+#[derive(Drop)]
+pub struct Records {
+    pub bytes: [u8; RECORDS],
+    pub count: Option<usize>,
+}
 
 // A rule of the made grammar.
 #[derive(Clone, Copy)]
@@ -28,20 +36,20 @@ pub enum MadeRule {
         category: Category,
         word: Word,
     },
-    // a merge by scheme 1 to 3, and how many chains move in the selecting and in the selected daughter
+    // a merge, and how many chains move in the selecting and in the selected daughter
     Merge {
         category: Category,
         selecting: Category,
         selected: Category,
-        scheme: u8,
+        scheme: MergeScheme,
         first: u8,
         second: u8,
     },
-    // a move by scheme 4 or 5, how many chains move in the daughter, and the number, from 1 on, of the one that is moved
+    // a move, how many chains move in the daughter, and the number, from 1 on, of the one that is moved
     Move {
         category: Category,
         daughter: Category,
-        scheme: u8,
+        scheme: MoveScheme,
         chains: u8,
         chain: u8,
     },
@@ -88,28 +96,28 @@ fn pair(head: u8, next: u8, low: usize, before: u8, high: usize) -> Shape
 }
 
 // The components of a merge.
-fn merge_shape(scheme: u8, first: u8, second: u8) -> Shape
+fn merge_shape(scheme: MergeScheme, first: u8, second: u8) -> Shape
     ensures { result ≡ merge_shape scheme first second }
 {
-    if scheme == 3 {
-        return single(first as usize, 3, second as usize + 1);
+    let low = usize::from(first);
+    let high = usize::from(second);
+    match scheme {
+        MergeScheme::First => pair(0, 4, low, 4, high),
+        MergeScheme::Second => pair(4, 0, low, 4, high),
+        MergeScheme::Third => single(low, 3, high + 1),
     }
-    if scheme == 1 {
-        return pair(0, 4, first as usize, 4, second as usize);
-    }
-    pair(4, 0, first as usize, 4, second as usize)
 }
 
 // The components of a move.
-fn move_shape(scheme: u8, chains: u8, chain: u8) -> Shape
+fn move_shape(scheme: MoveScheme, chains: u8, chain: u8) -> Shape
     ensures { result ≡ move_shape scheme chains chain }
 {
-    if scheme == 4 {
-        let low = less(chain as usize, 1);
-        let high = less(chains as usize, chain as usize);
-        return pair(chain, 0, low, chain, high);
+    let n = usize::from(chains);
+    let t = usize::from(chain);
+    match scheme {
+        MoveScheme::Fourth => pair(chain, 0, less(t, 1), chain, less(n, t)),
+        MoveScheme::Fifth => single(n, 0, 0),
     }
-    single(chains as usize, 0, 0)
 }
 
 // The components of a rule.
@@ -180,7 +188,7 @@ fn run_code(shape: Shape, k: usize) -> u8
         return (k + 1) as u8;
     }
     if k - low < shape.high {
-        return ((shape.before as usize + 1 + (k - low)) % 256) as u8;
+        return ((usize::from(shape.before) + 1 + (k - low)) % 256) as u8;
     }
     0
 }
@@ -190,7 +198,7 @@ fn code_at(shape: Shape, v: usize) -> u8
     requires { v < 24 }
     ensures { result ≡ code_at shape v }
 {
-    let joined = shape.joined as usize;
+    let joined = usize::from(shape.joined);
     if joined <= v {
         return run_code(shape, v - joined);
     }
@@ -236,22 +244,33 @@ fn put_record(records: &mut [u8], k: usize, front: &[u8], shape: Shape)
     ensures { Put (record_byte front.now shape) records.old k records.new }
 {
     let at = RECORD * k;
-    let mut p: usize = 0;
-    while p < RECORD {
+    for p in 0..RECORD {
         records[at + p] = record_byte(front, shape, p);
-        p += 1;
     }
 }
 
-// Adds a rule's record to those of k rules where there is room, and says how many rules there are, or that there are too many.
-pub fn add_rule(records: &mut [u8], k: usize, rule: MadeRule) -> usize
-    requires { length records.old ≡ 6144 }
-    ensures { AddsRule rule records.old k result records.new }
-{
-    if RULES <= k {
-        return RULES + 1;
+impl Records {
+    // No records.
+    pub fn empty() -> Records
+        ensures { Held result [] }
+    {
+        Records {
+            bytes: [0; RECORDS],
+            count: Some(0),
+        }
     }
-    let front = front_of(rule);
-    put_record(records, k, &front, shape_of(rule));
-    k + 1
+
+    // Adds a rule's record where there is room.
+    pub fn add_rule(&mut self, rule: MadeRule)
+        ensures { AddsRule rule self.old self.new }
+    {
+        match self.count {
+            Some(k) if k < RULES => {
+                let front = front_of(rule);
+                put_record(&mut self.bytes, k, &front, shape_of(rule));
+                self.count = Some(k + 1);
+            }
+            _ => self.count = None,
+        }
+    }
 }

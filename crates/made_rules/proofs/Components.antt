@@ -1,5 +1,7 @@
 -- The components of an instance of a scheme, by the scheme's number and how many chains move.
 -- Assumes nothing.
+use Rattle.forms.specs.declared.moves.Moved.{Moved}
+use Rattle.forms.specs.declared.moves.MoveScheme.TheVariants.{Fourth, Fifth}
 use Rattle.std.specs.Prelude.{if◌then◌else◌}
 use mathlib.Core.Path.{◌≡◌, refl, sym, ap, ap₂, subst, ◌∙◌}
 use mathlib.Core.Bool.{Bool, true, false, ◌&&◌}
@@ -90,24 +92,21 @@ module _ (m : ℕ) (set : m ≡ 0 → ⊥) where
       go true w h e ih = let p = first c e in (rw w p.0, rw w (ap (λ (l : List (List Variable)). l ++ singles 0 (suc k) (length cs)) p.1))
       go false w h e ih = let p = ih (omega arith) e in (rw w p.0, rw w (ap (λ (l : List (List Variable)). (variable 0 k ∷ []) ∷ l) p.1))
 
--- a move's components, by what its code packs
-module _ (a : Form) where
+-- a move that there is: at most so many chains, the number of one of them, and the components
+pub record Moves (a : Form) (moved : Moved) (components : List (List Variable)) : Type 0 where
+  pub low : 1 ≤ moved.chain
+  pub high : moved.chain ≤ length a.moving
+  pub are : components ≡ move_components moved.scheme (length a.moving) moved.chain
+
+-- a move's components, by what its code tells
+module _ (a : Form) (row : List ℕ) where
   abbrev chain : ℕ → ℕ
   chain p = place_in (p + 16) (map (λ c. get_or c 0 0) a.moving)
 
-  abbrev code : ℕ → ℕ
-  code p = move_code (chain p) (get_or a.moving (chain p) [])
+  abbrev code : ℕ → Moved
+  code p = move_code (chain p) (get_or a.moving (chain p) []) row
 
-  -- the code of a move that there is: at most so many chains, the number of one of them, and the components
-  pub record Moves (r : ℕ) (components : List (List Variable)) : Type 0 where
-    pub low : 1 ≤ r % 8
-    pub high : r % 8 ≤ length a.moving
-    pub are : components ≡ move_components (r / 8) (length a.moving) (r % 8)
-
-  module _ (p : ℕ) (α : List ℕ) (few : length a.moving ≤ 7) (one : how_many_begin (p + 16) a.moving ≡ 1) where
-    m : ℕ
-    m = p + 16
-
+  module _ (p : ℕ) (α : List ℕ) (one : how_many_begin (p + 16) a.moving ≡ 1) where
     set : p + 16 ≡ 0 → ⊥
     set z = omega arith
 
@@ -116,50 +115,45 @@ module _ (a : Form) where
         omega (arith, placed (p + 16) set (map (λ c. get_or c 0 0) a.moving) (sym (how_many (p + 16) set a.moving) ∙ one), length-map a.moving (λ c. get_or c 0 0))
 
     -- by what is left of the chain
-    ends : (d : List ℕ) → d ≡ get_or a.moving (chain p) [] → left_over d ≡ [] → move_code (chain p) d ≡ 33 + chain p → Moves (move_code (chain p) d) (move_by a (p + 16) α).components
-    ends d w e c =
+    ends : (d : List ℕ) → d ≡ get_or a.moving (chain p) [] → left_over d ≡ [] → Moves a (record { scheme = Fourth; chain = chain p + 1; row = row }) (move_by a (p + 16) α).components
+    ends d w e =
         let l = lands (p + 16) set 1 a.moving inside (ap left_over (sym w) ∙ e) in
-        let t : move_code (chain p) d % 8 ≡ 1 + chain p = omega (arith, c, inside) in
-        let s : move_code (chain p) d / 8 ≡ 4 = omega (arith, c, inside) in
-        let z : chain p ≡ 1 + chain p - 1 = omega arith in
-        let y : length a.moving - suc (chain p) ≡ length a.moving - (1 + chain p) = omega arith in
+        let y : 1 + chain p ≡ chain p + 1 = omega arith in
+        let z : chain p ≡ chain p + 1 - 1 = omega arith in
+        let n : length a.moving - suc (chain p) ≡ length a.moving - (chain p + 1) = omega arith in
         record {
           low = omega arith;
           high = omega (arith, inside);
           are =
               ap₂ (λ (x : List Variable) (y : List (List Variable)). (x ++ (variable 0 0 ∷ [])) ∷ y) l.0 l.1
-              ∙ ap₂ (λ (x n : ℕ). (variable 0 (1 + chain p) ∷ variable 0 0 ∷ []) ∷ (singles 0 1 x ++ singles 0 (suc (1 + chain p)) n)) z y
-              ∙ sym (ap₂ (λ (x y : ℕ). move_components x (length a.moving) y) s t);
+              ∙ ap (λ (x : ℕ). (variable 0 x ∷ variable 0 0 ∷ []) ∷ (singles 0 1 (chain p) ++ singles 0 (suc x) (length a.moving - suc (chain p)))) y
+              ∙ ap₂ (λ (x n : ℕ). (variable 0 (chain p + 1) ∷ variable 0 0 ∷ []) ∷ (singles 0 1 x ++ singles 0 (suc (chain p + 1)) n)) z n;
         }
 
-    goes_on : (d b : List ℕ) → d ≡ get_or a.moving (chain p) [] → left_over d ≡ b ∷ [] → move_code (chain p) d ≡ 41 + chain p → Moves (move_code (chain p) d) (move_by a (p + 16) α).components
-    goes_on d b w e c =
+    goes_on : (d b : List ℕ) → d ≡ get_or a.moving (chain p) [] → left_over d ≡ b ∷ [] → Moves a (record { scheme = Fifth; chain = chain p + 1; row = row }) (move_by a (p + 16) α).components
+    goes_on d b w e =
         let l = stays (p + 16) set 1 a.moving b inside (ap left_over (sym w) ∙ e) in
-        let t : move_code (chain p) d % 8 ≡ 1 + chain p = omega (arith, c, inside) in
-        let s : move_code (chain p) d / 8 ≡ 5 = omega (arith, c, inside) in
         record {
           low = omega arith;
           high = omega (arith, inside);
-          are =
-              ap₂ (λ (x : List Variable) (y : List (List Variable)). (x ++ (variable 0 0 ∷ [])) ∷ y) l.0 l.1
-              ∙ sym (ap₂ (λ (x y : ℕ). move_components x (length a.moving) y) s t);
+          are = ap₂ (λ (x : List Variable) (y : List (List Variable)). (x ++ (variable 0 0 ∷ [])) ∷ y) l.0 l.1;
         }
 
-    by_chain : (d : List ℕ) → d ≡ get_or a.moving (chain p) [] → Moves (move_code (chain p) d) (move_by a (p + 16) α).components
-    by_chain [] w = ends [] w refl refl
-    by_chain (x ∷ []) w = ends (x ∷ []) w refl refl
-    by_chain (x ∷ f ∷ β) w = goes_on (x ∷ f ∷ β) (f ∷ β) w refl refl
+    by_chain : (d : List ℕ) → d ≡ get_or a.moving (chain p) [] → Moves a (move_code (chain p) d row) (move_by a (p + 16) α).components
+    by_chain [] w = ends [] w refl
+    by_chain (x ∷ []) w = ends (x ∷ []) w refl
+    by_chain (x ∷ f ∷ β) w = goes_on (x ∷ f ∷ β) (f ∷ β) w refl
 
-  pub move_components_lem : length a.moving ≤ 7 → (s : Instance) → move_scheme a ≡ some s → Moves (code (get_or a.head 0 0)) s.components
-  move_components_lem few s e = heads a.head e
+  pub move_components_lem : (s : Instance) → move_scheme a ≡ some s → Moves a (code (get_or a.head 0 0)) s.components
+  move_components_lem s e = heads a.head e
     where
       tested : (t u : Bool) (p : ℕ) (α : List ℕ) → eqb (how_many_begin (p + 16) a.moving) 1 ≡ u → (if t && u then some (move_by a (p + 16) α) else none) ≡ some s
-          → Moves (code p) s.components
+          → Moves a (code p) s.components
       tested true true p α one q =
-          subst (λ (i : Instance). Moves (code p) i.components) (some_one q) (by_chain p α few (eqb-true (how_many_begin (p + 16) a.moving) 1 one) (get_or a.moving (chain p) []) refl)
+          subst (λ (i : Instance). Moves a (code p) i.components) (some_one q) (by_chain p α (eqb-true (how_many_begin (p + 16) a.moving) 1 one) (get_or a.moving (chain p) []) refl)
       tested true false p α one q = none_some (sym q)
       tested false u p α one q = none_some (sym q)
 
-      heads : (h : List ℕ) → move_if a h ≡ some s → Moves (code (get_or h 0 0)) s.components
+      heads : (h : List ℕ) → move_if a h ≡ some s → Moves a (code (get_or h 0 0)) s.components
       heads [] q = none_some (sym q)
       heads (p ∷ α) q = tested (is_licensor p) (eqb (how_many_begin (p + 16) a.moving) 1) p α refl q

@@ -22,11 +22,14 @@ dimension_at [] i h = let z : ⊥ = omega arith in absurd z
 dimension_at (a ∷ forms) zero h = refl
 dimension_at (a ∷ forms) (suc i) h = dimension_at forms i (omega arith)
 
-module _ (table : List ℕ) (n : ℕ) (forms : List Form) (t : Holds table n forms) where
+module _ (table : List (List ℕ)) (forms : List Form) (t : Holds table (length table) forms) where
+  abbrev n : ℕ
+  n = length table
+
   moving_at : (i : ℕ) → i < n → get_or (row_at table i) 7 0 ≡ length (form_at forms i).moving
   moving_at i h = ap (λ (l : List ℕ). get_or l 7 0) (t.0.rows i (omega (arith, t.1))) ∙ count_at (form_at forms i)
 
-  byte_at : (q : ℕ) → dimension_byte table n q ≡ get_or (1 ∷ map form_dimension forms) q 0
+  byte_at : (q : ℕ) → dimension_byte table q ≡ get_or (1 ∷ map form_dimension forms) q 0
   byte_at zero = refl
   byte_at (suc i) = rw (ne_eqb (suc i) 0 (λ z. omega arith)) (go (dec_lt n (suc i)))
     where
@@ -40,7 +43,7 @@ module _ (table : List ℕ) (n : ℕ) (forms : List Form) (t : Holds table n for
           ∙ (let z : (get_or (row_at table i) 7 0 + 1) % 256 ≡ suc (length (form_at forms i).moving) = omega (arith, moving_at i (omega arith)) in z)
           ∙ sym (dimension_at forms i (omega (arith, t.1))))
 
-pub dimensions_are : (table : List ℕ) (n : ℕ) (dims : List ℕ) → length dims ≡ 64 → ((q : ℕ) → q < 64 → get_or dims q 0 ≡ dimension_byte table n q) → Dimensions table n dims
-dimensions_are table n dims long e forms t =
+pub dimensions_are : (table : List (List ℕ)) (dims : List ℕ) → length dims ≡ 64 → ((q : ℕ) → q < 64 → get_or dims q 0 ≡ dimension_byte table q) → Dimensions table dims
+dimensions_are table dims long e forms t =
     ext_get_or 0 dims (padded 64 (1 ∷ map form_dimension forms)) (long ∙ sym (padded_length 64 (1 ∷ map form_dimension forms)))
-    (λ q h. e q (omega arith) ∙ byte_at table n forms t q ∙ sym (padded_at 64 (1 ∷ map form_dimension forms) q (omega arith)))
+    (λ q h. e q (omega arith) ∙ byte_at table forms t q ∙ sym (padded_at 64 (1 ∷ map form_dimension forms) q (omega arith)))

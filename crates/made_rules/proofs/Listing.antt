@@ -1,6 +1,6 @@
 -- Rules added one after another.
 -- Assumes nothing.
-use Rattle.std.specs.Prelude.{if◌then◌else◌}
+use Rattle.std.specs.Prelude.{if◌then◌else◌, Option, Some}
 use mathlib.Core.Path.{◌≡◌, refl, sym, ap, subst, ◌∙◌}
 use mathlib.Core.Bool.{Bool, true, false}
 use mathlib.Core.List.{List, [], ◌∷◌, ◌++◌, map, append-nil, append_assoc}
@@ -20,48 +20,49 @@ use Rattle.minimalist.specs.Closure.{is_among, rule_if, made_rules, start_rules,
 use Rattle.minimalist.specs.Numbering.{numbered_rule}
 use Rattle.derivable.specs.Tables.{form_at, Holds}
 use Rattle.made_records.specs.declared.MadeRule.{MadeRule}
+use Rattle.made_records.specs.declared.Records.{Records}
 use Rattle.made_records.specs.Records.{as_rule, Fits, Held, AddsRule}
 use Rattle.made_records.proofs.RecordLaws.{count_is}
 use Rattle.made_rules.specs.Listed.{Lists, Listed, with_start, with_entry, with_entries, with_merge, with_merges, with_move, with_schemes_of}
 
 -- none, and one
-pub lists_none : {f : List Form → List NamedRule} (table : List ℕ) (n : ℕ) (before : List ℕ) (k : ℕ) → ((forms : List Form) → Holds table n forms → f forms ≡ []) → Lists f table n before k k before
-lists_none {f} table n before k e =
+pub lists_none : {f : List Form → List NamedRule} (table : List (List ℕ)) (before : Records) → ((forms : List Form) → Holds table (length table) forms → f forms ≡ []) → Lists f table before before
+lists_none {f} table before e =
     record {
       adds = λ forms t once rules held.
-          subst (λ (new : List NamedRule). Held before k (rules ++ map (numbered_rule forms) new)) (sym (e forms t)) (subst (Held before k) (sym (append-nil rules)) held);
+          subst (λ (new : List NamedRule). Held before (rules ++ map (numbered_rule forms) new)) (sym (e forms t)) (subst (Held before) (sym (append-nil rules)) held);
     }
 
-pub lists_one : {f : List Form → List NamedRule} (table : List ℕ) (n : ℕ) {before after : List ℕ} {k r : ℕ} (rule : MadeRule) → AddsRule rule before k r after
-    → ((forms : List Form) → Holds table n forms → Once forms → Fits rule × (as_rule rule ∷ [] ≡ map (numbered_rule forms) (f forms))) → Lists f table n before k r after
-lists_one {f} table n {after = after} {r = r} rule p e =
+pub lists_one : {f : List Form → List NamedRule} (table : List (List ℕ)) {before after : Records} (rule : MadeRule) → AddsRule rule before after
+    → ((forms : List Form) → Holds table (length table) forms → Once forms → Fits rule × (as_rule rule ∷ [] ≡ map (numbered_rule forms) (f forms))) → Lists f table before after
+lists_one {f} table {after = after} rule p e =
     record {
       adds = λ forms t once rules held.
-          subst (λ (new : List Rule). Held after r (rules ++ new)) (e forms t once).1 (p (e forms t once).0 rules held);
+          subst (λ (new : List Rule). Held after (rules ++ new)) (e forms t once).1 (p (e forms t once).0 rules held);
     }
 
-pub lists_same : {f h : List Form → List NamedRule} {table before after : List ℕ} {n k r : ℕ} → Lists f table n before k r after
-    → ((forms : List Form) → n ≡ length forms → f forms ≡ h forms) → Lists h table n before k r after
-lists_same {f} {h} {after = after} {r = r} p e =
+pub lists_same : {f h : List Form → List NamedRule} {table : List (List ℕ)} {before after : Records} → Lists f table before after
+    → ((forms : List Form) → length table ≡ length forms → f forms ≡ h forms) → Lists h table before after
+lists_same {f} {h} {after = after} p e =
     record {
       adds = λ forms t once rules held.
-          subst (λ (new : List NamedRule). Held after r (rules ++ map (numbered_rule forms) new)) (e forms t.1) (p.adds forms t once rules held);
+          subst (λ (new : List NamedRule). Held after (rules ++ map (numbered_rule forms) new)) (e forms t.1) (p.adds forms t once rules held);
     }
 
-pub lists_then : {f g h : List Form → List NamedRule} {table before mid after : List ℕ} {n k m r : ℕ} → Lists f table n before k m mid → Lists g table n mid m r after
-    → ((forms : List Form) → n ≡ length forms → f forms ++ g forms ≡ h forms) → Lists h table n before k r after
-lists_then {f} {g} {h} {after = after} {r = r} p q e =
+pub lists_then : {f g h : List Form → List NamedRule} {table : List (List ℕ)} {before mid after : Records} → Lists f table before mid → Lists g table mid after
+    → ((forms : List Form) → length table ≡ length forms → f forms ++ g forms ≡ h forms) → Lists h table before after
+lists_then {f} {g} {h} {after = after} p q e =
     record {
       adds = λ forms t once rules held.
-          subst (λ (new : List Rule). Held after r new)
+          subst (λ (new : List Rule). Held after new)
           (append_assoc rules (map (numbered_rule forms) (f forms)) (map (numbered_rule forms) (g forms))
           ∙ ap (λ (l : List Rule). rules ++ l) (sym (map_append (numbered_rule forms) (f forms) (g forms)) ∙ ap (map (numbered_rule forms)) (e forms t.1)))
           (q.adds forms t once (rules ++ map (numbered_rule forms) (f forms)) (p.adds forms t once rules held));
     }
 
 -- from no rules on
-pub lists_first : {f : List Form → List NamedRule} {table before after : List ℕ} {n r : ℕ} → length before ≡ 6144 → Lists f table n before 0 r after → Listed f table n r after
-lists_first long p = record { held = λ forms t once. p.adds forms t once [] (record { long = long; count = refl; are = λ h. refl }) }
+pub lists_first : {f : List Form → List NamedRule} {table : List (List ℕ)} {before after : Records} → Held before [] → Lists f table before after → Listed f table after
+lists_first none p = record { held = λ forms t once. p.adds forms t once [] none }
 
 -- what is listed of the first forms, one form further
 each_next : (f : Form → List NamedRule) (forms : List Form) (j : ℕ) → j < length forms → each f (take j forms) ++ f (form_at forms j) ≡ each f (take (j + 1) forms)
@@ -106,22 +107,22 @@ entries_next bytes i e w forms =
     z = omega arith
 
 -- all rules of the grammar, from the new start's on
-pub all_listed : (bytes : List ℕ) (start : ℕ) {table first second after : List ℕ} {n s k r : ℕ} → Listed (start_rules start) table n s first
-    → Lists (with_entries bytes) table n first s k second → Lists scheme_rules table n second k r after → Listed (made_rules (lexicon_of bytes) start) table n r after
-all_listed bytes start {after = after} {r = r} p q w =
+pub all_listed : (bytes : List ℕ) (start : ℕ) {table : List (List ℕ)} {first second after : Records} → Listed (start_rules start) table first
+    → Lists (with_entries bytes) table first second → Lists scheme_rules table second after → Listed (made_rules (lexicon_of bytes) start) table after
+all_listed bytes start {after = after} p q w =
     record {
       held = λ forms t once.
-          let l : Lists (λ forms. with_entries bytes forms ++ scheme_rules forms) _ _ _ _ _ _ = lists_then q w (λ forms e. refl) in
-          subst (Held after r) (sym (map_append (numbered_rule forms) (start_rules start forms) (with_entries bytes forms ++ scheme_rules forms)))
+          let l : Lists (λ forms. with_entries bytes forms ++ scheme_rules forms) _ _ _ = lists_then q w (λ forms e. refl) in
+          subst (Held after) (sym (map_append (numbered_rule forms) (start_rules start forms) (with_entries bytes forms ++ scheme_rules forms)))
           (l.adds forms t once (map (numbered_rule forms) (start_rules start forms)) (p.held forms t once));
     }
 
 -- how many rules the new start has
-pub starts_counted : (start : ℕ) {table after : List ℕ} {n s : ℕ} → Listed (start_rules start) table n s after → (forms : List Form) → Holds table n forms → Once forms
-    → s ≡ length (start_rules start forms)
+pub starts_counted : (start : ℕ) {table : List (List ℕ)} {after : Records} → Listed (start_rules start) table after → (forms : List Form) → Holds table (length table) forms → Once forms
+    → after.count ≡ Some (length (start_rules start forms))
 starts_counted start p forms t once =
     count_is (p.held forms t once) (omega (arith, length-map (start_rules start forms) (numbered_rule forms), two (is_among forms (start_form start true)) (is_among forms (start_form start false))))
-    ∙ length-map (start_rules start forms) (numbered_rule forms)
+    ∙ ap Some (length-map (start_rules start forms) (numbered_rule forms))
   where
     two : (a b : Bool) → length ((if a then start_rule start true ∷ [] else []) ++ ((if b then start_rule start false ∷ [] else []) ++ [])) ≤ 2
     two true true = omega arith

@@ -1,6 +1,6 @@
 -- The place of a form by its row, and of a form that stands once.
 -- Assumes nothing.
-use Rattle.std.specs.Prelude.{if◌then◌else◌}
+use Rattle.std.specs.Prelude.{if◌then◌else◌, Option, Some, None, unwrap_or}
 use mathlib.Core.Path.{◌≡◌, sym, ap}
 use mathlib.Core.Bool.{Bool, true, false}
 use mathlib.Core.List.{List, [], ◌∷◌}
@@ -17,7 +17,7 @@ use Rattle.minimalist.specs.Numbering.{place_of}
 use Rattle.minimalist.proofs.Forms.{same_form_lem, form_same}
 use Rattle.forms.specs.Rows.{row_of, Small}
 use Rattle.derivable.specs.Tables.{row_at, first_same, form_at, Holds}
-use Rattle.derivable.proofs.TableLaws.{place_is}
+use Rattle.derivable.proofs.TableLaws.{Found, place_is}
 
 pub first_below : (rows : ℕ → List ℕ) (row : List ℕ) (from count : ℕ) → first_same rows row from count ≤ from + count
 first_below rows row from zero = omega arith
@@ -28,7 +28,7 @@ first_below rows row from (suc count) = go (same_list (rows from) row) (first_be
     go false ih = omega arith
 
 -- the number of the category whose form has the row
-pub number_is : {table row : List ℕ} {n c : ℕ} (forms : List Form) → Holds table n forms → (a : Form) → Small a → row ≡ row_of a → c ≡ first_same (row_at table) row 0 n + 1
+pub number_is : {table : List (List ℕ)} {row : List ℕ} {n c : ℕ} (forms : List Form) → Holds table n forms → (a : Form) → Small a → row ≡ row_of a → c ≡ first_same (row_at table) row 0 n + 1
     → c ≡ suc (place_of forms a)
 number_is {table} {row} {n} {c} forms t a small e w = omega (arith, place_is table a small forms n row (sym t.1) t.0 e)
 
@@ -38,3 +38,8 @@ place_once (b ∷ bs) once zero h = rw (passes (same_form b b) (form_same b))
 place_once (b ∷ bs) once (suc i) h =
     rw (fails (same_form b (form_at bs i)) (λ s. once.0 (rw (sym (same_form_lem b (form_at bs i) s)) at (mem_get_d bs (record { lexical = false; head = []; moving = [] }) i (omega arith)))))
     (ap suc (place_once bs once.1 i (omega arith)))
+
+-- the number of a row that a search answered, or the one after the last
+pub number_or : (rows : List (List ℕ)) (row : List ℕ) (r : Option ℕ) → Found rows row r → unwrap_or r (length rows) ≡ first_same (row_at rows) row 0 (length rows)
+number_or rows row None h = omega (arith, h, first_below (row_at rows) row 0 (length rows))
+number_or rows row (Some i) h = h.1

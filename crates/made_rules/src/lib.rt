@@ -8,6 +8,6 @@ mod schemes;
 mod starts;
 
 pub use entries::add_entry_rules;
-pub use numbers::{CATEGORIES, put_dimensions};
+pub use numbers::{CATEGORIES, dimensions};
 pub use schemes::add_scheme_rules;
 pub use starts::add_starts;

@@ -1,13 +1,12 @@
 -- `make_grammar::make_grammar` meets its contract.
 -- Assumes nothing.
 use native.Mathlib.Omega.{arith}
-use mathlib.Core.Path.{refl}
+use mathlib.Core.Path.{ap, ◌∙◌}
 use Rattle.model.proofs.Verdicts.{handed_on, tests_pass, tests_met}
 use Rattle.minimalist.specs.Lexicon.{entries_refusal}
-use Rattle.minimalist.proofs.Entries.{words_in, start_in, entries_in}
 use Rattle.minimalist.proofs.MakeGrammar.{refused_entries}
-use Rattle.make_grammar.proofs.Outcome.{over_forms, not_started, over_rules, written_made}
-use borrow.Author.Rules.{rules}
+use Rattle.make_grammar.specs.Making.{told_of}
+use Rattle.make_grammar.proofs.Outcome.{over_forms, over_rules, few_rules, written_made}
 use Rattle.make_grammar.proofs.make_grammar.Goals as goal
 
 pub returns-in_err-entries_refusal : goal.returns-in_err-entries_refusal
@@ -17,68 +16,61 @@ returns-in_err-entries_refusal c =
     rw (handed_on c.from_residual.result c.from_residual.ensures.1) (refused_entries a.lexicon.now a.words a.start c.known_bytes.ensures a.out.now _
     (tests_met (entries_refusal a.lexicon.now a.words a.start) k.result k.ensures c.in_err-entries_refusal.was))
 
-pub overflow_cast-count : goal.overflow_cast-count
-overflow_cast-count c =
+pub returns-then-table-gt-FORMS : goal.returns-then-table-gt-FORMS
+returns-then-table-gt-FORMS c =
     let a = c.args in
-    let all = c.known_bytes.ensures in
     let k = c.entries_refusal in
     let pass = tests_pass (entries_refusal a.lexicon.now a.words a.start) k.result k.ensures c.in_ok-entries_refusal.was in
-    omega (arith, (entries_in a.lexicon.now a.words a.start all pass).1)
+    over_forms a.lexicon.now a.words a.start c.known_bytes.ensures pass a.out.now _ c.derivable_forms-table.ensures.1 (omega arith)
 
-pub returns-then-forms-gt-FORMS : goal.returns-then-forms-gt-FORMS
-returns-then-forms-gt-FORMS c =
+pub returns-in_default : goal.returns-in_default
+returns-in_default c =
     let a = c.args in
-    let all = c.known_bytes.ensures in
     let k = c.entries_refusal in
     let pass = tests_pass (entries_refusal a.lexicon.now a.words a.start) k.result k.ensures c.in_ok-entries_refusal.was in
-    over_forms a.lexicon.now a.words a.start all pass a.out.now _ _ c.derivable_forms-forms.ensures.1 (omega arith)
+    let derived = c.derivable_forms-table.ensures.1 in
+    over_rules a.lexicon.now a.words a.start c.known_bytes.ensures pass a.out.now _ derived (omega arith) (omega arith) c.forms-forms.ensures c.put_rules.ensures (ap told_of c.in_default.is)
 
-pub overflow_cast-start : goal.overflow_cast-start
-overflow_cast-start c =
+pub returns-in_default-count : goal.returns-in_default-count
+returns-in_default-count c =
     let a = c.args in
-    let all = c.known_bytes.ensures in
     let k = c.entries_refusal in
     let pass = tests_pass (entries_refusal a.lexicon.now a.words a.start) k.result k.ensures c.in_ok-entries_refusal.was in
-    omega (arith, (start_in a.lexicon.now a.words a.start all pass).1)
+    let derived = c.derivable_forms-table.ensures.1 in
+    over_rules a.lexicon.now a.words a.start c.known_bytes.ensures pass a.out.now _ derived (omega arith) (omega arith) c.forms-forms.ensures c.put_rules.ensures (ap told_of c.in-Some.is ∙ c.in_default-count.is)
 
-pub put_rules-rules-requires : goal.put_rules-rules-requires
-put_rules-rules-requires c =
+pub overflow_cast-rules : goal.overflow_cast-rules
+overflow_cast-rules c =
     let a = c.args in
-    let all = c.known_bytes.ensures in
     let k = c.entries_refusal in
     let pass = tests_pass (entries_refusal a.lexicon.now a.words a.start) k.result k.ensures c.in_ok-entries_refusal.was in
-    let p = (start_in a.lexicon.now a.words a.start all pass).0 in
-    (omega arith, omega (arith, p), refl, search rules)
+    let derived = c.derivable_forms-table.ensures.1 in
+    let many = few_rules a.lexicon.now a.words a.start c.known_bytes.ensures pass a.out.now _ derived (omega arith) (omega arith) c.forms-forms.ensures c.put_rules.ensures (ap told_of c.in-Some.is ∙ c.in-Some-count.is) in
+    omega (arith, many)
 
-pub returns-then-rules-eq0 : goal.returns-then-rules-eq0
-returns-then-rules-eq0 c =
+pub overflow_mul-rules : goal.overflow_mul-rules
+overflow_mul-rules c =
     let a = c.args in
-    let all = c.known_bytes.ensures in
     let k = c.entries_refusal in
     let pass = tests_pass (entries_refusal a.lexicon.now a.words a.start) k.result k.ensures c.in_ok-entries_refusal.was in
-    not_started a.lexicon.now a.words a.start all pass a.out.now _ _ c.derivable_forms-forms.ensures.1 (omega arith) c.put_rules-rules.ensures (omega arith)
+    let derived = c.derivable_forms-table.ensures.1 in
+    let many = few_rules a.lexicon.now a.words a.start c.known_bytes.ensures pass a.out.now _ derived (omega arith) (omega arith) c.forms-forms.ensures c.put_rules.ensures (ap told_of c.in-Some.is ∙ c.in-Some-count.is) in
+    omega (arith, many)
 
-pub returns-then-rules-gt-RULES : goal.returns-then-rules-gt-RULES
-returns-then-rules-gt-RULES c =
+pub shared_ref_as_front-write_made : goal.shared_ref_as_front-write_made
+shared_ref_as_front-write_made c =
     let a = c.args in
-    let all = c.known_bytes.ensures in
     let k = c.entries_refusal in
     let pass = tests_pass (entries_refusal a.lexicon.now a.words a.start) k.result k.ensures c.in_ok-entries_refusal.was in
-    over_rules a.lexicon.now a.words a.start all pass a.out.now _ _ c.derivable_forms-forms.ensures.1 (omega arith) c.put_rules-rules.ensures (omega arith)
-
-pub overflow_cast-words : goal.overflow_cast-words
-overflow_cast-words c =
-    let a = c.args in
-    let all = c.known_bytes.ensures in
-    let k = c.entries_refusal in
-    let pass = tests_pass (entries_refusal a.lexicon.now a.words a.start) k.result k.ensures c.in_ok-entries_refusal.was in
-    omega (arith, (words_in a.lexicon.now a.words a.start all pass).1)
+    let derived = c.derivable_forms-table.ensures.1 in
+    let many = few_rules a.lexicon.now a.words a.start c.known_bytes.ensures pass a.out.now _ derived (omega arith) (omega arith) c.forms-forms.ensures c.put_rules.ensures (ap told_of c.in-Some.is ∙ c.in-Some-count.is) in
+    omega (arith, many)
 
 pub returns : goal.returns
 returns c =
     let a = c.args in
-    let all = c.known_bytes.ensures in
     let k = c.entries_refusal in
     let pass = tests_pass (entries_refusal a.lexicon.now a.words a.start) k.result k.ensures c.in_ok-entries_refusal.was in
-    written_made a.lexicon.now a.words a.start all pass a.out.now _ _ c.derivable_forms-forms.ensures.1 (omega arith) c.put_rules-rules.ensures c.if-rules-eq0.false c.if-rules-gt-RULES.false
-    c.write_made.ensures
+    let derived = c.derivable_forms-table.ensures.1 in
+    written_made a.lexicon.now a.words a.start c.known_bytes.ensures pass a.out.now _ derived (omega arith) (omega arith) c.forms-forms.ensures c.put_rules.ensures
+    c.in-Some.records c.in-Some.is c.in-Some-count.rules c.in-Some-count.is c.write_made.ensures

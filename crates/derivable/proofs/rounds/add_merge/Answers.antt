@@ -1,15 +1,16 @@
 -- `derivable::add_merge` meets its contract.
 -- Assumes nothing.
 use native.Mathlib.Omega.{arith}
+use mathlib.Core.Path.{refl}
 use Rattle.derivable.proofs.SchemeRows.{merge_none, merge_some}
 use Rattle.derivable.proofs.rounds.add_merge.Goals as goal
 
-pub returns-then-merge_rows-eq0 : goal.returns-then-merge_rows-eq0
-returns-then-merge_rows-eq0 c =
+pub returns-in-Some : goal.returns-in-Some
+returns-in-Some c =
     let a = c.args in
-    merge_none {n = a.n} {i = a.i} {j = a.j} (omega arith) (omega arith) c.row_of.ensures c.row_of-2.ensures c.merge_rows.ensures c.if-merge_rows-eq0.true (omega arith)
+    merge_some {before = a.table.now} {i = a.i} {j = a.j} (omega arith) (omega arith) refl refl c.merge_rows.ensures c.in-Some.merged c.in-Some.is c.add_kept.ensures
 
-pub returns : goal.returns
-returns c =
+pub returns-in_default : goal.returns-in_default
+returns-in_default c =
     let a = c.args in
-    merge_some {n = a.n} {i = a.i} {j = a.j} (omega arith) (omega arith) c.row_of.ensures c.row_of-2.ensures c.merge_rows.ensures c.if-merge_rows-eq0.false c.add_kept.ensures
+    merge_none {before = a.table.now} {i = a.i} {j = a.j} (omega arith) (omega arith) refl refl c.merge_rows.ensures c.in_default.is (omega arith)

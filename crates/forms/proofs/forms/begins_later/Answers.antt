@@ -1,23 +1,13 @@
 -- `forms::begins_later` meets its contract.
 -- Assumes nothing.
-use Rattle.forms.proofs.RowForms.{begins_here, begins_not, begins_end}
-use mathlib.Core.Path.{sym, ◌∙◌}
+use Rattle.std.proofs.Common.{rules, tests, eqb, refl, ◌-◌, ◌∙◌}
+use Rattle.std.proofs.lemmas.Iterator.{YieldsList-from_range}
+use Rattle.std.proofs.lemmas.Iterator.Search.{any_from_yields_List}
+use Rattle.forms.proofs.Made.{first_at, any_is}
 use Rattle.forms.proofs.forms.begins_later.Goals as goal
-
-pub returns-then-m-byte : goal.returns-then-m-byte
-returns-then-m-byte c =
-    let a = c.args in
-    let t = c.loop-j in
-    sym (t.invariant.1 ∙ begins_here a.m a.row.now t.j a.n c.loop-j-test.true (c.if-m-byte.true ∙ c.byte.ensures))
-
-pub loop-j-preserved : goal.loop-j-preserved
-loop-j-preserved c =
-    let a = c.args in
-    let t = c.loop-j in
-    (t.invariant.0, t.invariant.1 ∙ begins_not a.m a.row.now t.j a.n c.loop-j-test.true (λ q. c.if-m-byte.false (q ∙ sym c.byte.ensures)))
 
 pub returns : goal.returns
 returns c =
     let a = c.args in
-    let t = c.loop-j in
-    sym (t.invariant.1 ∙ begins_end a.m a.row.now t.j a.n c.loop-j-test.false)
+    any_from_yields_List (λ j. eqb a.m (first_at a.row.now j)) _ _ _ c.any.ensures.ran (YieldsList-from_range a.k a.n (a.n - a.k) refl refl) (λ x b q k. search (rules, tests))
+    ∙ any_is a.row.now a.m a.k (a.n - a.k)

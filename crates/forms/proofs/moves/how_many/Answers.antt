@@ -1,36 +1,17 @@
 -- `forms::how_many` meets its contract.
 -- Assumes nothing.
-use native.Mathlib.Omega.{arith}
-use mathlib.Core.Path.{◌≡◌, sym, ap, ◌∙◌}
-use Prim.Native.Nat.{ℕ, ◌-◌, ◌+◌}
-use Rattle.model.specs.Base.{occurrences}
-use Rattle.lexicon.proofs.FeatureKinds.{licensed_byte, other_byte}
-use Rattle.forms.specs.Rows.{firsts_in}
-use Rattle.forms.proofs.MoveForms.{many_here, many_later, many_end}
+use Rattle.std.proofs.Common.{rules, eqb, ◌≡◌, ◌+◌, ◌-◌, ◌∙◌, arith}
+use Rattle.std.specs.List.{range_with_len}
+use Rattle.std.proofs.lemmas.Iterator.{YieldsList-from_range}
+use Rattle.std.proofs.lemmas.Iterator.Consumers.{YieldsList-from_filter, count_from_yields_List}
+use Rattle.std.proofs.lemmas.List.Sums.{length-filter}
+use Rattle.forms.proofs.Made.{first_at, by_partner, many_is}
 use Rattle.forms.proofs.moves.how_many.Goals as goal
-use Rattle.forms.proofs.moves.how_many.Goals.{then-licenses, else-licenses}
-
-pub loop-j-init : goal.loop-j-init
-loop-j-init c =
-    let a = c.args in
-    let e : a.n ≡ a.n - 0 = omega arith in
-    let g = ap (λ (k : ℕ). occurrences (a.p + 16) (firsts_in a.row.now 0 k)) e in
-    (omega arith, c.requires.1, omega (arith, g), omega arith)
-
-pub loop-j-preserved : goal.loop-j-preserved
-loop-j-preserved c =
-    let a = c.args in
-    let t = c.loop-j in
-    let h = c.loop-j-test.true in
-    let b = c.byte in
-    let l = c.licenses in
-    elim c.if-licenses.branch [
-      | then-licenses w ↦ (t.invariant.0, t.invariant.1, omega (arith, t.invariant.2, many_here (a.p + 16) a.row.now t.j a.n h (licensed_byte a.p b.result t.invariant.1 (sym l.ensures ∙ w.if-licenses.true) ∙ b.ensures)), omega (arith, t.invariant.3))
-      | else-licenses w ↦ (t.invariant.0, t.invariant.1, omega (arith, t.invariant.2, many_later (a.p + 16) a.row.now t.j a.n h (λ q. other_byte a.p b.result t.invariant.1 (sym l.ensures ∙ w.if-licenses.false) (q ∙ sym b.ensures))), omega (arith, t.invariant.3))
-    ]
 
 pub returns : goal.returns
 returns c =
     let a = c.args in
-    let t = c.loop-j in
-    omega (arith, t.invariant.2, many_end (a.p + 16) a.row.now t.j a.n c.loop-j-test.false)
+    let e : a.n - 0 ≡ a.n = omega arith in
+    count_from_yields_List _ _ c.count.ensures.ran (YieldsList-from_filter _ (λ j. eqb (a.p + 16) (first_at a.row.now j)) (YieldsList-from_range 0 a.n a.n c.filter.ensures.source e) c.filter.ensures.closure (λ x b q k. by_partner a.p (first_at a.row.now x) c.requires.1 (search rules)))
+    ∙ length-filter (λ j. eqb (a.p + 16) (first_at a.row.now j)) (range_with_len 0 a.n)
+    ∙ many_is a.row.now (a.p + 16) 0 a.n

@@ -4,6 +4,4 @@ use Rattle.made_rules.proofs.RuleLaws.{entry_rule}
 use Rattle.made_rules.proofs.entries.add_entry_rule.Goals as goal
 
 pub returns : goal.returns
-returns c =
-    let a = c.args in
-    entry_rule a.e.now c.put_entry_row.ensures c.number_of-c.ensures c.entry_word.ensures c.add_rule.ensures
+returns c = entry_rule c.args.e.now c.entry_row-row.ensures c.number_of.ensures c.entry_word.ensures c.add_rule.ensures

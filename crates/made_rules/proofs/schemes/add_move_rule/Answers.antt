@@ -1,21 +1,22 @@
 -- `made_rules::add_move_rule` meets its contract.
 -- Assumes nothing.
 use native.Mathlib.Omega.{arith}
+use mathlib.Core.Path.{refl}
 use Rattle.made_rules.proofs.RuleLaws.{no_move, move_left_out, move_rule_lem}
 use Rattle.made_rules.proofs.schemes.add_move_rule.Goals as goal
 
-pub returns-then-code-eq0 : goal.returns-then-code-eq0
-returns-then-code-eq0 c =
+pub returns-in_default : goal.returns-in_default
+returns-in_default c =
     let a = c.args in
-    no_move {n = a.n} {i = a.i} (omega arith) c.row_of-a.ensures c.move_row-code.ensures a.records.now a.k c.if-code-eq0.true
+    no_move {table = a.forms.now} {i = a.i} (omega arith) refl c.move_row.ensures a.records.now c.in_default.is
 
-pub returns-then-left_out : goal.returns-then-left_out
-returns-then-left_out c =
+pub returns-else-not-left_out : goal.returns-else-not-left_out
+returns-else-not-left_out c =
     let a = c.args in
-    move_left_out {n = a.n} {i = a.i} (omega arith) c.row_of-a.ensures c.move_row-code.ensures c.left_out.ensures a.records.now a.k c.if-left_out.true
+    move_left_out {table = a.forms.now} {i = a.i} (omega arith) refl c.move_row.ensures c.in-Some.moved c.in-Some.is c.left_out.ensures a.records.now c.if-not-left_out.false
 
-pub returns : goal.returns
-returns c =
+pub returns-then-not-left_out : goal.returns-then-not-left_out
+returns-then-not-left_out c =
     let a = c.args in
-    move_rule_lem {n = a.n} {i = a.i} (omega arith) c.row_of-a.ensures c.move_row-code.ensures c.left_out.ensures c.if-code-eq0.false c.if-left_out.false
-    c.number_of.ensures c.category_at.ensures c.scheme_in.ensures c.movers.ensures.0 c.chain_in.ensures c.add_rule.ensures
+    move_rule_lem {table = a.forms.now} {i = a.i} (omega arith) refl c.move_row.ensures c.in-Some.moved c.in-Some.is c.left_out.ensures c.if-not-left_out.true
+    c.number_of.ensures c.category_at.ensures c.movers.ensures.0 c.add_rule.ensures

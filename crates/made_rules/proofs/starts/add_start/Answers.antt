@@ -4,12 +4,12 @@ use native.Mathlib.Omega.{arith}
 use Rattle.made_rules.proofs.RuleLaws.{start_none, start_some}
 use Rattle.made_rules.proofs.starts.add_start.Goals as goal
 
-pub returns-then-n-c : goal.returns-then-n-c
-returns-then-n-c c =
+pub returns-in-Some : goal.returns-in-Some
+returns-in-Some c =
     let a = c.args in
-    start_none {n = a.n} {start = a.start} a.lexical (omega arith) c.put_start_row.ensures c.number_of-c.ensures a.records.now a.k c.if-n-c.true
+    start_some {start = a.start} a.lexical (omega arith) c.start_row-row.ensures c.in-Some.i c.in-Some.ensures.0 c.in-Some.ensures.1 c.category_at.ensures c.add_rule.ensures
 
-pub returns : goal.returns
-returns c =
+pub returns-in_default : goal.returns-in_default
+returns-in_default c =
     let a = c.args in
-    start_some {n = a.n} {start = a.start} a.lexical (omega arith) c.put_start_row.ensures c.number_of-c.ensures c.if-n-c.false c.add_rule.ensures
+    start_none {start = a.start} a.lexical (omega arith) c.start_row-row.ensures a.records.now c.in_default.ensures
