@@ -1,6 +1,6 @@
 // The fields of a record, which is a list of bytes that may stand anywhere.
 ghost use Rattle.std.specs.Prelude.{◌≡◌, ◌+◌};
-ghost use Rattle.model.specs.GrammarFile.{field, word_of, dimension_in, variables};
+ghost use Rattle.model.specs.GrammarFile.{field, daughters_of, word_of, dimension_in, variables};
 
 use crate::bytes::{byte, fields, two_bytes};
 use model::{Category, Word};
@@ -17,6 +17,13 @@ pub fn record_daughters(e: &[u8]) -> u8
     ensures { result ≡ field e.now 1 }
 {
     byte(e, 1)
+}
+
+// The categories of the daughters, one byte each.
+pub fn daughters_of(e: &[u8]) -> &[u8]
+    ensures { result.now ≡ daughters_of e.now }
+{
+    fields(e, 2, usize::from(record_daughters(e)))
 }
 
 // The category of the daughter at position j.
@@ -44,7 +51,7 @@ pub fn dimension_in(dimensions: &[u8], a: Category) -> u8
 pub fn variables(dimensions: &[u8], e: &[u8]) -> u16
     ensures { result ≡ variables dimensions.now e.now }
 {
-    fields(e, 2, usize::from(record_daughters(e)))
+    daughters_of(e)
         .iter()
         .map(|a| u16::from(dimension_in(dimensions, Category(*a))))
         .sum()
