@@ -4,7 +4,7 @@ use Rattle.std.proofs.Common.{◌≡◌, refl, sym, arith, if◌then◌else◌, 
 use Rattle.std.specs.List.{list_all, fold, sum, sum_by, count_by}
 use Rattle.std.proofs.lemmas.List.Recursion.{is_sum_by, is_count_by}
 use Rattle.std.proofs.lemmas.Bool.Decides.{same_from_decides, Decides-eqb}
-use Rattle.model.specs.Base.{occurrences, total}
+use Rattle.model.specs.Base.{every, occurrences, total}
 use Rattle.model.specs.GrammarFile.{all_zero}
 
 -- the order in which two numbers are compared makes no difference
@@ -13,17 +13,14 @@ eqb_swap x y =
     let d = Decides-eqb y x in
     same_from_decides (eqb x y) (eqb y x) (Decides-eqb x y) (λ e. sym (d.0 e), λ e. d.1 (sym e))
 
+pub every_is : (test : ℕ → Bool) (l : List ℕ) → list_all test l ≡ every test l
+every_is test [] = refl
+every_is test (x ∷ l) = rw (every_is test l)
+
 -- a test of all bytes
 pub all_zero_is : (l : List ℕ) → list_all (λ x. eqb x 0) l ≡ all_zero l
 all_zero_is [] = refl
 all_zero_is (x ∷ l) = rw (eqb_swap x 0, all_zero_is l)
-
--- the same, from a test of those before
-pub all_zero_from : (so_far : Bool) (l : List ℕ) → fold (λ zero x. zero && eqb x 0) so_far l ≡ so_far && all_zero l
-all_zero_from true [] = refl
-all_zero_from false [] = refl
-all_zero_from true (x ∷ l) = rw (eqb_swap x 0) (all_zero_from (eqb 0 x) l)
-all_zero_from false (x ∷ l) = all_zero_from false l
 
 pub total_is : (l : List ℕ) → sum l ≡ total l
 total_is l = sym (is_sum_by total (λ x. x) refl (λ _ _. refl) l)

@@ -67,9 +67,9 @@ pub fn survey(file: &[u8], out: &mut [u16]) -> Result<u64, Refusal>
 {
     grammar_refusal(file)?;
     room_refusal(out)?;
-    let n = usize::from(categories(file));
-    write_figures(file, &mut out[0..n]);
-    Ok(u64::from(categories(file)))
+    let n = categories(file);
+    write_figures(file, &mut out[0..usize::from(n)]);
+    Ok(u64::from(n))
 }
 
 // The figures of an accepted file, one for each category.
