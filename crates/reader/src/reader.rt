@@ -10,7 +10,7 @@ use crate::blocks::{
 use crate::heading::wrong_heading;
 use grammar::{dimensions, rules, words};
 use model::Refusal;
-use rule_tests::{Layout, rules_refusal};
+use rule_tests::{Layout, Records, rules_refusal};
 
 // The tests of the rules, and of the rest of the last block.
 fn from_rules(file: &[u8]) -> Result<(), Refusal>
@@ -18,7 +18,11 @@ fn from_rules(file: &[u8]) -> Result<(), Refusal>
     ensures { result ≡ tested (from_rules file.now) }
 {
     let n = rules(file);
-    rules_refusal(dimensions(file), words(file), file, Layout::Blocks, n)?;
+    let records = Records {
+        bytes: file,
+        layout: Layout::Blocks,
+    };
+    rules_refusal(dimensions(file), words(file), &records, n)?;
     if wrong_rest(file) {
         return Err(Refusal::Grammar(9, n));
     }

@@ -3,44 +3,41 @@ ghost use Rattle.std.specs.Prelude.{◌≡◌};
 ghost use Rattle.model.specs.Calls.{write_verdict, write_output};
 ghost use Rattle.model.specs.Verdict.{tested};
 ghost use Rattle.model.specs.Writer.{writer_refusal};
-ghost use Rattle.writer.specs.Writing.{heading};
+ghost use Rattle.writer.specs.Writing.{heading, heading_given};
 
 use crate::blocks::put_file;
+use crate::given::Given;
 use crate::heading::wrong_numbers;
 use grammar::fields;
 use model::Refusal;
 use reader::blocks_for;
-use rule_tests::{Layout, rules_refusal};
+use rule_tests::{Layout, Records, rules_refusal};
 
 // Refusals 4 to 10 of what is given.
-fn given_refusal(
-    categories: u8,
-    start: u8,
-    words: u16,
-    rules: u16,
-    dimensions: &[u8],
-    records: &[u8],
-) -> Result<(), Refusal>
-    ensures { result ≡ tested (writer_refusal (heading categories start words rules dimensions.now) records.now) }
+fn given_refusal(given: &Given) -> Result<(), Refusal>
+    ensures { result ≡ tested (writer_refusal (heading_given given.now) given.now.records.now) }
 {
-    if dimensions.len() != 64 {
+    if given.dimensions.len() != 64 {
         return Err(Refusal::Grammar(4, 0));
     }
-    if 256 < rules {
+    if 256 < given.rules {
         return Err(Refusal::Grammar(4, 0));
     }
-    if wrong_numbers(categories, start, words, rules, dimensions) {
+    if wrong_numbers(given) {
         return Err(Refusal::Grammar(4, 0));
     }
-    if records.len() != 24 * (rules as usize) {
+    if given.records.len() != 24 * usize::from(given.rules) {
         return Err(Refusal::Grammar(5, 0));
     }
+    let records = Records {
+        bytes: given.records,
+        layout: Layout::Packed,
+    };
     rules_refusal(
-        fields(dimensions, 0, categories as usize),
-        words,
-        records,
-        Layout::Packed,
-        rules,
+        fields(given.dimensions, 0, usize::from(given.categories)),
+        given.words,
+        &records,
+        given.rules,
     )
 }
 
@@ -56,7 +53,15 @@ pub fn write_grammar(
 ) -> Result<u64, Refusal>
     ensures { (result ≡ write_verdict (heading categories start words rules dimensions.now) records.now out.old) × (out.new ≡ write_output (heading categories start words rules dimensions.now) records.now out.old) }
 {
-    given_refusal(categories, start, words, rules, dimensions, records)?;
+    let given = Given {
+        categories,
+        start,
+        words,
+        rules,
+        dimensions,
+        records,
+    };
+    given_refusal(&given)?;
     let n = 512 * blocks_for(rules);
     if out.len() < n {
         return Err(Refusal::Desk(23, 0));
