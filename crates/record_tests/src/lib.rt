@@ -11,7 +11,7 @@ use grammar::{
     dimension_in, few_zeros, fields, occurrences, record_category, record_daughter,
     record_daughters, record_word, total, variables, zeros,
 };
-use model::{EMPTY_WORD, Category, Refusal, RuleNumber};
+use model::{Category, EMPTY_WORD, Refusal, RuleNumber};
 
 // Whether there is no such category.
 fn no_category(dimensions: &[u8], a: Category) -> bool

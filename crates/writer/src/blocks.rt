@@ -47,7 +47,10 @@ fn rule_byte(rules: u16, records: &[u8], k: u16, i: usize) -> u8
     ensures { result ≡ get_or (rule_content rules records.now k) i 0 }
 {
     if 4 <= i {
-        return byte(fields(records, 504 * usize::from(k).saturating_sub(1), 504), i - 4);
+        return byte(
+            fields(records, 504 * usize::from(k).saturating_sub(1), 504),
+            i - 4,
+        );
     }
     let k0 = (k % 256) as u8;
     let k1 = (k / 256 % 256) as u8;

@@ -3,7 +3,7 @@ ghost use Rattle.std.specs.Prelude.{◌≡◌};
 ghost use Rattle.model.specs.Calls.{write_verdict, write_output};
 ghost use Rattle.model.specs.Verdict.{tested};
 ghost use Rattle.model.specs.Writer.{writer_refusal};
-ghost use Rattle.writer.specs.Writing.{heading, heading_given};
+ghost use Rattle.writer.specs.Writing.{heading};
 
 use crate::blocks::put_file;
 use crate::given::Given;
@@ -13,31 +13,40 @@ use model::Refusal;
 use reader::blocks_for;
 use rule_tests::{Layout, Records, rules_refusal};
 
-// Refusals 4 to 10 of what is given.
-fn given_refusal(given: &Given) -> Result<(), Refusal>
-    ensures { result ≡ tested (writer_refusal (heading_given given.now) given.now.records.now) }
+// Refusals 4 to 10 of what is given. It is given in parts: of slices in a struct the proof does not know that they are bytes.
+fn given_refusal(
+    categories: u8,
+    start: u8,
+    words: u16,
+    rules: u16,
+    dimensions: &[u8],
+    records: &[u8],
+) -> Result<(), Refusal>
+    ensures { result ≡ tested (writer_refusal (heading categories start words rules dimensions.now) records.now) }
 {
-    if given.dimensions.len() != 64 {
+    let given = Given {
+        categories,
+        start,
+        words,
+        rules,
+        dimensions,
+        records,
+    };
+    if dimensions.len() != 64 || 256 < rules || wrong_numbers(&given) {
         return Err(Refusal::Grammar(4, 0));
     }
-    if 256 < given.rules {
-        return Err(Refusal::Grammar(4, 0));
-    }
-    if wrong_numbers(given) {
-        return Err(Refusal::Grammar(4, 0));
-    }
-    if given.records.len() != 24 * usize::from(given.rules) {
+    if records.len() != 24 * usize::from(rules) {
         return Err(Refusal::Grammar(5, 0));
     }
-    let records = Records {
-        bytes: given.records,
+    let packed = Records {
+        bytes: records,
         layout: Layout::Packed,
     };
     rules_refusal(
-        fields(given.dimensions, 0, usize::from(given.categories)),
-        given.words,
-        &records,
-        given.rules,
+        fields(dimensions, 0, usize::from(categories)),
+        words,
+        &packed,
+        rules,
     )
 }
 
@@ -53,15 +62,7 @@ pub fn write_grammar(
 ) -> Result<u64, Refusal>
     ensures { (result ≡ write_verdict (heading categories start words rules dimensions.now) records.now out.old) × (out.new ≡ write_output (heading categories start words rules dimensions.now) records.now out.old) }
 {
-    let given = Given {
-        categories,
-        start,
-        words,
-        rules,
-        dimensions,
-        records,
-    };
-    given_refusal(&given)?;
+    given_refusal(categories, start, words, rules, dimensions, records)?;
     let n = 512 * blocks_for(rules);
     if out.len() < n {
         return Err(Refusal::Desk(23, 0));
