@@ -1,7 +1,7 @@
 -- An order of the daughters as the list of the positions that they come to.
 -- Assumes nothing.
-use Rattle.std.specs.Prelude.{List, [], ◌∷◌, ℕ}
-use Rattle.doubles.specs.declared.Order.{Order}
+use Rattle.std.specs.Prelude.{List, ℕ}
+use Rattle.doubles.specs.declared.order.Order.{Order}
 
 abbrev pub positions : Order → List ℕ
-positions order = order.0 ∷ order.1 ∷ order.2 ∷ []
+positions order = order.0

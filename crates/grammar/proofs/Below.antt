@@ -1,11 +1,13 @@
--- A test of some, or of all, of the numbers below n: one number further, and at a number that decides.
+-- A test of some, or of all, of the numbers below n: one number further, at a number that decides, and in the library's words for what a range gives.
 -- Assumes nothing.
 use mathlib.Core.Path.{◌≡◌, refl, sym, ap, ◌∙◌}
 use mathlib.Core.Bool.{Bool, true, false, ◌&&◌, ◌||◌}
 use Prim.Native.Nat.{ℕ, zero, suc, ◌+◌, ◌<◌}
+use native.Mathlib.Nat.{add-zero, zero-add}
 use native.Mathlib.Omega.{arith}
 use native.Mathlib.Decide.{ℕ_discrete}
 use native.Mathlib.Numerals.{add-one}
+use Rattle.std.specs.List.{range_with_len, list_all, list_any}
 use Rattle.model.specs.Base.{any_below, all_below}
 use Rattle.grammar.proofs.Walks.{and_none}
 
@@ -43,3 +45,40 @@ module _ (test : ℕ → Bool) where
       go : Dec (k ≡ n) → (k < n → all_below test n ≡ false) → all_below test n && test n ≡ false
       go (yes e) ih = ap (λ (m : ℕ). all_below test n && test m) (sym e) ∙ and_none (all_below test n) t
       go (no d) ih = rw (ih (omega arith))
+
+  -- n numbers from a on, the last one apart
+  all_range : (a n : ℕ) → list_all test (range_with_len a (suc n)) ≡ list_all test (range_with_len a n) && test (a + n)
+  all_range a zero = rw (add-zero a) (and_true (test a))
+    where
+      and_true : (b : Bool) → b && true ≡ b
+      and_true true = refl
+      and_true false = refl
+  all_range a (suc n) =
+      let at : a + 1 + n ≡ a + suc n = omega arith in
+      ap (λ (b : Bool). test a && b) (all_range (a + 1) n) ∙ rw at (regroup (test a) (list_all test (range_with_len (a + 1) n)) (test (a + suc n)))
+    where
+      regroup : (x y z : Bool) → x && (y && z) ≡ (x && y) && z
+      regroup true y z = refl
+      regroup false y z = refl
+
+  any_range : (a n : ℕ) → list_any test (range_with_len a (suc n)) ≡ list_any test (range_with_len a n) || test (a + n)
+  any_range a zero = rw (add-zero a) (or_false (test a))
+    where
+      or_false : (b : Bool) → b || false ≡ b
+      or_false true = refl
+      or_false false = refl
+  any_range a (suc n) =
+      let at : a + 1 + n ≡ a + suc n = omega arith in
+      ap (λ (b : Bool). test a || b) (any_range (a + 1) n) ∙ rw at (regroup (test a) (list_any test (range_with_len (a + 1) n)) (test (a + suc n)))
+    where
+      regroup : (x y z : Bool) → x || (y || z) ≡ (x || y) || z
+      regroup true y z = refl
+      regroup false y z = refl
+
+  pub all_below_is : (n : ℕ) → list_all test (range_with_len 0 n) ≡ all_below test n
+  all_below_is zero = refl
+  all_below_is (suc n) = all_range 0 n ∙ rw (zero-add n, all_below_is n)
+
+  pub any_below_is : (n : ℕ) → list_any test (range_with_len 0 n) ≡ any_below test n
+  any_below_is zero = refl
+  any_below_is (suc n) = any_range 0 n ∙ rw (zero-add n, any_below_is n)

@@ -1,4 +1,4 @@
--- A list walked from the front, one element further: what a test of all, a sum, a count and a comparison say of what is left.
+-- A list walked from the front, one element further: what a test of all and a sum say of what is left; and the first elements of two lists compared.
 -- Assumes nothing.
 use mathlib.Core.Path.{◌≡◌, refl, sym, ap, ◌∙◌}
 use mathlib.Core.Bool.{Bool, true, false, ◌&&◌}
@@ -7,11 +7,11 @@ use Prim.Native.Nat.{ℕ, zero, suc, ◌+◌, ◌*◌, ◌<◌, ◌≤◌}
 use native.Mathlib.Omega.{arith}
 use native.Mathlib.Numerals.{add-one}
 use native.Mathlib.Decide.{ℕ_discrete}
-use borrow.Author.Tests.{eq-eqb, ne_eqb}
+use borrow.Author.Tests.{ne_eqb}
 use lib.Dec.{eqb}
 use lib.ListN.{length, get_or, take, drop, drop_of_length-le}
 use lib.Seq.{drop-cons}
-use Rattle.model.specs.Base.{every, occurrences, total, same_list}
+use Rattle.model.specs.Base.{every, total, same_list}
 use Rattle.model.specs.GrammarFile.{weighted}
 use Rattle.model.proofs.Tests.{not_both}
 
@@ -26,14 +26,8 @@ module _ (test : ℕ → Bool) (l : List ℕ) (i : ℕ) where
   pub every_end : length l ≤ i → every test (drop i l) ≡ true
   every_end h = rw (drop_of_length-le l {i = i} h)
 
--- sums
+-- a weighted sum
 module _ (l : List ℕ) (i : ℕ) where
-  pub total_more : i < length l → total (drop i l) ≡ get_or l i 0 + total (drop (i + 1) l)
-  total_more h = rw (add-one, drop-cons l i 0 h)
-
-  pub total_end : length l ≤ i → total (drop i l) ≡ 0
-  total_end h = rw (drop_of_length-le l {i = i} h)
-
   pub weighted_more : i < length l → weighted (i + 1) (drop i l) ≡ (i + 1) * get_or l i 0 + weighted (i + 1 + 1) (drop (i + 1) l)
   weighted_more h = rw (add-one (i + 1), add-one i, drop-cons l i 0 h)
 
@@ -74,42 +68,9 @@ module _ (f : ℕ → ℕ) (l : List ℕ) (i : ℕ) where
   pub sum_end : length l ≤ i → total (map f (drop i l)) ≡ 0
   sum_end h = rw (drop_of_length-le l {i = i} h)
 
--- how often x occurs
-module _ (x : ℕ) (l : List ℕ) (i : ℕ) where
-  pub found_here : i < length l → x ≡ get_or l i 0 → occurrences x (drop i l) ≡ 1 + occurrences x (drop (i + 1) l)
-  found_here h e = rw (add-one, drop-cons l i 0 h) (rw (eq-eqb x (get_or l i 0) e))
-
-  pub found_later : i < length l → (x ≡ get_or l i 0 → ⊥) → occurrences x (drop i l) ≡ occurrences x (drop (i + 1) l)
-  found_later h e = rw (add-one, drop-cons l i 0 h) (rw (ne_eqb x (get_or l i 0) e) (omega arith))
-
-  pub found_end : length l ≤ i → occurrences x (drop i l) ≡ 0
-  found_end h = rw (drop_of_length-le l {i = i} h)
-
--- two lists compared
-module _ (a b : List ℕ) (i : ℕ) where
-  pub same_here : i < length a → i < length b → get_or a i 0 ≡ get_or b i 0 → same_list (drop i a) (drop i b) ≡ same_list (drop (i + 1) a) (drop (i + 1) b)
-  same_here h k e = rw (add-one, drop-cons a i 0 h, drop-cons b i 0 k) (rw (eq-eqb (get_or a i 0) (get_or b i 0) e))
-
-  pub differs_here : i < length a → i < length b → (get_or a i 0 ≡ get_or b i 0 → ⊥) → same_list (drop i a) (drop i b) ≡ false
-  differs_here h k e = rw (drop-cons a i 0 h, drop-cons b i 0 k) (rw (ne_eqb (get_or a i 0) (get_or b i 0) e))
-
-  pub same_end : length a ≤ i → length b ≤ i → same_list (drop i a) (drop i b) ≡ true
-  same_end h k = rw (drop_of_length-le a {i = i} h, drop_of_length-le b {i = i} k)
-
 pub and_none : (t : Bool) {b : Bool} → b ≡ false → t && b ≡ false
 and_none true e = e
 and_none false e = refl
-
--- a test of all so far, t, and of the rest: at the end no rest is left
-pub none_left : (t : Bool) {all rest : Bool} → all ≡ t && rest → rest ≡ true → t ≡ all
-none_left true e f = sym (e ∙ f)
-none_left false e f = sym e
-
-pub same_length : (a b : List ℕ) → (length a ≡ length b → ⊥) → same_list a b ≡ false
-same_length [] [] d = absurd (d refl)
-same_length [] (y ∷ b) d = refl
-same_length (x ∷ a) [] d = refl
-same_length (x ∷ a) (y ∷ b) d = and_none (eqb x y) (same_length a b (λ e. d (ap suc e)))
 
 -- the first n elements compared: they differ if they do at a place below n, and where they are the same they are so at each
 pub differ_at : (n : ℕ) (a b : List ℕ) (i : ℕ) → i < n → (get_or a i 0 ≡ get_or b i 0 → ⊥) → same_list (take n a) (take n b) ≡ false

@@ -6,7 +6,7 @@ ghost use Rattle.model.specs.GrammarFile.{fields};
 pub fn byte(bytes: &[u8], i: usize) -> u8
     ensures { result ≡ get_or bytes.now i 0 }
 {
-    if i < bytes.len() { bytes[i] } else { 0 }
+    bytes.get(i).copied().unwrap_or(0)
 }
 
 // The number of the 2 bytes at i, little-endian.
@@ -14,7 +14,7 @@ pub fn two_bytes(bytes: &[u8], i: usize) -> u16
     ensures { result ≡ get_or bytes.now i 0 + 256 * get_or bytes.now (i + 1) 0 }
 {
     if i < bytes.len() {
-        byte(bytes, i) as u16 + 256 * (byte(bytes, i + 1) as u16)
+        u16::from_le_bytes([bytes[i], byte(bytes, i + 1)])
     } else {
         0
     }
@@ -25,7 +25,7 @@ pub fn four_bytes(bytes: &[u8], i: usize) -> u32
     ensures { result ≡ (get_or bytes.now i 0 + 256 * get_or bytes.now (i + 1) 0) + 65536 * (get_or bytes.now (i + 2) 0 + 256 * get_or bytes.now (i + 3) 0) }
 {
     if i < bytes.len() {
-        two_bytes(bytes, i) as u32 + 65536 * (two_bytes(bytes, i + 2) as u32)
+        u32::from(two_bytes(bytes, i)) + 65536 * u32::from(two_bytes(bytes, i + 2))
     } else {
         0
     }
@@ -35,19 +35,13 @@ pub fn four_bytes(bytes: &[u8], i: usize) -> u32
 pub fn fields(bytes: &[u8], i: usize, n: usize) -> &[u8]
     ensures { result.now ≡ fields bytes.now i n }
 {
-    let end = bytes.len();
-    if end <= i {
-        return &bytes[end..];
-    }
-    if end - i <= n {
-        return &bytes[i..];
-    }
-    &bytes[i..i + n]
+    let rest = &bytes[bytes.len().min(i)..];
+    &rest[..rest.len().min(n)]
 }
 
 // a less b, or 0 where b is greater.
 pub fn less(a: usize, b: usize) -> usize
     ensures { result ≡ a - b }
 {
-    if b <= a { a - b } else { 0 }
+    a.saturating_sub(b)
 }

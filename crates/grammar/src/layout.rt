@@ -4,6 +4,7 @@ ghost use Rattle.std.specs.Prelude.{◌≡◌, ◌+◌, ◌≤◌};
 ghost use Rattle.model.specs.GrammarFile.{categories_of, start_of, words_of, rules_of, dimensions_of, dimension_in, record_place, record_of, field};
 
 use crate::bytes::{byte, fields, two_bytes};
+use crate::records::dimension_in;
 use model::{Category, MOST_RULES, RuleNumber};
 
 // The number of categories, C.
@@ -38,34 +39,28 @@ pub fn rules(file: &[u8]) -> u16
 pub fn rules_held(file: &[u8]) -> u16
     ensures { (result ≤ 256) × (rules_of file.now ≤ 256 → result ≡ rules_of file.now) }
 {
-    let n = rules(file);
-    let most = MOST_RULES as u16;
-    if n <= most { n } else { most }
+    rules(file).min(MOST_RULES as u16)
 }
 
 // The dimensions of the categories, one byte each.
 pub fn dimensions(file: &[u8]) -> &[u8]
     ensures { result.now ≡ dimensions_of file.now }
 {
-    fields(file, 16, categories(file) as usize)
+    fields(file, 16, usize::from(categories(file)))
 }
 
 // The dimension of a category, 0 where there is no such category.
 pub fn dimension(file: &[u8], a: Category) -> u8
     ensures { result ≡ dimension_in (dimensions_of file.now) a.0 }
 {
-    if a.0 < categories(file) {
-        byte(file, 16 + a.0 as usize)
-    } else {
-        0
-    }
+    dimension_in(dimensions(file), a)
 }
 
 // Where the record of a rule begins.
 pub fn record_place(r: RuleNumber) -> usize
     ensures { result ≡ record_place r.0 }
 {
-    let i = r.0 as usize;
+    let i = usize::from(r.0);
     512 * (1 + i / 21) + 4 + 24 * (i % 21)
 }
 
@@ -80,12 +75,5 @@ pub fn record_of(file: &[u8], r: RuleNumber) -> &[u8]
 pub fn record_byte(file: &[u8], r: RuleNumber, start: u8, k: usize) -> u8
     ensures { result ≡ field (record_of file.now r.0) (start + k) }
 {
-    if 24 <= k {
-        return 0;
-    }
-    let i = start as usize + k;
-    if 24 <= i {
-        return 0;
-    }
-    byte(file, record_place(r) + i)
+    byte(record_of(file, r), k.saturating_add(usize::from(start)))
 }

@@ -13,6 +13,7 @@ pub use layout::{
 };
 pub use lists::{block_check, few_zeros, occurrences, same_bytes, total, zeros};
 pub use records::{
-    dimension_in, record_category, record_daughter, record_daughters, record_word, variables,
+    daughters_of, dimension_in, record_category, record_daughter, record_daughters, record_word,
+    variables,
 };
 pub use rule::{category_of, daughter, daughter_count, weight_of};

@@ -10,12 +10,8 @@ fn all_zero(bytes: &[u8]) -> bool
     ensures { result ≡ all_zero bytes.now }
 {
     let mut zero = true;
-    let mut i: usize = 0;
-    while i < bytes.len() {
-        if bytes[i] != 0 {
-            zero = false;
-        }
-        i += 1;
+    for b in bytes {
+        zero &= *b == 0;
     }
     zero
 }
@@ -24,14 +20,7 @@ fn all_zero(bytes: &[u8]) -> bool
 fn none_set(bytes: &[u8]) -> bool
     ensures { result ≡ all_zero bytes.now }
 {
-    let mut i: usize = 0;
-    while i < bytes.len() {
-        if bytes[i] != 0 {
-            return false;
-        }
-        i += 1;
-    }
-    true
+    bytes.iter().all(|b| *b == 0)
 }
 
 // Whether n bytes from byte i on are 0.
@@ -53,28 +42,14 @@ pub fn total(bytes: &[u8]) -> u32
     requires { length bytes.now < 65536 }
     ensures { result ≡ total bytes.now }
 {
-    let mut sum: u32 = 0;
-    let mut i: usize = 0;
-    while i < bytes.len() {
-        sum += bytes[i] as u32;
-        i += 1;
-    }
-    sum
+    bytes.iter().map(|b| u32::from(*b)).sum()
 }
 
 // How often x is among the bytes.
 pub fn occurrences(x: usize, bytes: &[u8]) -> usize
     ensures { result ≡ occurrences x bytes.now }
 {
-    let mut found: usize = 0;
-    let mut i: usize = 0;
-    while i < bytes.len() {
-        if x == bytes[i] as usize {
-            found += 1;
-        }
-        i += 1;
-    }
-    found
+    bytes.iter().filter(|b| usize::from(**b) == x).count()
 }
 
 // The check of a part of a block, which no file has: byte by byte.
@@ -83,10 +58,8 @@ fn part_check(bytes: &[u8]) -> u32
     ensures { result ≡ weighted 1 bytes.now }
 {
     let mut sum: u32 = 0;
-    let mut i: usize = 0;
-    while i < bytes.len() {
-        sum += (i as u32 + 1) * (bytes[i] as u32);
-        i += 1;
+    for (i, b) in bytes.iter().enumerate() {
+        sum += (i as u32 + 1) * u32::from(*b);
     }
     sum
 }
@@ -106,7 +79,7 @@ fn taken(lane: Lane, x: u8) -> Lane
     requires { (lane.sum ≤ 32130) × (lane.sums ≤ 4112895) }
     ensures { (result.sum ≡ lane.sum + x) × (result.sums ≡ lane.sums + (lane.sum + x)) × (x < 256) }
 {
-    let sum = lane.sum + x as u32;
+    let sum = lane.sum + u32::from(x);
     Lane {
         sum,
         sums: lane.sums + sum,
@@ -130,36 +103,18 @@ pub fn block_check(block: &[u8]) -> u32
     if summed.len() < 508 {
         return part_check(summed);
     }
-    let mut first = Lane { sum: 0, sums: 0 };
-    let mut second = Lane { sum: 0, sums: 0 };
-    let mut third = Lane { sum: 0, sums: 0 };
-    let mut fourth = Lane { sum: 0, sums: 0 };
-    let mut turn: usize = TURNS;
-    while 0 < turn {
-        turn -= 1;
-        let i = 4 * turn;
-        first = taken(first, summed[i]);
-        second = taken(second, summed[i + 1]);
-        third = taken(third, summed[i + 2]);
-        fourth = taken(fourth, summed[i + 3]);
+    let mut lanes = [Lane { sum: 0, sums: 0 }; 4];
+    for turn in (0..TURNS).rev() {
+        for place in 0..4 {
+            lanes[place] = taken(lanes[place], summed[4 * turn + place]);
+        }
     }
-    added(first, 3) + added(second, 2) + added(third, 1) + added(fourth, 0)
+    added(lanes[0], 3) + added(lanes[1], 2) + added(lanes[2], 1) + added(lanes[3], 0)
 }
 
 // Whether two lists of bytes are the same. Like `all_zero`, it has no way out of its loop.
 pub fn same_bytes(a: &[u8], b: &[u8]) -> bool
     ensures { result ≡ same_list a.now b.now }
 {
-    if a.len() != b.len() {
-        return false;
-    }
-    let mut same = true;
-    let mut i: usize = 0;
-    while i < a.len() {
-        if a[i] != b[i] {
-            same = false;
-        }
-        i += 1;
-    }
-    same
+    a == b
 }

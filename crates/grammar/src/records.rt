@@ -1,6 +1,6 @@
 // The fields of a record, which is a list of bytes that may stand anywhere.
 ghost use Rattle.std.specs.Prelude.{◌≡◌, ◌+◌};
-ghost use Rattle.model.specs.GrammarFile.{field, word_of, dimension_in, variables};
+ghost use Rattle.model.specs.GrammarFile.{field, daughters_of, word_of, dimension_in, variables};
 
 use crate::bytes::{byte, fields, two_bytes};
 use model::{Category, Word};
@@ -19,14 +19,18 @@ pub fn record_daughters(e: &[u8]) -> u8
     byte(e, 1)
 }
 
+// The categories of the daughters, one byte each.
+pub fn daughters_of(e: &[u8]) -> &[u8]
+    ensures { result.now ≡ daughters_of e.now }
+{
+    fields(e, 2, usize::from(record_daughters(e)))
+}
+
 // The category of the daughter at position j.
 pub fn record_daughter(e: &[u8], j: usize) -> Category
     ensures { result.0 ≡ field e.now (2 + j) }
 {
-    if j < e.len() {
-        return Category(byte(e, 2 + j));
-    }
-    Category(0)
+    Category(byte(e, j.saturating_add(2)))
 }
 
 // The rule's word.
@@ -40,19 +44,15 @@ pub fn record_word(e: &[u8]) -> Word
 pub fn dimension_in(dimensions: &[u8], a: Category) -> u8
     ensures { result ≡ dimension_in dimensions.now a.0 }
 {
-    byte(dimensions, a.0 as usize)
+    byte(dimensions, usize::from(a.0))
 }
 
 // How many variables the daughters have.
 pub fn variables(dimensions: &[u8], e: &[u8]) -> u16
     ensures { result ≡ variables dimensions.now e.now }
 {
-    let daughters = fields(e, 2, record_daughters(e) as usize);
-    let mut sum: u16 = 0;
-    let mut j: usize = 0;
-    while j < daughters.len() {
-        sum += dimension_in(dimensions, Category(daughters[j])) as u16;
-        j += 1;
-    }
-    sum
+    daughters_of(e)
+        .iter()
+        .map(|a| u16::from(dimension_in(dimensions, Category(*a))))
+        .sum()
 }

@@ -1,2 +1,1 @@
 pub mod BlockTests
-pub mod HeadingTests

@@ -4,12 +4,14 @@
 use Rattle.std.specs.Prelude.{ℕ, ◌+◌, ◌-◌, Bool, ◌&&◌, List, ltb, eqb}
 use Rattle.std.proofs.Math.Option.{Option}
 use Rattle.model.specs.declared.Refusal.{Refusal}
-use Rattle.reader.specs.declared.blocks.BlockTest.{BlockTest}
-use Rattle.reader.specs.declared.blocks.BlockTest.TheVariants.{Check, Kind, Count}
 use Rattle.model.specs.Base.{◌or_else◌, first_from}
 use Rattle.model.specs.Verdict.{refuse_if}
 use Rattle.rule_tests.specs.Rules.{rules_refusal}
 use Rattle.model.specs.GrammarFile.{within, all_zero, fields, categories_of, start_of, words_of, dimensions_of, dimension_in, blocks, wrong_check, wrong_block, wrong_heading, wrong_blocks, wrong_count, wrong_rest, record_of, rules_of}
+
+-- the tests of a block: of its check, of its number and its kind, and of the record count of a rule block
+pub data BlockTest : Type 0 where
+  Check Kind Count : BlockTest
 
 -- the number of the refusal that a test of a block gives: "2 check wrong", "3 block number or kind", "5 number of blocks or a record count"
 abbrev pub test_number : BlockTest → ℕ

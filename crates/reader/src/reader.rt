@@ -4,11 +4,13 @@ ghost use Rattle.model.specs.Verdict.{verdict, tested};
 ghost use Rattle.model.specs.GrammarFile.{blocks, rules_of, grammar_refusal};
 ghost use Rattle.reader.specs.Reading.{from_rules, from_counts, from_blocks};
 
-use crate::blocks::{BlockTest, blocks_refusal, wrong_blocks, wrong_length, wrong_rest};
+use crate::blocks::{
+    blocks_refusal, wrong_block, wrong_blocks, wrong_check, wrong_count, wrong_length, wrong_rest,
+};
 use crate::heading::wrong_heading;
 use grammar::{dimensions, rules, words};
 use model::Refusal;
-use rule_tests::{Layout, rules_refusal};
+use rule_tests::{Layout, Records, rules_refusal};
 
 // The tests of the rules, and of the rest of the last block.
 fn from_rules(file: &[u8]) -> Result<(), Refusal>
@@ -16,7 +18,11 @@ fn from_rules(file: &[u8]) -> Result<(), Refusal>
     ensures { result ≡ tested (from_rules file.now) }
 {
     let n = rules(file);
-    rules_refusal(dimensions(file), words(file), file, Layout::Blocks, n)?;
+    let records = Records {
+        bytes: file,
+        layout: Layout::Blocks,
+    };
+    rules_refusal(dimensions(file), words(file), &records, n)?;
     if wrong_rest(file) {
         return Err(Refusal::Grammar(9, n));
     }
@@ -31,7 +37,7 @@ fn from_counts(file: &[u8], n: u16) -> Result<(), Refusal>
     if wrong_blocks(file) {
         return Err(Refusal::Grammar(5, 0));
     }
-    blocks_refusal(file, BlockTest::Count, 1, n)?;
+    blocks_refusal(1, n, 5, |k| wrong_count(file, k))?;
     from_rules(file)
 }
 
@@ -40,8 +46,8 @@ fn from_blocks(file: &[u8], n: u16) -> Result<(), Refusal>
     requires { n ≡ blocks file.now }
     ensures { result ≡ tested (from_blocks file.now) }
 {
-    blocks_refusal(file, BlockTest::Check, 0, n)?;
-    blocks_refusal(file, BlockTest::Kind, 0, n)?;
+    blocks_refusal(0, n, 2, |k| wrong_check(file, k))?;
+    blocks_refusal(0, n, 3, |k| wrong_block(file, k))?;
     if wrong_heading(file) {
         return Err(Refusal::Grammar(4, 0));
     }
@@ -63,5 +69,5 @@ pub fn read_grammar(file: &[u8]) -> Result<u64, Refusal>
     ensures { result ≡ verdict (grammar_refusal file.now) (rules_of file.now) }
 {
     grammar_refusal(file)?;
-    Ok(rules(file) as u64)
+    Ok(u64::from(rules(file)))
 }

@@ -4,7 +4,7 @@ ghost use Rattle.model.specs.GrammarFile.{field, repeated};
 ghost use Rattle.rule_tests.specs.Chains.{hash_sum, hash_of, InChain};
 ghost use Rattle.rule_tests.specs.Layout.{record_in};
 
-use crate::layout::{Layout, record_in};
+use crate::layout::Records;
 use doubles::same_rule;
 use grammar::byte;
 use model::{MOST_RULES, RuleNumber};
@@ -16,7 +16,7 @@ pub const HASHES: usize = 256;
 fn wide(e: &[u8], i: usize) -> u16
     ensures { (result ≡ field e.now i) × (result < 256) }
 {
-    byte(e, i) as u16
+    u16::from(byte(e, i))
 }
 
 // The sum that the hash of a record is made of.
@@ -40,7 +40,7 @@ pub fn enter(table: &mut [u16; HASHES], h: u8, r: RuleNumber) -> u16
     requires { r.0 < 256 }
     ensures { (result ≡ get_or table.old h 0) × (table.new ≡ set table.old h (r.0 + 1)) }
 {
-    let i = h as usize;
+    let i = usize::from(h);
     let before = table[i];
     table[i] = r.0 + 1;
     before
@@ -51,24 +51,19 @@ fn earlier(chain: &[u16; MOST_RULES], r: RuleNumber) -> u16
     requires { r.0 < 256 }
     ensures { result ≡ get_or chain.now r.0 0 }
 {
-    chain[r.0 as usize]
+    chain[usize::from(r.0)]
 }
 
 // Refusal 10: rule r, whose record is e, is an earlier one, its weight and the order of its daughters aside. It is compared with those of its chain.
-pub fn repeated_rule(
-    bytes: &[u8],
-    layout: Layout,
-    chain: &[u16; MOST_RULES],
-    e: &[u8],
-    r: RuleNumber,
-) -> bool
-    requires { InChain (record_in layout bytes.now) r.0 chain.now e.now }
-    ensures { result ≡ repeated (record_in layout bytes.now) r.0 }
+pub fn repeated_rule(records: &Records, chain: &[u16; MOST_RULES], e: &[u8], r: RuleNumber) -> bool
+    requires { InChain (record_in records.now.layout records.now.bytes.now) r.0 chain.now e.now }
+    ensures { result ≡ repeated (record_in records.now.layout records.now.bytes.now) r.0 }
 {
+    // A loop along the chain, which ends because its numbers fall.
     let mut next = earlier(chain, r);
     while 0 < next {
         let j = next - 1;
-        if same_rule(record_in(bytes, layout, RuleNumber(j)), e) {
+        if same_rule(records.record(RuleNumber(j)), e) {
             return true;
         }
         next = earlier(chain, RuleNumber(j));

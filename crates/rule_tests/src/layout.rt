@@ -1,6 +1,5 @@
 // Where the records stand.
 ghost use Rattle.std.specs.Prelude.{◌≡◌};
-ghost use Rattle.rule_tests.specs.Layout.{record_in};
 
 use grammar::{fields, record_of};
 use model::RuleNumber;
@@ -12,12 +11,23 @@ pub enum Layout {
     Packed,
 }
 
-// The record of rule r.
-pub fn record_in(bytes: &[u8], layout: Layout, r: RuleNumber) -> &[u8]
-    ensures { result.now ≡ record_in layout bytes.now r.0 }
-{
-    match layout {
-        Layout::Blocks => record_of(bytes, r),
-        Layout::Packed => fields(bytes, 24 * (r.0 as usize), 24),
+// Bytes in which records stand, and how they do.
+#[derive(Clone, Copy)]
+pub struct Records<'a> {
+    pub bytes: &'a [u8],
+    pub layout: Layout,
+}
+
+impl<'a> Records<'a> {
+    ghost use Rattle.rule_tests.specs.Layout.{record_in};
+
+    // The record of rule r.
+    pub fn record(&self, r: RuleNumber) -> &'a [u8]
+        ensures { result.now ≡ record_in self.now.layout self.now.bytes.now r.0 }
+    {
+        match self.layout {
+            Layout::Blocks => record_of(self.bytes, r),
+            Layout::Packed => fields(self.bytes, 24 * usize::from(r.0), 24),
+        }
     }
 }

@@ -5,5 +5,5 @@ mod chain;
 mod layout;
 mod rules;
 
-pub use layout::Layout;
+pub use layout::{Layout, Records};
 pub use rules::rules_refusal;

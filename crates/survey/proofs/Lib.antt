@@ -1,5 +1,4 @@
 pub mod Ready
 pub mod Visit
 pub mod Rounds
-pub mod Cleared
 pub mod Outcome

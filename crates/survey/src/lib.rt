@@ -8,29 +8,18 @@ ghost use Rattle.model.specs.Calls.{SurveyOutcome};
 ghost use Rattle.model.specs.Survey.{ready, visit, survey_round, survey};
 
 use buffers::{number_at, room_refusal};
-use grammar::categories;
+use grammar::{categories, category_of, daughters_of, record_of, rules};
 use model::{Refusal, RuleNumber};
 use reader::grammar_refusal;
 
 // Every daughter of the rule has a figure, below that of the round.
 fn daughters_ready(file: &[u8], figures: &[u16], r: RuleNumber, round: u16) -> bool
-    requires { (grammar_refusal file.now ≡ none) × (r.0 < rules_of file.now) }
     ensures { result ≡ ready round figures.now (daughters_of (record_of file.now r.0)) }
 {
-    let n = grammar::daughter_count(file, r) as usize;
-    let mut j: usize = 0;
-    while j < n {
-        let a = grammar::daughter(file, r, j);
-        let x = number_at(figures, a.0 as usize);
-        if x == 0 {
-            return false;
-        }
-        if round <= x {
-            return false;
-        }
-        j += 1;
-    }
-    true
+    daughters_of(record_of(file, r)).iter().all(|a| {
+        let x = number_at(figures, usize::from(*a));
+        0 < x && x < round
+    })
 }
 
 // A visit to rule r: its category gets the figure of the round if it has none and the daughters are ready. Says whether it got one.
@@ -38,16 +27,12 @@ fn visit_rule(file: &[u8], figures: &mut [u16], r: RuleNumber, round: u16) -> bo
     requires { (grammar_refusal file.now ≡ none) × (r.0 < rules_of file.now) × (length figures.old ≡ categories_of file.now) }
     ensures { (figures.new ≡ visit (grammar_of file.now) round figures.old r.0) × (result ≡ false → figures.new ≡ figures.old) }
 {
-    let a = grammar::category_of(file, r);
-    let i = a.0 as usize;
-    if number_at(figures, i) != 0 {
+    let i = usize::from(category_of(file, r).0);
+    if number_at(figures, i) != 0 || !daughters_ready(file, figures, r, round) {
         return false;
     }
-    if daughters_ready(file, figures, r, round) {
-        figures[i] = round;
-        return true;
-    }
-    false
+    figures[i] = round;
+    true
 }
 
 // One round: a visit to every rule. Says whether a category got a figure.
@@ -55,14 +40,11 @@ fn visit_all(file: &[u8], figures: &mut [u16], round: u16) -> bool
     requires { (grammar_refusal file.now ≡ none) × (length figures.old ≡ categories_of file.now) }
     ensures { (figures.new ≡ survey_round (grammar_of file.now) round figures.old) × (result ≡ false → figures.new ≡ figures.old) }
 {
-    let rules = grammar::rules(file);
     let mut changed = false;
-    let mut r: u16 = 0;
-    while r < rules {
+    for r in 0..rules(file) {
         if visit_rule(file, figures, RuleNumber(r), round) {
             changed = true;
         }
-        r += 1;
     }
     changed
 }
@@ -72,26 +54,10 @@ fn fill(file: &[u8], figures: &mut [u16])
     requires { (grammar_refusal file.now ≡ none) × (figures.old ≡ replicate (categories_of file.now) 0) }
     ensures { figures.new ≡ survey (grammar_of file.now) }
 {
-    let last = categories(file) as u16;
-    let mut round: u16 = 1;
-    while round <= last {
-        if visit_all(file, figures, round) {
-            round += 1;
-        } else {
+    for round in 1..=u16::from(categories(file)) {
+        if !visit_all(file, figures, round) {
             return;
         }
-    }
-}
-
-// No category has a figure yet.
-fn clear(figures: &mut [u16])
-    ensures { figures.new ≡ replicate (length figures.old) 0 }
-{
-    let n = figures.len();
-    let mut i: usize = 0;
-    while i < n {
-        figures[i] = 0;
-        i += 1;
     }
 }
 
@@ -101,9 +67,9 @@ pub fn survey(file: &[u8], out: &mut [u16]) -> Result<u64, Refusal>
 {
     grammar_refusal(file)?;
     room_refusal(out)?;
-    let n = categories(file) as usize;
-    write_figures(file, &mut out[0..n]);
-    Ok(n as u64)
+    let n = categories(file);
+    write_figures(file, &mut out[0..usize::from(n)]);
+    Ok(u64::from(n))
 }
 
 // The figures of an accepted file, one for each category.
@@ -111,6 +77,6 @@ fn write_figures(file: &[u8], figures: &mut [u16])
     requires { (grammar_refusal file.now ≡ none) × (length figures.old ≡ categories_of file.now) }
     ensures { figures.new ≡ survey (grammar_of file.now) }
 {
-    clear(figures);
+    figures.fill(0);
     fill(file, figures);
 }

@@ -5,10 +5,15 @@ use Rattle.std.specs.Prelude.{Bool, ◌&&◌, List, [], ◌∷◌, ◌++◌, ◌
 use Rattle.model.specs.GrammarFile.{within, fields, records_in, byte_of, check_of}
 use Rattle.model.specs.Writer.{Heading, little2, little4}
 use Rattle.model.proofs.WriterFile.{content_of}
+use Rattle.writer.specs.declared.given.Given.{Given}
 
 -- the heading of the given numbers
 abbrev pub heading : ℕ → ℕ → ℕ → ℕ → List ℕ → Heading
 heading c s w r d = record { categories = c; start = s; words = w; rules = r; dimensions = d }
+
+-- the heading of what is given
+abbrev pub heading_given : Given → Heading
+heading_given g = heading g.categories g.start g.words g.rules g.dimensions.now
 
 -- C, W and R are in range
 abbrev pub numbers_in : ℕ → ℕ → ℕ → Bool

@@ -3,32 +3,41 @@ ghost use Rattle.std.specs.Prelude.{◌≡◌, [], ◌+◌, ◌*◌, ◌<◌, �
 ghost use Rattle.std.proofs.lemmas.List.Edits.{sets};
 ghost use Rattle.model.specs.GrammarFile.{fields, weighted, check_of, blocks_for};
 ghost use Rattle.model.specs.Writer.{little4, file_of};
-ghost use Rattle.writer.specs.Writing.{heading, rule_content, content_at, Filled, Checked};
+ghost use Rattle.writer.specs.Writing.{heading, heading_given, rule_content, content_at, Filled, Checked};
 
-use grammar::{block_check, byte, fields, less};
+use crate::given::Given;
+use grammar::{block_check, byte, fields};
 use model::MOST_CATEGORIES;
 use reader::{blocks_for, records_in};
 
 // Byte i of the heading's block, with 0 in place of its check.
-fn heading_byte(
-    categories: u8,
-    start: u8,
-    words: u16,
-    rules: u16,
-    dimensions: &[u8],
-    i: usize,
-) -> u8
-    ensures { result ≡ content_at (heading categories start words rules dimensions.now) [] 0 i }
+fn heading_byte(given: &Given, i: usize) -> u8
+    ensures { result ≡ content_at (heading_given given.now) [] 0 i }
 {
     if 16 <= i {
-        return byte(fields(dimensions, 0, MOST_CATEGORIES), i - 16);
+        return byte(fields(given.dimensions, 0, MOST_CATEGORIES), i - 16);
     }
-    let w0 = (words % 256) as u8;
-    let w1 = (words / 256 % 256) as u8;
-    let r0 = (rules % 256) as u8;
-    let r1 = (rules / 256 % 256) as u8;
+    let w0 = (given.words % 256) as u8;
+    let w1 = (given.words / 256 % 256) as u8;
+    let r0 = (given.rules % 256) as u8;
+    let r1 = (given.rules / 256 % 256) as u8;
     let numbers: [u8; 16] = [
-        0, 0, 1, categories, start, w0, w1, r0, r1, 0, 0, 0, 0, 0, 0, 0,
+        0,
+        0,
+        1,
+        given.categories,
+        given.start,
+        w0,
+        w1,
+        r0,
+        r1,
+        0,
+        0,
+        0,
+        0,
+        0,
+        0,
+        0,
     ];
     numbers[i]
 }
@@ -38,7 +47,10 @@ fn rule_byte(rules: u16, records: &[u8], k: u16, i: usize) -> u8
     ensures { result ≡ get_or (rule_content rules records.now k) i 0 }
 {
     if 4 <= i {
-        return byte(fields(records, 504 * less(k as usize, 1), 504), i - 4);
+        return byte(
+            fields(records, 504 * usize::from(k).saturating_sub(1), 504),
+            i - 4,
+        );
     }
     let k0 = (k % 256) as u8;
     let k1 = (k / 256 % 256) as u8;
@@ -48,51 +60,22 @@ fn rule_byte(rules: u16, records: &[u8], k: u16, i: usize) -> u8
 }
 
 // Byte i of block k, with 0 in place of its check.
-fn content_byte(
-    categories: u8,
-    start: u8,
-    words: u16,
-    rules: u16,
-    dimensions: &[u8],
-    records: &[u8],
-    k: u16,
-    i: usize,
-) -> u8
-    ensures { result ≡ content_at (heading categories start words rules dimensions.now) records.now k i }
+fn content_byte(given: &Given, k: u16, i: usize) -> u8
+    ensures { result ≡ content_at (heading_given given.now) given.now.records.now k i }
 {
     if k == 0 {
-        return heading_byte(categories, start, words, rules, dimensions, i);
+        return heading_byte(given, i);
     }
-    rule_byte(rules, records, k, i)
+    rule_byte(given.rules, given.records, k, i)
 }
 
 // Puts the bytes of all blocks, with 0 in place of their checks.
-fn fill_blocks(
-    categories: u8,
-    start: u8,
-    words: u16,
-    rules: u16,
-    dimensions: &[u8],
-    records: &[u8],
-    out: &mut [u8],
-)
+fn fill_blocks(given: &Given, out: &mut [u8])
     requires { length out.old < 33554432 }
-    ensures { (length out.new ≡ length out.old) × Filled (heading categories start words rules dimensions.now) records.now out.new }
+    ensures { (length out.new ≡ length out.old) × Filled (heading_given given.now) given.now.records.now out.new }
 {
-    let n = out.len();
-    let mut p: usize = 0;
-    while p < n {
-        out[p] = content_byte(
-            categories,
-            start,
-            words,
-            rules,
-            dimensions,
-            records,
-            (p / 512) as u16,
-            p % 512,
-        );
-        p += 1;
+    for p in 0..out.len() {
+        out[p] = content_byte(given, (p / 512) as u16, p % 512);
     }
 }
 
@@ -121,10 +104,8 @@ fn put_checks(out: &mut [u8], n: usize)
     requires { length out.old ≡ 512 * n }
     ensures { Checked out.old out.new n }
 {
-    let mut k: usize = 0;
-    while k < n {
+    for k in 0..n {
         put_check(out, k);
-        k += 1;
     }
 }
 
@@ -141,6 +122,14 @@ pub fn put_file(
     requires { length out.old ≡ 512 * blocks_for rules }
     ensures { out.new ≡ file_of (heading categories start words rules dimensions.now) records.now }
 {
-    fill_blocks(categories, start, words, rules, dimensions, records, out);
+    let given = Given {
+        categories,
+        start,
+        words,
+        rules,
+        dimensions,
+        records,
+    };
+    fill_blocks(&given, out);
     put_checks(out, blocks_for(rules));
 }

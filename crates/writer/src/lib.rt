@@ -2,6 +2,7 @@
 #![tactic(auto)]
 
 mod blocks;
+mod given;
 mod heading;
 mod writer;
 

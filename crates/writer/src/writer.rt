@@ -6,13 +6,14 @@ ghost use Rattle.model.specs.Writer.{writer_refusal};
 ghost use Rattle.writer.specs.Writing.{heading};
 
 use crate::blocks::put_file;
+use crate::given::Given;
 use crate::heading::wrong_numbers;
 use grammar::fields;
 use model::Refusal;
 use reader::blocks_for;
-use rule_tests::{Layout, rules_refusal};
+use rule_tests::{Layout, Records, rules_refusal};
 
-// Refusals 4 to 10 of what is given.
+// Refusals 4 to 10 of what is given. It is given in parts: of slices in a struct the proof does not know that they are bytes.
 fn given_refusal(
     categories: u8,
     start: u8,
@@ -23,23 +24,28 @@ fn given_refusal(
 ) -> Result<(), Refusal>
     ensures { result ≡ tested (writer_refusal (heading categories start words rules dimensions.now) records.now) }
 {
-    if dimensions.len() != 64 {
+    let given = Given {
+        categories,
+        start,
+        words,
+        rules,
+        dimensions,
+        records,
+    };
+    if dimensions.len() != 64 || 256 < rules || wrong_numbers(&given) {
         return Err(Refusal::Grammar(4, 0));
     }
-    if 256 < rules {
-        return Err(Refusal::Grammar(4, 0));
-    }
-    if wrong_numbers(categories, start, words, rules, dimensions) {
-        return Err(Refusal::Grammar(4, 0));
-    }
-    if records.len() != 24 * (rules as usize) {
+    if records.len() != 24 * usize::from(rules) {
         return Err(Refusal::Grammar(5, 0));
     }
+    let packed = Records {
+        bytes: records,
+        layout: Layout::Packed,
+    };
     rules_refusal(
-        fields(dimensions, 0, categories as usize),
+        fields(dimensions, 0, usize::from(categories)),
         words,
-        records,
-        Layout::Packed,
+        &packed,
         rules,
     )
 }

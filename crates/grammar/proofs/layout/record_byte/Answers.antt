@@ -1,26 +1,20 @@
--- `grammar::record_byte` meets its contract.
+-- `grammar::record_byte` meets its contract: where the place is none that a `usize` has, the record has no byte there.
 -- Assumes nothing.
-use Prim.Native.Nat.{ℕ, ◌+◌}
-use lib.ListN.{get_or}
-use mathlib.Core.Path.{sym, ap, ◌∙◌}
-use Rattle.model.specs.GrammarFile.{record_place}
-use Rattle.grammar.proofs.Parts.{part_at, part_past}
-use native.Mathlib.Omega.{arith}
+use Rattle.std.proofs.Common.{◌≡◌, ℕ, ◌+◌, ◌<◌, List, min, arith, ap, sym, ◌∙◌, get_or}
+use native.Mathlib.Decide.{dec_lt}
+use Rattle.model.specs.GrammarFile.{fields, record_place}
+use Rattle.grammar.proofs.Parts.{part_past}
 use Rattle.grammar.proofs.layout.record_byte.Goals as goal
 
-pub returns-then-k-ge24 : goal.returns-then-k-ge24
-returns-then-k-ge24 c =
-    let a = c.args in
-    sym (part_past a.file.now (record_place a.r.0) 24 (a.start + a.k) (omega arith))
-
-pub returns-then-i-ge24 : goal.returns-then-i-ge24
-returns-then-i-ge24 c =
-    let a = c.args in
-    sym (part_past a.file.now (record_place a.r.0) 24 (a.start + a.k) (omega arith))
+-- a part of few bytes, at a place that is as good as i
+at_most : (l : List ℕ) (p i j : ℕ) → j ≡ min i 18446744073709551615 → get_or (fields l p 24) j 0 ≡ get_or (fields l p 24) i 0
+at_most l p i j e = go (dec_lt i 24)
+  where
+    go : Dec (i < 24) → get_or (fields l p 24) j 0 ≡ get_or (fields l p 24) i 0
+    go (yes h) = ap (λ (k : ℕ). get_or (fields l p 24) k 0) (let same : j ≡ i = omega arith in same)
+    go (no h) = part_past l p 24 j (omega arith) ∙ sym (part_past l p 24 i (omega arith))
 
 pub returns : goal.returns
 returns c =
-    let a = c.args in
-    let i = a.start + a.k in
-    c.byte.ensures ∙ ap (λ (p : ℕ). get_or a.file.now (p + i) 0) c.record_place.ensures
-    ∙ sym (part_at a.file.now (record_place a.r.0) 24 i (omega arith))
+    c.byte.ensures ∙ ap (λ (l : List ℕ). get_or l c.saturating_add.result 0) c.record_of.ensures
+    ∙ at_most c.args.file.now (record_place c.args.r.0) (c.args.start + c.args.k) c.saturating_add.result (omega arith)

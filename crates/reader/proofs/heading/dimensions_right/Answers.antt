@@ -1,22 +1,13 @@
--- `reader::dimensions_right` meets its contract. The loop keeps: all bytes are from 1 to 4 if all from place i on are.
+-- `reader::dimensions_right` meets its contract.
 -- Assumes nothing.
-use mathlib.Core.Path.{refl, sym, ◌∙◌}
+use Rattle.std.proofs.Common.{◌∙◌, rules, tests}
+use Rattle.std.proofs.lemmas.Iterator.{YieldsList-from_slice}
+use Rattle.std.proofs.lemmas.Iterator.Search.{all_from_yields_List}
 use Rattle.model.specs.GrammarFile.{within}
-use Rattle.grammar.proofs.Walks.{every_pass, every_fail, every_end}
-use native.Mathlib.Omega.{arith}
+use Rattle.grammar.proofs.FromStd.{every_is}
 use Rattle.reader.proofs.heading.dimensions_right.Goals as goal
 
-pub loop-i-init : goal.loop-i-init
-loop-i-init c = (omega arith, refl)
-
-pub overflow_cast-bytes : goal.overflow_cast-bytes
-overflow_cast-bytes c = omega (arith, c.shared_slice_known-1.given c.loop-i.i)
-
-pub returns-then-not-within : goal.returns-then-not-within
-returns-then-not-within c = sym (c.loop-i.invariant.1 ∙ every_fail (within 1 4) c.args.bytes.now c.loop-i.i c.loop-i-test.true (sym c.within.ensures ∙ c.if-not-within.true))
-
-pub loop-i-preserved : goal.loop-i-preserved
-loop-i-preserved c = (omega arith, c.loop-i.invariant.1 ∙ every_pass (within 1 4) c.args.bytes.now c.loop-i.i c.loop-i-test.true (sym c.within.ensures ∙ c.if-not-within.false))
-
 pub returns : goal.returns
-returns c = sym (c.loop-i.invariant.1 ∙ every_end (within 1 4) c.args.bytes.now c.loop-i.i c.loop-i-test.false)
+returns c =
+    all_from_yields_List (within 1 4) _ _ c.all.result c.all.ensures.ran (YieldsList-from_slice c.args.bytes.now (cc)) (λ x b q k. search (rules, tests))
+    ∙ every_is (within 1 4) c.args.bytes.now

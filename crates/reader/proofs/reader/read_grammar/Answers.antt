@@ -1,5 +1,6 @@
 -- `reader::read_grammar` meets its contract.
 -- Assumes nothing.
+use mathlib.Core.Path.{◌∙◌}
 use Rattle.model.specs.GrammarFile.{rules_of, grammar_refusal}
 use Rattle.model.proofs.Verdicts.{handed_on, accepted, refused, tests_pass, tests_met}
 use Rattle.reader.proofs.reader.read_grammar.Goals as goal
@@ -8,7 +9,7 @@ pub returns : goal.returns
 returns c =
     let file = c.args.file.now in
     let read = c.grammar_refusal in
-    accepted (grammar_refusal file) (rules_of file) _ (tests_pass (grammar_refusal file) read.result read.ensures c.in_ok-grammar_refusal.was) c.rules.ensures
+    accepted (grammar_refusal file) (rules_of file) _ (tests_pass (grammar_refusal file) read.result read.ensures c.in_ok-grammar_refusal.was) (c.from.ensures ∙ c.rules.ensures)
 
 pub returns-in_err-grammar_refusal : goal.returns-in_err-grammar_refusal
 returns-in_err-grammar_refusal c =

@@ -15,7 +15,7 @@ loop-next-init c =
 pub returns-then-same_rule : goal.returns-then-same_rule
 returns-then-same_rule c =
     let w = walk c.requires c.earlier-next.ensures in
-    let found = ap (λ (x : List ℕ). same_rule x c.args.e.now) (sym c.record_in.ensures) ∙ sym c.same_rule.ensures ∙ c.if-same_rule.true in
+    let found = ap (λ (x : List ℕ). same_rule x c.args.e.now) (sym c.record.ensures) ∙ sym c.same_rule.ensures ∙ c.if-same_rule.true in
     sym (walk_hit w c.loop-next.invariant (omega arith) found)
 
 pub earlier-next-requires-in-loop-next : goal.earlier-next-requires-in-loop-next
@@ -26,13 +26,13 @@ earlier-next-requires-in-loop-next c =
 pub loop-next-smaller : goal.loop-next-smaller
 loop-next-smaller c =
     let w = walk c.requires c.earlier-next.ensures in
-    let other = ap (λ (x : List ℕ). same_rule x c.args.e.now) (sym c.record_in.ensures) ∙ sym c.same_rule.ensures ∙ c.if-same_rule.false in
+    let other = ap (λ (x : List ℕ). same_rule x c.args.e.now) (sym c.record.ensures) ∙ sym c.same_rule.ensures ∙ c.if-same_rule.false in
     (walk_on w c.loop-next.invariant (omega arith) other c.earlier-next-in-loop-next.ensures).0
 
 pub loop-next-preserved : goal.loop-next-preserved
 loop-next-preserved c =
     let w = walk c.requires c.earlier-next.ensures in
-    let other = ap (λ (x : List ℕ). same_rule x c.args.e.now) (sym c.record_in.ensures) ∙ sym c.same_rule.ensures ∙ c.if-same_rule.false in
+    let other = ap (λ (x : List ℕ). same_rule x c.args.e.now) (sym c.record.ensures) ∙ sym c.same_rule.ensures ∙ c.if-same_rule.false in
     (walk_on w c.loop-next.invariant (omega arith) other c.earlier-next-in-loop-next.ensures).1
 
 pub returns : goal.returns

@@ -5,7 +5,7 @@ use Rattle.rule_tests.proofs.Chains.{Left}
 use Rattle.rule_tests.proofs.chain.repeated_rule.Given as goal
 
 abbrev pub invariant-loop-next : goal.invariant-loop-next
-invariant-loop-next l = Left (record_in l.layout l.bytes) l.e l.initial.next l.next
+invariant-loop-next l = Left (record_in l.records.layout l.records.bytes.now) l.e l.initial.next l.next
 
 abbrev pub decreases-loop-next : goal.decreases-loop-next
 decreases-loop-next l = l.next

@@ -17,18 +17,18 @@ pub returns-in_err-record_refusal : goal.returns-in_err-record_refusal
 returns-in_err-record_refusal c =
     let a = c.args in
     let first = c.record_refusal.ensures ∙ ap (λ (e : List ℕ). tested (record_tests a.dimensions.now a.words e a.r.0)) c.requires.is in
-    rw (handed_on c.from_residual.result c.from_residual.ensures.1) (record_stop a.dimensions.now a.words (record_in a.layout a.bytes.now) a.r.0 c.record_refusal.result first c.in_err-record_refusal.was)
+    rw (handed_on c.from_residual.result c.from_residual.ensures.1) (record_stop a.dimensions.now a.words (record_in a.records.now.layout a.records.now.bytes.now) a.r.0 c.record_refusal.result first c.in_err-record_refusal.was)
 
 pub returns-then-repeated_rule : goal.returns-then-repeated_rule
 returns-then-repeated_rule c =
     let a = c.args in
     let first = c.record_refusal.ensures ∙ ap (λ (e : List ℕ). tested (record_tests a.dimensions.now a.words e a.r.0)) c.requires.is in
-    record_pass a.dimensions.now a.words (record_in a.layout a.bytes.now) a.r.0 c.record_refusal.result first c.in_ok-record_refusal.was _
-    (sym (ap tested (refuse_on (repeated (record_in a.layout a.bytes.now) a.r.0) (Refusal.Grammar 10 a.r.0) (sym c.repeated_rule.ensures ∙ c.if-repeated_rule.true))))
+    record_pass a.dimensions.now a.words (record_in a.records.now.layout a.records.now.bytes.now) a.r.0 c.record_refusal.result first c.in_ok-record_refusal.was _
+    (sym (ap tested (refuse_on (repeated (record_in a.records.now.layout a.records.now.bytes.now) a.r.0) (Refusal.Grammar 10 a.r.0) (sym c.repeated_rule.ensures ∙ c.if-repeated_rule.true))))
 
 pub returns : goal.returns
 returns c =
     let a = c.args in
     let first = c.record_refusal.ensures ∙ ap (λ (e : List ℕ). tested (record_tests a.dimensions.now a.words e a.r.0)) c.requires.is in
-    record_pass a.dimensions.now a.words (record_in a.layout a.bytes.now) a.r.0 c.record_refusal.result first c.in_ok-record_refusal.was _
-    (sym (ap tested (refuse_off (repeated (record_in a.layout a.bytes.now) a.r.0) (Refusal.Grammar 10 a.r.0) (sym c.repeated_rule.ensures ∙ c.if-repeated_rule.false))))
+    record_pass a.dimensions.now a.words (record_in a.records.now.layout a.records.now.bytes.now) a.r.0 c.record_refusal.result first c.in_ok-record_refusal.was _
+    (sym (ap tested (refuse_off (repeated (record_in a.records.now.layout a.records.now.bytes.now) a.r.0) (Refusal.Grammar 10 a.r.0) (sym c.repeated_rule.ensures ∙ c.if-repeated_rule.false))))
