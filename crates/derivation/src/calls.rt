@@ -80,7 +80,7 @@ fn write_trace(file: &[u8], sentence: &[u32], tree: &[u16], out: &mut [u16]) -> 
     let v = trace_tree(file, sentence, tree, &mut trace);
     match v {
         Verdict::Accepted(_) => {
-            write_front(&trace, tree.len(), out);
+            write_front(&trace[..tree.len()], out);
             v
         }
         Verdict::Refused(_) => v,
