@@ -6,7 +6,7 @@ use Rattle.model.specs.GrammarFile.{grammar_of}
 use Rattle.model.specs.Trace.{trace_refusal}
 use Rattle.model.specs.Conversions.{tree_of}
 use Rattle.model.proofs.Verdicts.{passed, met}
-use Rattle.unfold.proofs.UnfoldCall.{refused_kept, steps_few, taken_small, grown, tree_written}
+use Rattle.unfold.proofs.UnfoldCall.{refused_kept, front_few, front_small, grown, tree_written}
 use borrow.Author.Rules.{rules}
 use Rattle.unfold.proofs.to_tree.converted.Goals as goal
 
@@ -24,7 +24,7 @@ link-requires c =
     let k = c.run_trace-v in
     let R = trace_refusal (grammar_of a.file.now) a.sentence.now a.trace.now in
     let e = passed R (length a.trace.now) k.result k.ensures.answer c.in-Accepted.is in
-    (steps_few a.file.now a.sentence.now a.trace.now _ c.requires.0 e (k.ensures.taken e), refl {a = 388}, taken_small a.file.now a.sentence.now a.trace.now _ c.requires.0 e (k.ensures.taken e))
+    (front_few a.file.now a.sentence.now a.trace.now _ c.requires.0 e (k.ensures.taken e), refl {a = 388}, front_small a.file.now a.sentence.now a.trace.now _ c.requires.0 e (k.ensures.taken e))
 
 pub write_tree-requires : goal.write_tree-requires
 write_tree-requires c =
