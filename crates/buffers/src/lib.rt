@@ -1,18 +1,11 @@
 // Lent lists of 16-bit numbers: a number of a list, refusal 23, and a list written at the front of an output.
 #![tactic(auto)]
 
-ghost use Rattle.std.specs.Prelude.{◌≡◌, ◌++◌, ◌<◌, ◌≤◌, get_or, length, take, drop};
+ghost use Rattle.std.specs.Prelude.{◌≡◌, ◌++◌, ◌≤◌, get_or, length, drop};
 ghost use Rattle.model.specs.Verdict.{tested};
 ghost use Rattle.model.specs.Calls.{room_refusal};
 
 use model::{MOST_STEPS, Refusal, Tested};
-
-// The same number, of which it is known that it has 16 bits.
-pub fn wide(x: u16) -> usize
-    ensures { (result ≡ x) × (result < 65536) }
-{
-    usize::from(x)
-}
 
 // Number i of the list, 0 past its end.
 pub fn number_at(list: &[u16], i: usize) -> u16
