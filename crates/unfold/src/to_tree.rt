@@ -87,7 +87,12 @@ fn converted(file: &[u8], sentence: &[u32], trace: &[u16], out: &mut [u16]) -> R
 
 // Trace to tree: refusals 1 to 10, 23, 11 and 29, 12, the trace's own; else the node count, and the tree's list at the front of the output. One run of the
 // trace, and a turn for each node.
-pub fn trace_to_tree(file: &[u8], sentence: &[u32], trace: &[u16], out: &mut [u16]) -> Result<u64, Refusal>
+pub fn trace_to_tree(
+    file: &[u8],
+    sentence: &[u32],
+    trace: &[u16],
+    out: &mut [u16],
+) -> Result<u64, Refusal>
     ensures { (result ≡ trace_to_tree_verdict file.now sentence.now trace.now out.old) × (out.new ≡ trace_to_tree_output file.now sentence.now trace.now out.old) }
 {
     conversion_tests(file, sentence, out)?;
