@@ -20,7 +20,7 @@ use steps::{NUMBERS, first_daughter};
 
 // Stores, for the prediction that each step takes, the step.
 fn link(taken: &[u16], steps: &mut [u16; NUMBERS])
-    requires { (length taken.now ≤ 96) × (length steps.old ≡ 388) × ((k : ℕ) → k < length taken.now → get_or taken.now k 0 < 388) }
+    requires { (length taken.now ≤ 96) × ((k : ℕ) → k < length taken.now → get_or taken.now k 0 < 388) }
     ensures { Linked taken.now steps.new (length taken.now) }
 {
     for (k, p) in taken.iter().enumerate() {
@@ -40,7 +40,7 @@ fn count_up(list: &mut [u16], first: u16)
 
 // Puts d predictions, from number `first` on, before those that wait from `top` on. Answers where they begin.
 fn push(st: &mut [u16; MOST_STEPS], top: usize, first: u16, d: u8) -> usize
-    requires { (length st.old ≡ 96) × (top ≤ 96) × (d ≤ top) × (first + d ≤ 65536) }
+    requires { (top ≤ 96) × (d ≤ top) × (first + d ≤ 65536) }
     ensures { Pushed st.old st.new top first d result }
 {
     let from = top - usize::from(d);

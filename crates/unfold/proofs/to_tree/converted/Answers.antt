@@ -1,6 +1,6 @@
 -- `unfold::to_tree::converted` meets its contract.
 -- Assumes nothing.
-use mathlib.Core.Path.{refl, sym, ◌∙◌}
+use mathlib.Core.Path.{sym, ◌∙◌}
 use lib.ListN.{length}
 use Rattle.model.specs.GrammarFile.{grammar_of}
 use Rattle.model.specs.Trace.{trace_refusal}
@@ -24,7 +24,7 @@ link-requires c =
     let k = c.run_trace in
     let R = trace_refusal (grammar_of a.file.now) a.sentence.now a.trace.now in
     let e = passed R (length a.trace.now) k.result k.ensures.answer c.in_ok-n.was in
-    (front_few a.file.now a.sentence.now a.trace.now _ c.requires.0 e (k.ensures.taken e), refl {a = 388}, front_small a.file.now a.sentence.now a.trace.now _ c.requires.0 e (k.ensures.taken e))
+    (front_few a.file.now a.sentence.now a.trace.now _ c.requires.0 e (k.ensures.taken e), front_small a.file.now a.sentence.now a.trace.now _ c.requires.0 e (k.ensures.taken e))
 
 pub write_tree-requires : goal.write_tree-requires
 write_tree-requires c =

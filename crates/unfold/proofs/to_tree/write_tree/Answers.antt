@@ -54,7 +54,7 @@ push-top-requires c =
     let stands = l.invariant.4 g.tree g.grows g.few in
     let small = step_small n a.trace.now a.steps.now stands g.few l.invariant.2 (omega (arith, c.requires.1, l.invariant.3)) l.invariant.1 (omega arith) c.from-p.ensures c.from-k.ensures in
     let room = push_room n a.trace.now a.steps.now stands g.few l.invariant.2 (omega (arith, c.requires.1, l.invariant.3)) l.invariant.1 (omega arith) c.from-p.ensures c.from-k.ensures c.number_at-r.ensures c.daughter_count.ensures in
-    (l.invariant.2, omega arith, room, omega (arith, small, c.first_daughter.ensures, c.daughter_count.type_inv))
+    (omega arith, room, omega (arith, small, c.first_daughter.ensures, c.daughter_count.type_inv))
 
 pub loop-top-smaller : goal.loop-top-smaller
 loop-top-smaller c =
