@@ -1,15 +1,11 @@
 -- What predictions stand for, after a step.
 -- Assumes nothing.
 use mathlib.Core.Path.{◌≡◌, refl, sym, ap, subst, ◌∙◌}
-use mathlib.Core.Logic.{◌⊎◌, inl, inr}
 use mathlib.Core.Option.{none}
 use mathlib.Core.List.{List, [], ◌∷◌}
-use Prim.Native.Nat.{ℕ, zero, suc, ◌+◌, ◌<◌, ◌≤◌}
+use Prim.Native.Nat.{ℕ, zero, suc, ◌+◌, ◌<◌}
 use native.Mathlib.Omega.{arith}
-use native.Mathlib.Numerals.{add-one}
-use native.Mathlib.Nat.{eq-or-lt_of_le}
-use lib.ListN.{length, get_or, drop, set, length-set}
-use lib.Seq.{get_or-set_same, get_or-set_other}
+use lib.ListN.{length, get_or, drop}
 use Rattle.model.specs.Base.{numbers_from}
 use Rattle.model.specs.Grammar.{Grammar, rule_at}
 use Rattle.model.specs.Tree.{Tree, tree_of_list, nodes_refusal, arity_by, arity}
@@ -90,26 +86,3 @@ module _ (g : Grammar) (list ends places : List ℕ) (S : RankedState ℕ) (stoo
         let m : j < arity g (get_or list i 0) = omega arith in
         extended_new (made_at k) (subtree front) names j ∙ ap (λ (t : Tree). subtree t j) e ∙ daughter_tree g list i here j m
         ∙ ap (λ (x : ℕ). tree_of_list g (drop x list)) (sym (given.new j l ∙ sister_is j (λ n b. omega arith))))
-
--- names given one by one
-module _ (table : List ℕ) (i made : ℕ) (before : List ℕ) where
-  pub given_none : length before ≡ 388 → NamesGiven table i made 0 before before
-  given_none l = record { long = l; old = λ p h. refl; new = λ j h. absurd (omega arith) }
-
-  pub given_more : (j : ℕ) (names : List ℕ) (y : ℕ) → made + j < 388 → y ≡ sister table i j → NamesGiven table i made j before names → NamesGiven table i made (j + 1) before (set names (made + j) y)
-  given_more j names y l e h =
-      record {
-        long = length-set names (made + j) y ∙ h.long;
-        old = λ p b. get_or-set_other names (made + j) p y 0 (λ z. omega arith) ∙ h.old p b;
-        new = λ m b. go m (eq-or-lt_of_le (low m b));
-      }
-    where
-      low : (m : ℕ) → m < j + 1 → m ≤ j
-      low m b = omega arith
-
-      go : (m : ℕ) → (m ≡ j) ⊎ (m < j) → get_or (set names (made + j) y) (made + m) 0 ≡ sister table i m
-      go m (inl q) = ap (λ (x : ℕ). get_or (set names (made + j) y) (made + x) 0) q ∙ get_or-set_same names (made + j) y 0 (omega (arith, h.long)) ∙ e ∙ ap (sister table i) (sym q)
-      go m (inr q) = get_or-set_other names (made + j) (made + m) y 0 (λ z. omega arith) ∙ h.new m q
-
-  pub sister_next : (j at : ℕ) → at ≡ sister table i j → get_or table at 0 ≡ sister table i (j + 1)
-  sister_next j at e = ap (λ (x : ℕ). get_or table x 0) e ∙ ap (sister table i) (sym (add-one j))

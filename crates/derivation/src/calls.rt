@@ -63,7 +63,7 @@ fn write_trace(file: &[u8], sentence: &[u32], tree: &[u16], out: &mut [u16]) -> 
 {
     let mut trace = [0u16; MOST_STEPS];
     let n = trace_tree(file, sentence, tree, &mut trace)?;
-    write_front(&trace, tree.len(), out);
+    write_front(&trace[..tree.len()], out);
     Ok(n)
 }
 

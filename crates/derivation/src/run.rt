@@ -7,7 +7,6 @@ ghost use Rattle.ranks.specs.Prediction.{unpacked};
 ghost use Rattle.trees.specs.Places.{Ended, sister};
 ghost use Rattle.derivation.specs.TreeRun.{NamesGiven, Spelled};
 
-use buffers::wide;
 use grammar::start;
 use model::{MOST_STEPS, RuleNumber};
 use ranks::prediction::number;
@@ -28,11 +27,9 @@ fn name_daughters(
     ensures { NamesGiven ends.now i made d names.old names.new }
 {
     let mut at = i + 1;
-    let mut j: usize = 0;
-    while j < d {
-        names[made + j] = at as u16;
-        at = wide(ends[at]);
-        j += 1;
+    for name in &mut names[made..made + d] {
+        *name = at as u16;
+        at = usize::from(ends[at]);
     }
 }
 
@@ -41,8 +38,7 @@ fn front_node(w: &[u64; ROOM], from: usize, names: &[u16; NUMBERS]) -> usize
     requires { (length w.now ≡ 6272) × (from < 6272) × (length names.now ≡ 388) × ((unpacked (get_or w.now from 0)).number < 388) }
     ensures { result ≡ get_or names.now (unpacked (get_or w.now from 0)).number 0 }
 {
-    let p = number(w[from]) as usize;
-    wide(names[p])
+    usize::from(names[number(w[from]) as usize])
 }
 
 // Whether the yield of the tree fits the sentence, for a list that passes the tests of its nodes; then its trace is stored. A tree's trace reads the words

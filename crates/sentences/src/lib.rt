@@ -11,9 +11,6 @@ ghost use Rattle.model.specs.Verdict.{tested};
 use grammar::words;
 use model::{MOST_STEPS, Refusal, Word};
 
-// The most places of a sentence.
-const MOST_PLACES: u16 = MOST_STEPS as u16;
-
 // A place is its lowest word and this many times its highest: the highest stands in the upper 16 bits.
 const UPPER: u32 = 65536;
 
@@ -35,57 +32,45 @@ fn highest_of(place: u32) -> Word
 pub fn place_with(low: Word, high: Word) -> u32
     ensures { result ≡ range low.0 high.0 }
 {
-    low.0 as u32 + UPPER * high.0 as u32
+    u32::from(low.0) + UPPER * u32::from(high.0)
 }
 
 // The place that holds a single word.
 pub fn single_word(word: Word) -> u32
     ensures { result ≡ single word.0 }
 {
-    place_with(Word(word.0), Word(word.0))
+    place_with(word, word)
 }
 
 // Whether a rule's word takes a place of the sentence: it lies between the ends of the place, ends included.
 pub fn fits(word: Word, place: u32) -> bool
     ensures { result ≡ word_fits word.0 place }
 {
-    let low = lowest_of(place).0;
-    let high = highest_of(place).0;
-    if word.0 < low {
-        return false;
-    }
-    word.0 <= high
+    (lowest_of(place)..=highest_of(place)).contains(&word)
 }
 
 // Whether an end of a place is no word of a grammar with so many words.
 fn end_no_word(words: u16, place: u32) -> bool
     ensures { result ≡ end_no_word words place }
 {
-    let low = lowest_of(place).0;
-    let high = highest_of(place).0;
-    if words <= low {
-        return true;
-    }
-    words <= high
+    words <= lowest_of(place).0 || words <= highest_of(place).0
 }
 
 // Whether the lowest word of a place is above its highest.
 fn lowest_above(place: u32) -> bool
     ensures { result ≡ lowest_above place }
 {
-    highest_of(place).0 < lowest_of(place).0
+    highest_of(place) < lowest_of(place)
 }
 
 // Tests place k, for a grammar with so many words.
 fn place_refusal(words: u16, k: u16, place: u32) -> Result<(), Refusal>
     ensures { result ≡ tested (place_refusal words k place) }
 {
-    let unknown = end_no_word(words, place);
-    let above = lowest_above(place);
-    if unknown {
+    if end_no_word(words, place) {
         return Err(Refusal::Analysis(11, k));
     }
-    if above {
+    if lowest_above(place) {
         return Err(Refusal::Analysis(29, k));
     }
     Ok(())
@@ -95,14 +80,12 @@ fn place_refusal(words: u16, k: u16, place: u32) -> Result<(), Refusal>
 pub fn sentence_refusal(file: &[u8], sentence: &[u32]) -> Result<(), Refusal>
     ensures { result ≡ tested (sentence_refusal (grammar_of file.now) sentence.now) }
 {
-    if (MOST_PLACES as usize) < sentence.len() {
-        return Err(Refusal::Analysis(11, MOST_PLACES));
+    if MOST_STEPS < sentence.len() {
+        return Err(Refusal::Analysis(11, MOST_STEPS as u16));
     }
-    let w = words(file);
-    let mut k: usize = 0;
-    while k < sentence.len() {
-        place_refusal(w, k as u16, sentence[k])?;
-        k += 1;
+    let words = words(file);
+    for (k, place) in sentence.iter().enumerate() {
+        place_refusal(words, k as u16, *place)?;
     }
     Ok(())
 }

@@ -1,6 +1,6 @@
 -- The tree reader, node by node: what passes, and what is refused.
 -- Assumes nothing.
-use Rattle.std.specs.Prelude.{if◌then◌else◌, Ok, Err}
+use Rattle.std.specs.Prelude.{if◌then◌else◌, Result, Ok, Err}
 use mathlib.Core.Path.{◌≡◌, refl, sym, ap, ap₂, subst, ◌∙◌}
 use mathlib.Core.Logic.{◌⊎◌, inl, inr}
 use mathlib.Core.Bool.{Bool}
@@ -25,11 +25,8 @@ use Rattle.model.proofs.Verdicts.{met_is, passed_is}
 use Rattle.model.proofs.RuleFromRecord.{daughters_length}
 use Rattle.model.proofs.FromFile.{rule_read, rule_read_lem, record_tested}
 use Rattle.grammar.proofs.OfGrammar.{rule_none, daughter_is}
-use Rattle.trees.specs.declared.reading.Place.{Place}
-use Rattle.trees.specs.declared.reading.Place.TheVariants.{Next, Stop}
 use Rattle.trees.specs.Reader.{below, Passes, Meets, Says, Reading, ReadAll}
 use Rattle.trees.proofs.Places.{others_next, end_is}
-use Rattle.model.specs.Verdict.{Tested}
 
 module _ (g : Grammar) (list : List ℕ) where
   -- no trees
@@ -116,12 +113,12 @@ module _ (g : Grammar) (list : List ℕ) where
 
 -- readings joined: with what each leaves in the table
 module _ (g : Grammar) (list : List ℕ) where
-  pub reading_none : (k : ℕ) (table : List ℕ) → length table ≡ 96 → k ≤ length list → Reading g list [] k table table (Next k)
+  pub reading_none : (k : ℕ) (table : List ℕ) → length table ≡ 96 → k ≤ length list → Reading g list [] k table table (Ok k)
   reading_none k table l h = record { long = l; kept = λ i b. refl; says = pass_none g list k table h }
 
   -- a tree is read, and then others
   module _ (c : ℕ) (cs : List ℕ) (k : ℕ) (before middle : List ℕ) where
-    pub reading_more : (e : ℕ) → Reading g list (c ∷ []) k before middle (Next e) → (after : List ℕ) (answer : Place) → Reading g list cs e middle after answer → Reading g list (c ∷ cs) k before after answer
+    pub reading_more : (e : ℕ) → Reading g list (c ∷ []) k before middle (Ok e) → (after : List ℕ) (answer : Result ℕ Refusal) → Reading g list cs e middle after answer → Reading g list (c ∷ cs) k before after answer
     reading_more e first after answer h =
         record {
           long = h.long;
@@ -129,14 +126,12 @@ module _ (g : Grammar) (list : List ℕ) where
           says = go answer h.says;
         }
       where
-        go : (p : Place) → Says g list cs e after p → Says g list (c ∷ cs) k after p
-        go (Next last) s = pass_more g list c cs k e middle first.says after last h.kept s
-        go (Stop x) s = meet_later g list c cs k e middle first.says x s
+        go : (p : Result ℕ Refusal) → Says g list cs e after p → Says g list (c ∷ cs) k after p
+        go (Ok last) s = pass_more g list c cs k e middle first.says after last h.kept s
+        go (Err x) s = meet_later g list c cs k e middle first.says x s
 
-    pub reading_stop : (answer : Place) {x : Refusal} → answer ≡ Stop x → Reading g list (c ∷ []) k before middle answer → Reading g list (c ∷ cs) k before middle answer
-    reading_stop answer {x} e h =
-        let first = subst (Reading g list (c ∷ []) k before middle) e h in
-        subst (Reading g list (c ∷ cs) k before middle) (sym e) (record { long = h.long; kept = h.kept; says = meet_first g list c cs k x first.says })
+    pub reading_stop : {x : Refusal} → Reading g list (c ∷ []) k before middle (Err x) → Reading g list (c ∷ cs) k before middle (Err x)
+    reading_stop {x} first = record { long = first.long; kept = first.kept; says = meet_first g list c cs k x first.says }
 
 -- by the fields of the file
 module _ (file list : List ℕ) (accepted : grammar_refusal file ≡ none) where
@@ -173,27 +168,26 @@ module _ (file list : List ℕ) (accepted : grammar_refusal file ≡ none) where
 
       -- its daughters are read
       module _ (same : field (record_of file (get_or list k 0)) 0 ≡ c) (before middle : List ℕ) where
-        from_place : (answer : Place) → Reading g list (drop 0 (below g (get_or list k 0))) (k + 1) before middle answer → Reading g list rule.daughters (suc k) before middle answer
+        from_place : (answer : Result ℕ Refusal) → Reading g list (below g (get_or list k 0)) (k + 1) before middle answer → Reading g list rule.daughters (suc k) before middle answer
         from_place answer h =
             subst (λ (n : ℕ). Reading g list rule.daughters n before middle answer) (add-one k)
             (subst (λ (cs : List ℕ). Reading g list cs (k + 1) before middle answer) (are (get_or list k 0) 0 known) h)
 
-        pub node_read : (answer : Place) (e : ℕ) → answer ≡ Next e → Reading (grammar_of file) list (drop 0 (below (grammar_of file) (get_or list k 0))) (k + 1) before middle answer → k < 96
-            → Reading (grammar_of file) list (c ∷ []) k before (set middle k e) (Next e)
-        node_read answer e q h l =
-            let f = from_place (Next e) (subst (Reading g list (drop 0 (below g (get_or list k 0))) (k + 1) before middle) q h) in
+        pub node_read : (e : ℕ) → Reading (grammar_of file) list (below (grammar_of file) (get_or list k 0)) (k + 1) before middle (Ok e) → k < 96
+            → Reading (grammar_of file) list (c ∷ []) k before (set middle k e) (Ok e)
+        node_read e h l =
+            let f = from_place (Ok e) h in
             record {
               long = length-set middle k e ∙ f.long;
               kept = λ i b. get_or-set_other middle k i e 0 (λ z. omega arith) ∙ f.kept i (omega arith);
               says = node_passes g list k c here rule (rule_read_lem file (get_or list k 0) known) same middle e (omega (arith, f.long)) f.says;
             }
 
-        pub node_refused : (answer : Place) {x : Refusal} → answer ≡ Stop x → Reading (grammar_of file) list (drop 0 (below (grammar_of file) (get_or list k 0))) (k + 1) before middle answer
-            → Reading (grammar_of file) list (c ∷ []) k before middle answer
-        node_refused answer {x} q h =
-            let f = from_place (Stop x) (subst (Reading g list (drop 0 (below g (get_or list k 0))) (k + 1) before middle) q h) in
-            subst (Reading g list (c ∷ []) k before middle) (sym q)
-            (record { long = f.long; kept = λ i b. f.kept i (omega arith); says = node_meets g list k c here rule (rule_read_lem file (get_or list k 0) known) same x f.says })
+        pub node_refused : {x : Refusal} → Reading (grammar_of file) list (below (grammar_of file) (get_or list k 0)) (k + 1) before middle (Err x)
+            → Reading (grammar_of file) list (c ∷ []) k before middle (Err x)
+        node_refused {x} h =
+            let f = from_place (Err x) h in
+            record { long = f.long; kept = λ i b. f.kept i (omega arith); says = node_meets g list k c here rule (rule_read_lem file (get_or list k 0) known) same x f.says }
 
 -- the whole list
 module _ (file list before after : List ℕ) (c : ℕ) (start : c ≡ start_of file) where
@@ -203,24 +197,17 @@ module _ (file list before after : List ℕ) (c : ℕ) (start : c ≡ start_of f
   tests_all : (o : Option Refusal) → nodes_refusal (grammar_of file) 0 (c ∷ []) (drop 0 list) ≡ o → nodes ≡ o
   tests_all o h = ap (λ (x : ℕ). nodes_refusal (grammar_of file) 0 (x ∷ []) list) (sym start) ∙ h
 
-  module _ (answer : Place) (h : Reading (grammar_of file) list (c ∷ []) 0 before after answer) where
-    known_as : {p : Place} → answer ≡ p → Reading (grammar_of file) list (c ∷ []) 0 before after p
-    known_as e = subst (Reading (grammar_of file) list (c ∷ []) 0 before after) e h
+  pub nodes_left : (e : ℕ) → Reading (grammar_of file) list (c ∷ []) 0 before after (Ok e) → e < length list → ReadAll (grammar_of file) list after (Err (Refusal.Analysis 21 e))
+  nodes_left e r l =
+      let f : nodes ≡ some (Refusal.Analysis 21 e) = tests_all (some (Refusal.Analysis 21 e)) (r.says.tests [] ∙ ap (nodes_refusal (grammar_of file) e []) (drop-cons list e 0 l)) in
+      record { long = r.long; answer = met_is nodes (Refusal.Analysis 21 e) f; ended = λ z. none_some (sym f ∙ z) }
 
-    pub nodes_left : (e : ℕ) → answer ≡ Next e → e < length list → ReadAll (grammar_of file) list after (Err (Refusal.Analysis 21 e))
-    nodes_left e q l =
-        let r = known_as q in
-        let f : nodes ≡ some (Refusal.Analysis 21 e) = tests_all (some (Refusal.Analysis 21 e)) (r.says.tests [] ∙ ap (nodes_refusal (grammar_of file) e []) (drop-cons list e 0 l)) in
-        record { long = r.long; answer = met_is nodes (Refusal.Analysis 21 e) f; ended = λ z. none_some (sym f ∙ z) }
+  pub all_nodes : (e : ℕ) → Reading (grammar_of file) list (c ∷ []) 0 before after (Ok e) → length list ≤ e → ReadAll (grammar_of file) list after (Ok tt)
+  all_nodes e r l =
+      let f : nodes ≡ none = tests_all none (r.says.tests [] ∙ ap (nodes_refusal (grammar_of file) e []) (drop_of_length-le list {i = e} l)) in
+      record { long = r.long; answer = passed_is nodes f; ended = λ z i lo hi. r.says.ended i lo (omega arith) }
 
-    pub all_nodes : (e : ℕ) → answer ≡ Next e → length list ≤ e → ReadAll (grammar_of file) list after (Ok tt)
-    all_nodes e q l =
-        let r = known_as q in
-        let f : nodes ≡ none = tests_all none (r.says.tests [] ∙ ap (nodes_refusal (grammar_of file) e []) (drop_of_length-le list {i = e} l)) in
-        record { long = r.long; answer = passed_is nodes f; ended = λ z i lo hi. r.says.ended i lo (omega arith) }
-
-    pub node_met : (x : Refusal) → answer ≡ Stop x → ReadAll (grammar_of file) list after (Err x)
-    node_met x q =
-        let r = known_as q in
-        let f : nodes ≡ some x = tests_all (some x) (r.says []) in
-        record { long = r.long; answer = met_is nodes x f; ended = λ z. none_some (sym f ∙ z) }
+  pub node_met : (x : Refusal) → Reading (grammar_of file) list (c ∷ []) 0 before after (Err x) → ReadAll (grammar_of file) list after (Err x)
+  node_met x r =
+      let f : nodes ≡ some x = tests_all (some x) (r.says []) in
+      record { long = r.long; answer = met_is nodes x f; ended = λ z. none_some (sym f ∙ z) }

@@ -1,7 +1,7 @@
 -- What the tree reader says (document 01, "The tree reader goes from a node to its daughters and from the daughters to their nodes", and refusals 19,
 -- 13 and 20).
 -- Assumes nothing.
-use Rattle.std.specs.Prelude.{◌≡◌, List, [], ◌∷◌, ◌++◌, ℕ, ◌+◌, ◌<◌, ◌≤◌, length, get_or, drop}
+use Rattle.std.specs.Prelude.{◌≡◌, List, [], ◌∷◌, ◌++◌, ℕ, ◌+◌, ◌<◌, ◌≤◌, length, get_or, drop, Result, Ok, Err}
 use Rattle.std.proofs.Math.Option.{none, some}
 use Rattle.model.specs.declared.Refusal.{Refusal}
 use Rattle.model.specs.Verdict.{tested, Tested}
@@ -9,8 +9,6 @@ use Rattle.model.specs.Grammar.{Grammar, rule_at, daughters_by}
 use Rattle.model.specs.GrammarFile.{grammar_refusal}
 use Rattle.model.specs.Tree.{others, forest, nodes_refusal}
 use Rattle.trees.specs.Places.{Ended}
-use Rattle.trees.specs.declared.reading.Place.{Place}
-use Rattle.trees.specs.declared.reading.Place.TheVariants.{Next, Stop}
 
 -- a tree can be read at place k of the list: the grammar is accepted, the list is no longer than a tree's, and the table has room
 abbrev pub Readable : List ℕ → List ℕ → ℕ → List ℕ → Type 0
@@ -33,12 +31,12 @@ pub record Passes (g : Grammar) (list cs : List ℕ) (k : ℕ) (table : List ℕ
 abbrev pub Meets : Grammar → List ℕ → List ℕ → ℕ → Refusal → Type 0
 Meets g list cs k x = (wanted : List ℕ) → nodes_refusal g k (cs ++ wanted) (drop k list) ≡ some x
 
-abbrev pub Says : Grammar → List ℕ → List ℕ → ℕ → List ℕ → Place → Type 0
-Says g list cs k table (Next e) = Passes g list cs k table e
-Says g list cs k table (Stop x) = Meets g list cs k x
+abbrev pub Says : Grammar → List ℕ → List ℕ → ℕ → List ℕ → Result ℕ Refusal → Type 0
+Says g list cs k table (Ok e) = Passes g list cs k table e
+Says g list cs k table (Err x) = Meets g list cs k x
 
 -- trees with roots of the categories cs are read from place k on: the table keeps its length and what stands before k
-pub record Reading (g : Grammar) (list cs : List ℕ) (k : ℕ) (before after : List ℕ) (answer : Place) : Type 0 where
+pub record Reading (g : Grammar) (list cs : List ℕ) (k : ℕ) (before after : List ℕ) (answer : Result ℕ Refusal) : Type 0 where
   pub long : length after ≡ 96
   pub kept : (i : ℕ) → i < k → get_or after i 0 ≡ get_or before i 0
   pub says : Says g list cs k after answer

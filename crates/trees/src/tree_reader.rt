@@ -1,5 +1,4 @@
-// A tree reader: the list of a tree and a place in it. The functions over it are thin: each makes it, moves it or takes it apart, and leaves the work to
-// `look`.
+// A tree reader: the list of a tree and a place in it.
 ghost use Rattle.std.specs.Prelude.{◌≡◌, ◌+◌, ◌<◌, ◌^◌};
 ghost use Rattle.trees.specs.Found.{found_at};
 
@@ -12,61 +11,24 @@ pub struct TreeReader<'a> {
     pub place: usize,
 }
 
-// A rule number and the place where the reading goes on, or the list has ended.
-#[derive(Clone, Copy)]
-pub enum Found {
-    Rule(RuleNumber, usize),
-    End,
-}
-
-// What stands at a place of a list, to go on at place `next`.
-pub fn look(list: &[u16], place: usize, next: usize) -> Found
-    ensures { result ≡ found_at list.now place next }
-{
-    if place < list.len() {
-        Found::Rule(RuleNumber(list[place]), next)
-    } else {
-        Found::End
+impl<'a> TreeReader<'a> {
+    // The reader moved on by one, to the next node of the list: the first daughter of a node that has daughters.
+    pub fn moved_on(self) -> TreeReader<'a>
+        requires { self.place + 1 < 2 ^ 64 }
+        ensures { (result.list ≡ self.entry.list) × (result.place ≡ self.entry.place + 1) }
+    {
+        TreeReader {
+            list: self.list,
+            place: self.place + 1,
+        }
     }
-}
 
-// The reader at a place of a list.
-pub fn reader_at<'a>(list: &'a [u16], place: usize) -> TreeReader<'a>
-    ensures { (result.list ≡ list.entry) × (result.place ≡ place) }
-{
-    TreeReader { list, place }
-}
-
-// The reader moved on by one, to the next node of the list: the first daughter of a node that has daughters.
-pub fn moved_on<'a>(r: TreeReader<'a>) -> TreeReader<'a>
-    requires { r.place + 1 < 2 ^ 64 }
-    ensures { (result.list ≡ r.entry.list) × (result.place ≡ r.entry.place + 1) }
-{
-    TreeReader {
-        list: r.list,
-        place: r.place + 1,
+    // What the reader finds at its place: a rule number, and the place where the reading goes on; or the list has ended.
+    pub fn here(self) -> Option<(RuleNumber, usize)>
+        requires { self.place + 1 < 2 ^ 64 }
+        ensures { result ≡ found_at self.entry.list.now self.entry.place (self.entry.place + 1) }
+    {
+        let r = self.list.get(self.place)?;
+        Some((RuleNumber(*r), self.moved_on().place))
     }
-}
-
-// The place of the reader.
-pub fn place_of<'a>(r: TreeReader<'a>) -> usize
-    ensures { result ≡ r.entry.place }
-{
-    r.place
-}
-
-// What the reader finds at its place, to go on at place `next`.
-pub fn here<'a>(r: TreeReader<'a>, next: usize) -> Found
-    ensures { result ≡ found_at r.entry.list.now r.entry.place next }
-{
-    look(r.list, r.place, next)
-}
-
-// What a reader takes at a place of a list: the node that stands there, and where the reader stands after it. For callers that hold no reader.
-pub fn take_at(list: &[u16], place: usize) -> Found
-    requires { place + 1 < 2 ^ 64 }
-    ensures { result ≡ found_at list.now place (place + 1) }
-{
-    let r = reader_at(list, place);
-    here(r, place_of(moved_on(r)))
 }

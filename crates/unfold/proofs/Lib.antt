@@ -2,5 +2,4 @@ pub mod RoundTrips
 pub mod UnfoldRun
 pub mod UnfoldTables
 pub mod UnfoldLoop
-pub mod UnfoldStack
 pub mod UnfoldCall

@@ -10,7 +10,7 @@ use lib.ListN.{length, take, drop}
 use lib.Seq.{take_at}
 use Rattle.model.specs.declared.Refusal.{Refusal}
 use Rattle.model.specs.Base.{◌or_else◌}
-use Rattle.model.specs.Verdict.{verdict, Verdict}
+use Rattle.model.specs.Verdict.{verdict}
 use Rattle.model.specs.Grammar.{Grammar}
 use Rattle.model.specs.GrammarFile.{grammar_refusal, grammar_of}
 use Rattle.model.specs.Trace.{sentence_refusal, trace_refusal}

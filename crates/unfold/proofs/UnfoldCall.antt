@@ -6,7 +6,6 @@ use mathlib.Core.List.{List, ◌++◌}
 use Prim.Native.Nat.{ℕ, ◌<◌, ◌≤◌}
 use native.Mathlib.Omega.{arith}
 use lib.ListN.{length, get_or, take, drop}
-use lib.Seq.{get_or-take}
 use Rattle.model.specs.declared.Refusal.{Refusal}
 use Rattle.model.specs.Grammar.{Grammar}
 use Rattle.model.specs.GrammarFile.{grammar_refusal, grammar_of}
@@ -20,7 +19,7 @@ use Rattle.ranking.specs.Numbered.{begin_numbered}
 use Rattle.recognizer.specs.Traces.{taken_numbered}
 use Rattle.unfold.specs.Unfold.{daughter_count, Linked, Grows, Grown}
 use Rattle.unfold.proofs.UnfoldRun.{Unfolded, unfolded}
-use Rattle.unfold.proofs.UnfoldTables.{linked_front, grows_tree}
+use Rattle.unfold.proofs.UnfoldTables.{grows_tree}
 
 -- a refused trace changes nothing
 pub refused_kept : (o : Option Refusal) (list out : List ℕ) {x : Refusal} → o ≡ some x → out ≡ written o list out
@@ -31,25 +30,33 @@ module _ (file sentence trace taken : List ℕ) (accepted : grammar_refusal file
   abbrev g : Grammar
   g = grammar_of file
 
-  pub steps_few : length trace ≤ 96
+  steps_few : length trace ≤ 96
   steps_few = trace_short g (accepted_right file accepted) sentence trace passes
 
   tree_of_run : Unfolded file sentence trace accepted (take (length trace) taken)
   tree_of_run = subst (Unfolded file sentence trace accepted) (sym is) (unfolded file sentence trace accepted passes)
 
-  front_small : (k : ℕ) → k < length trace → get_or (take (length trace) taken) k 0 < 388
-  front_small k h = omega (arith, tree_of_run.small k h, steps_few)
+  abbrev front : List ℕ
+  front = take (length trace) taken
 
-  pub taken_small : (k : ℕ) → k < length trace → get_or taken k 0 < 388
-  taken_small k h = omega (arith, front_small k h, get_or-take (length trace) taken k 0 h)
+  front_long : length front ≡ length trace
+  front_long = tree_of_run.unfolds.sized
+
+  pub front_few : length (take (length trace) taken) ≤ 96
+  front_few = omega (arith, front_long, steps_few)
+
+  pub front_small : (k : ℕ) → k < length (take (length trace) taken) → get_or (take (length trace) taken) k 0 < 388
+  front_small k h =
+      let l : k < length trace = omega (arith, h, front_long) in
+      omega (arith, tree_of_run.small k l, l, steps_few)
 
   -- with the table that the steps fill
-  module _ (steps : List ℕ) (linked : Linked taken steps (length trace)) where
+  module _ (steps : List ℕ) (linked : Linked (take (length trace) taken) steps (length (take (length trace) taken))) where
     stands : Grows (daughter_count file) trace steps tree_of_run.tree 0
     stands =
         let u = tree_of_run in
-        grows_tree (daughter_count file) trace (take (length trace) taken) steps u.names steps_few u.unfolds front_small
-        (linked_front taken steps (length trace) linked) u.tree 0 u.start u.begins
+        grows_tree (daughter_count file) trace front steps u.names steps_few u.unfolds (λ k h. front_small k (omega (arith, h, front_long)))
+        (subst (Linked front steps) front_long linked) u.tree 0 u.start u.begins
 
     nodes_few : length (preorder tree_of_run.tree) ≤ 96
     nodes_few = omega (arith, tree_of_run.size, steps_few)

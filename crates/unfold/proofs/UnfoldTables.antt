@@ -5,8 +5,8 @@ use mathlib.Core.List.{List}
 use Prim.Native.Nat.{ℕ, zero, suc, ◌+◌, ◌<◌, ◌≤◌}
 use native.Mathlib.Omega.{arith}
 use native.Mathlib.Decide.{ℕ_discrete}
-use lib.ListN.{length, get_or, take, set}
-use lib.Seq.{get_or-take, get_or-set_same, get_or-set_other}
+use lib.ListN.{length, get_or, set}
+use lib.Seq.{get_or-set_same, get_or-set_other}
 use Rattle.model.specs.Base.{numbers_from}
 use Rattle.model.specs.Tree.{Tree, Forest, node, nil, cons}
 use Rattle.ranking.specs.Numbered.{made_at}
@@ -33,15 +33,6 @@ module _ (taken steps : List ℕ) (n p : ℕ) (h : Linked taken steps n) (e : p 
 
   pub linked_next : Linked taken (set steps p n) (n + 1)
   linked_next = record { within = λ k l. (stored k l).0; takes = λ k l. (stored k l).1 }
-
--- only the first n numbers of `taken` are looked at
-pub linked_front : (taken steps : List ℕ) (n : ℕ) → Linked taken steps n → Linked (take n taken) steps n
-linked_front taken steps n h = record { within = λ k l. (looked k l).0; takes = λ k l. (looked k l).1 }
-  where
-    looked : (k : ℕ) → k < n → (get_or steps (get_or (take n taken) k 0) 0 < n) × (get_or (take n taken) (get_or steps (get_or (take n taken) k 0) 0) 0 ≡ get_or (take n taken) k 0)
-    looked k l =
-        subst (λ (x : ℕ). (get_or steps x 0 < n) × (get_or (take n taken) (get_or steps x 0) 0 ≡ x)) (sym (get_or-take n taken k 0 l))
-        (h.within k l, get_or-take n taken (get_or steps (get_or taken k 0) 0) 0 (h.within k l) ∙ h.takes k l)
 
 nil_cons : {B : Type 0} {t : Tree} {ts : Forest} → nil ≡ cons t ts → B
 nil_cons e = let z : ◌≡◌ {A = ℕ} 0 1 = cc in absurd (omega arith)

@@ -2,7 +2,6 @@
 -- Assumes nothing.
 use Rattle.std.specs.Prelude.{◌≡◌, List, ◌++◌, ℕ, ◌≤◌, length, take, drop, Ok}
 use Rattle.model.specs.Calls.{check_trace_verdict, check_tree_verdict, trace_to_tree_output, tree_to_trace_verdict, tree_to_trace_output, trace_to_tree_verdict}
-use Rattle.model.specs.Verdict.{Verdict}
 
 module _ (file sentence : List ℕ) where
   -- trace to tree was accepted with n: the tree's list is the first n numbers of the output

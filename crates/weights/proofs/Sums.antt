@@ -3,21 +3,24 @@
 use mathlib.Core.Path.{◌≡◌, refl, sym, ap, subst, ◌∙◌}
 use mathlib.Core.Option.{Option, none, some}
 use mathlib.Core.List.{List, [], ◌∷◌, ◌++◌, map}
-use Prim.Native.Nat.{ℕ, ◌+◌, ◌≤◌}
+use Prim.Native.Nat.{ℕ, ◌+◌, ◌*◌, ◌≤◌}
 use native.Mathlib.Omega.{arith}
 use lib.Dec.{T}
 use lib.ListN.{length}
+use Rattle.std.specs.List.{sum_by}
+use Rattle.std.proofs.lemmas.List.Recursion.{is_sum_by}
 use Rattle.model.specs.declared.Refusal.{Refusal}
 use Rattle.model.specs.Base.{total}
 use Rattle.model.specs.Verdict.{verdict, Verdict}
 use Rattle.model.specs.Grammar.{Rule, Grammar, rule_at}
-use Rattle.model.specs.GrammarFile.{weight_of, record_of, grammar_refusal, grammar_of}
+use Rattle.model.specs.GrammarFile.{weight_of, record_of, record_place, grammar_refusal, grammar_of}
 use Rattle.model.specs.WellFormed.{Perm, Right}
 use Rattle.model.specs.Trace.{sentence_refusal, trace_refusal}
 use Rattle.model.specs.Tree.{Tree, Forest, node, nil, cons, preorder, preorders, has_root, has_roots, derives, tree_refusal}
 use Rattle.model.specs.Conversions.{BelongsTo, tree_of, trace_of}
 use Rattle.model.specs.Calls.{check_trace_refusal, check_trace_verdict, check_tree_refusal, check_tree_verdict}
 use Rattle.model.specs.Demands.{trace_of_tree}
+use Rattle.model.proofs.ByteLists.{Bytes, bytes_fields}
 use Rattle.model.proofs.Tests.{and_l, and_r, three_none, none_some}
 use Rattle.model.proofs.Perm.{perm_map, perm_total}
 use Rattle.model.proofs.Verdicts.{none_accepted, passed, refused, accepted}
@@ -56,6 +59,10 @@ sum_append : (f : ℕ → ℕ) (a b : List ℕ) → total (map f (a ++ b)) ≡ t
 sum_append f [] b = omega arith
 sum_append f (x ∷ a) b = omega (arith, sum_append f a b)
 
+sum_small : (f : ℕ → ℕ) (m : ℕ) → ((x : ℕ) → f x ≤ m) → (l : List ℕ) → total (map f l) ≤ m * length l
+sum_small f m h [] = omega arith
+sum_small f m h (x ∷ l) = omega (arith, h x, sum_small f m h l)
+
 -- the weights of a tree's rules are those of their records
 module _ (file : List ℕ) where
   abbrev g : Grammar
@@ -63,6 +70,13 @@ module _ (file : List ℕ) where
 
   abbrev read : ℕ → ℕ
   read r = weight_of (record_of file r)
+
+  pub records_by : (list : List ℕ) → records_sum file list ≡ sum_by (λ r. weight_of (record_of file r)) list
+  records_by list = is_sum_by (λ l. total (map read l)) read refl (λ _ _. refl) list
+
+  -- a weight is a byte
+  pub records_small : Bytes file → (list : List ℕ) → records_sum file list ≤ 255 * length list
+  records_small h list = sum_small read 255 (λ r. omega (arith, bytes_fields file (record_place r) 24 h 23)) list
 
   weight_read : (r : ℕ) (rule : Rule) → rule_at g r ≡ some rule → read r ≡ weight_at g r
   weight_read r rule e = ap (λ (x : Rule). x.weight) (rule_is file r rule e).1 ∙ sym (ap weight_by e)

@@ -9,26 +9,14 @@ use grammar::weight_of;
 use model::{Refusal, RuleNumber};
 use recognizer::check_trace;
 
-// Rule k of a list.
-fn rule_in(list: &[u16], k: usize) -> RuleNumber
-    requires { k < length list.now }
-    ensures { result.0 ≡ get_or list.now k 0 }
-{
-    RuleNumber(list[k])
-}
-
 // The sum of the weights of a list of rules.
 fn sum_weights(file: &[u8], list: &[u16]) -> u64
     requires { length list.now ≤ 96 }
     ensures { (result ≡ records_sum file.now list.now) × (result ≤ largest_sum) }
 {
-    let mut sum: u64 = 0;
-    let mut k: usize = 0;
-    while k < list.len() {
-        sum += weight_of(file, rule_in(list, k)) as u64;
-        k += 1;
-    }
-    sum
+    list.iter()
+        .map(|r| u64::from(weight_of(file, RuleNumber(*r))))
+        .sum()
 }
 
 // The sum of weights along a trace, which is refused as the trace checker refuses it.

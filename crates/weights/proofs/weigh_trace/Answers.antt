@@ -1,10 +1,8 @@
 -- `weights::weigh_trace` meets its contract.
 -- Assumes nothing.
-use mathlib.Core.Path.{sym, subst}
 use lib.ListN.{length}
 use Rattle.model.specs.Calls.{check_trace_refusal}
 use Rattle.model.proofs.Verdicts.{handed_on, passed, met}
-use Rattle.weights.specs.Weights.{TraceWeighed}
 use Rattle.weights.proofs.Sums.{weighed_refused, trace_few, trace_weighed}
 use Rattle.weights.proofs.weigh_trace.Goals as goal
 

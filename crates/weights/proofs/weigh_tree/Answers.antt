@@ -1,10 +1,8 @@
 -- `weights::weigh_tree` meets its contract.
 -- Assumes nothing.
-use mathlib.Core.Path.{sym, subst}
 use lib.ListN.{length}
 use Rattle.model.specs.Calls.{check_tree_refusal}
 use Rattle.model.proofs.Verdicts.{handed_on, passed, met}
-use Rattle.weights.specs.Weights.{TreeWeighed}
 use Rattle.weights.proofs.Sums.{weighed_refused, tree_few, tree_weighed}
 use Rattle.weights.proofs.weigh_tree.Goals as goal
 

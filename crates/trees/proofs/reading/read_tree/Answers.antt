@@ -1,25 +1,21 @@
 -- `trees::reading::read_tree` meets its contract.
 -- Assumes nothing.
+use Rattle.model.proofs.Verdicts.{handed_on}
 use Rattle.trees.proofs.Nodes.{nodes_left, all_nodes, node_met}
 use Rattle.trees.proofs.reading.read_tree.Goals as goal
 
-pub returns-then-e-list : goal.returns-then-e-list
-returns-then-e-list c =
-    let r = c.read_first-p in
-    let start = c.start in
+pub returns-in_err-after : goal.returns-in_err-after
+returns-in_err-after c =
     let a = c.args in
-    nodes_left a.file.now a.list.now a.ends.now _ start.result.0 start.ensures r.result r.ensures c.in-Next.e c.in-Next.is c.if-e-list.true
+    rw (handed_on c.from_residual.result c.from_residual.ensures.1)
+    (node_met a.file.now a.list.now a.ends.now _ c.start.result.0 c.start.ensures _ c.in_err-after.ensures)
 
-pub returns-else-e-list : goal.returns-else-e-list
-returns-else-e-list c =
-    let r = c.read_first-p in
-    let start = c.start in
+pub returns-then-after-list : goal.returns-then-after-list
+returns-then-after-list c =
     let a = c.args in
-    all_nodes a.file.now a.list.now a.ends.now _ start.result.0 start.ensures r.result r.ensures c.in-Next.e c.in-Next.is c.if-e-list.false
+    nodes_left a.file.now a.list.now a.ends.now _ c.start.result.0 c.start.ensures c.in_ok-after.after c.in_ok-after.ensures c.if-after-list.true
 
-pub returns-in-Stop : goal.returns-in-Stop
-returns-in-Stop c =
-    let r = c.read_first-p in
-    let start = c.start in
+pub returns : goal.returns
+returns c =
     let a = c.args in
-    node_met a.file.now a.list.now a.ends.now _ start.result.0 start.ensures r.result r.ensures c.in-Stop.x c.in-Stop.is
+    all_nodes a.file.now a.list.now a.ends.now _ c.start.result.0 c.start.ensures c.in_ok-after.after c.in_ok-after.ensures c.if-after-list.false

@@ -1,0 +1,15 @@
+-- `unfold::to_tree::count_up` meets its contract.
+-- Assumes nothing.
+use Prim.Native.Nat.{◌<◌}
+use native.Mathlib.Omega.{arith}
+use native.Mathlib.Numerals.{add-one}
+use lib.ListN.{length}
+use Rattle.std.proofs.lemmas.List.{take_more_set}
+use Rattle.model.proofs.Lists.{numbers_next}
+use Rattle.unfold.proofs.to_tree.count_up.Goals as goal
+
+pub loop-k-preserved : goal.loop-k-preserved
+loop-k-preserved c =
+    let l = c.loop-k in
+    let inside : l.k < length l.list = omega arith in
+    rw (take_more_set, l.invariant, add-one, numbers_next c.args.first l.k)
