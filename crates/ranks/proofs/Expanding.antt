@@ -435,14 +435,9 @@ module _ (g : Grammar) (t w : List ℕ) (r mark from to : ℕ) (h : Expands g t 
     pub length_at : (at l : ℕ) → at ≡ 8 * r → l ≡ get_or t (at + 1) 0 % 65536 → l < 256
     length_at at l e d = omega (arith, length_small, d ∙ ap (λ (i : ℕ). get_or t (i + 1) 0 % 65536) e ∙ length_is)
 
-    pub narrow_written : (at l d0 d1 d2 : ℕ) → at ≡ 8 * r → l ≡ get_or t (at + 1) 0 % 65536 → d0 ≡ marked mark (get_or t (at + 2 + 0) 0) → d1 ≡ marked mark (get_or t (at + 2 + 2) 0) → d2 ≡ marked mark (get_or t (at + 2 + 4) 0)
-        → take (length rule.daughters) (d0 ∷ (d1 ∷ (d2 ∷ []))) ++ map (remade (shifted (0 ∷ []) (l ∷ []))) (slice (from + 1) to w) ≡ map number_of next
-    narrow_written at l d0 d1 d2 e el e0 e1 e2 =
-        let i0 : at + 2 + 0 ≡ 8 * r + 2 = omega arith in
-        let i1 : at + 2 + 2 ≡ 8 * r + 4 = omega arith in
-        let i2 : at + 2 + 4 ≡ 8 * r + 6 = omega arith in
-        let p0 : d0 ≡ marked mark (get_or t (8 * r + 2) 0) = e0 ∙ ap (λ (i : ℕ). marked mark (get_or t i 0)) i0 in
-        let p1 : d1 ≡ marked mark (get_or t (8 * r + 4) 0) = e1 ∙ ap (λ (i : ℕ). marked mark (get_or t i 0)) i1 in
-        let p2 : d2 ≡ marked mark (get_or t (8 * r + 6) 0) = e2 ∙ ap (λ (i : ℕ). marked mark (get_or t i 0)) i2 in
+    pub narrow_written : (at l : ℕ) (es : List ℕ) → at ≡ 8 * r → l ≡ get_or t (at + 1) 0 % 65536 → es ≡ ready_made t at mark
+        → take (length rule.daughters) es ++ map (remade (shifted (0 ∷ []) (l ∷ []))) (slice (from + 1) to w) ≡ map number_of next
+    narrow_written at l es e el d =
+        let p : es ≡ ready_made t (8 * r) mark = d ∙ ap (λ (i : ℕ). ready_made t i mark) e in
         let pl : l ≡ len = el ∙ ap (λ (i : ℕ). get_or t (i + 1) 0 % 65536) e ∙ length_is in
-        (λ o. take (length rule.daughters) (p0 o ∷ (p1 o ∷ (p2 o ∷ []))) ++ map (remade (shifted (0 ∷ []) (pl o ∷ []))) (slice (from + 1) to w)) ∙ narrow_is
+        (λ o. take (length rule.daughters) (p o) ++ map (remade (shifted (0 ∷ []) (pl o ∷ []))) (slice (from + 1) to w)) ∙ narrow_is

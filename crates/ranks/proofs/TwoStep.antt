@@ -12,7 +12,7 @@ use Rattle.ranks.specs.Prediction.{Short, Behind, Apart, Sized, unpacked, remade
 use Rattle.ranks.specs.Queue.{Roomy, Every, Mapped, Placed, Next, insert_all}
 use Rattle.ranks.specs.Moves.{moves_ranks, moves_lengths, Bounded}
 use Rattle.ranks.specs.Daughters.{daughter, two_bases, MakesTwo}
-use Rattle.ranks.specs.Step.{daughter_at, by_two, two_moves, two_begins, TwoRanks, ExpandsTwo, expanded_two}
+use Rattle.ranks.specs.Step.{daughters_at, by_two, two_moves, two_begins, TwoRanks, ExpandsTwo, expanded_two}
 use Rattle.ranks.proofs.Two.{moves_first, moves_second, begins_first, begins_second}
 use Rattle.ranks.proofs.Gathering.{first_two, two_apart}
 use Rattle.ranks.proofs.Stepping.{replaced, next_as, wide_next}
@@ -69,13 +69,12 @@ module _ (t : List ℕ) (at n mark : ℕ) (w : List ℕ) (from to : ℕ) (p : Ex
         b.len1,
       )
 
-  pub two_next : (e0 e1 e2 : ℕ) (u v : List ℕ)
-      → (0 < n → e0 ≡ daughter_at t at 0 (two_bases lowest base) mark) → (1 < n → e1 ≡ daughter_at t at 1 (two_bases lowest base) mark) → (2 < n → e2 ≡ daughter_at t at 2 (two_bases lowest base) mark)
+  pub two_next : (es u v : List ℕ) → es ≡ take n (daughters_at t at (two_bases lowest base) mark)
       → Mapped (remade (shifted (0 ∷ (f ∷ [])) (len0 ∷ (len1 ∷ [])))) w u (from + 1) to (to + n)
-      → Placed (take n (e0 ∷ (e1 ∷ (e2 ∷ [])))) u v to n (to + n + (to - (from + 1)))
+      → Placed es u v to n (to + n + (to - (from + 1)))
       → Next (expanded_two t at n mark w from to) w v to (to + n + (to - (from + 1)))
-  two_next e0 e1 e2 u v h0 h1 h2 moved placed =
+  two_next es u v made moved placed =
       next_as w v to
-      (ap (λ (g : ℕ → ℕ). insert_all (take n (e0 ∷ (e1 ∷ (e2 ∷ [])))) (map (remade g) (slice (from + 1) to w))) (λ i r. first_two len0 f len1 255 1 255 1 refl refl r i)
-      ∙ wide_next t at n mark (two_bases lowest base) (by_two len0 f len1) w from to e0 e1 e2 p.0.steps.few h0 h1 h2 arm.begins arm.moves)
-      (replaced (remade (shifted (0 ∷ (f ∷ [])) (len0 ∷ (len1 ∷ [])))) (take n (e0 ∷ (e1 ∷ (e2 ∷ [])))) w u v from to n moved placed)
+      (ap (λ (g : ℕ → ℕ). insert_all es (map (remade g) (slice (from + 1) to w))) (λ i r. first_two len0 f len1 255 1 255 1 refl refl r i)
+      ∙ wide_next t at n mark (two_bases lowest base) (by_two len0 f len1) w from to es made arm.begins arm.moves)
+      (replaced (remade (shifted (0 ∷ (f ∷ [])) (len0 ∷ (len1 ∷ [])))) es w u v from to n moved placed)

@@ -1,7 +1,6 @@
 -- Which ranks of the queue move, and by how much: the front's components whose lengths are not 1.
 -- Assumes nothing.
-use Rattle.std.specs.Prelude.{Bool, true, false, List, [], ◌∷◌, ℕ, ◌/◌, ◌%◌, ◌<◌, eqb}
-use Rattle.ranks.specs.declared.prediction.Four.{Four}
+use Rattle.std.specs.Prelude.{Bool, true, false, List, [], ◌∷◌, ℕ, ◌/◌, ◌%◌, ◌<◌, eqb, get_or}
 use Rattle.ranks.specs.declared.prediction.Moves.{Moves}
 use Rattle.ranking.specs.Ranks.{shifted}
 use Rattle.ranks.specs.Prediction.{Prediction, Each, Short, Apart, ranks, unpacked, rerank}
@@ -48,11 +47,11 @@ pub record Bounded (m : Moves) : Type 0 where
   pub len3 : m.len3 < 256
 
 -- four numbers below 256
-pub record Small (f : Four) : Type 0 where
-  pub c0 : f.c0 < 256
-  pub c1 : f.c1 < 256
-  pub c2 : f.c2 < 256
-  pub c3 : f.c3 < 256
+pub record Small (f : List ℕ) : Type 0 where
+  pub c0 : get_or f 0 0 < 256
+  pub c1 : get_or f 1 0 < 256
+  pub c2 : get_or f 2 0 < 256
+  pub c3 : get_or f 3 0 < 256
 
 -- the front x after a step by a rule of these lengths: the rank at which each of its components begins
 abbrev pub begun : ℕ → ℕ → Prediction

@@ -2,7 +2,6 @@
 -- Assumes nothing.
 use Rattle.std.specs.Prelude.{◌≡◌, List, [], ◌∷◌, ℕ, ◌+◌, ◌*◌, ◌/◌, ◌%◌, ◌<◌, ◌≤◌}
 use Rattle.ranking.specs.Ranks.{passed, added}
-use Rattle.ranks.specs.declared.prediction.Four.{Four}
 
 -- a component that is not there repeats the rank of component 0
 pub record Prediction : Type 0 where
@@ -16,10 +15,6 @@ pub record Prediction : Type 0 where
 
 abbrev pub ranks : Prediction → List ℕ
 ranks p = p.rank0 ∷ (p.rank1 ∷ (p.rank2 ∷ (p.rank3 ∷ [])))
-
--- a number for each of four components, as a list
-abbrev pub listed : Four → List ℕ
-listed f = f.c0 ∷ (f.c1 ∷ (f.c2 ∷ (f.c3 ∷ [])))
 
 -- four ranks, what stands between them and the least rank (15 bits), the least rank
 abbrev pub lanes : ℕ → ℕ → ℕ → ℕ → ℕ → ℕ → ℕ

@@ -46,6 +46,10 @@ pub record TwoRanks (front lens : ℕ) : Type 0 where
 abbrev pub daughter_at : List ℕ → ℕ → ℕ → List ℕ → ℕ → ℕ
 daughter_at t at j bs mark = packed (daughter bs (get_or t (at + 2 + 2 * j) 0) (get_or t (at + 3 + 2 * j) 0) mark)
 
+-- the three that its cells have room for
+abbrev pub daughters_at : List ℕ → ℕ → List ℕ → ℕ → List ℕ
+daughters_at t at bs mark = daughter_at t at 0 bs mark ∷ (daughter_at t at 1 bs mark ∷ (daughter_at t at 2 bs mark ∷ []))
+
 -- its cells can make it
 pub record Makes (t : List ℕ) (at j : ℕ) (bs : List ℕ) (mark : ℕ) : Type 0 where
   pub sized : Sized (daughter bs (get_or t (at + 2 + 2 * j) 0) (get_or t (at + 3 + 2 * j) 0) mark)

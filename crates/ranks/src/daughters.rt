@@ -1,8 +1,8 @@
 // The daughters of a nonlexical step, as predictions of the next queue.
-ghost use Rattle.std.specs.Prelude.{◌≡◌, ◌+◌, ◌*◌, ◌%◌, ◌<◌, ◌≤◌, min, max, length, get_or};
+ghost use Rattle.std.specs.Prelude.{◌≡◌, ℕ, ◌+◌, ◌*◌, ◌%◌, ◌<◌, ◌≤◌, length, get_or, take};
 ghost use Rattle.ranks.specs.Prediction.{Sized, packed};
 ghost use Rattle.ranks.specs.Daughters.{daughter, Alone, two_bases, MakesTwo, Rising};
-ghost use Rattle.ranks.specs.Step.{daughter_at, Makes};
+ghost use Rattle.ranks.specs.Step.{daughters_at, Makes};
 
 use crate::prediction::{alone, category, lifted, number, pack, rank, with_least};
 use crate::table::{DIMENSIONS, PLACE0, PLACE1, PLACE2, PLACE3, TABLE, daughter_cell, places_cell};
@@ -10,40 +10,18 @@ use crate::table::{DIMENSIONS, PLACE0, PLACE1, PLACE2, PLACE3, TABLE, daughter_c
 // A category has at most so many components.
 const COMPONENTS: u64 = 4;
 
-// Three numbers, the lowest first.
-#[derive(Clone, Copy)]
-pub struct Three {
-    pub low: u64,
-    pub mid: u64,
-    pub high: u64,
-}
-
-// The smaller of two.
-pub fn smaller(x: u64, y: u64) -> u64
-    ensures { result ≡ min x y }
-{
-    if x < y { x } else { y }
-}
-
-// The larger of two.
-pub fn larger(x: u64, y: u64) -> u64
-    ensures { result ≡ max x y }
-{
-    if x < y { y } else { x }
-}
+// A rule has at most so many daughters.
+pub const MOST: usize = 3;
 
 // Three numbers in rising order.
-pub fn rising(x: u64, y: u64, z: u64) -> Three
-    ensures { Rising x y z result.low result.mid result.high }
+pub fn rising(x: u64, y: u64, z: u64) -> [u64; 3]
+    ensures order { Rising x y z (get_or result 0 0) (get_or result 1 0) (get_or result 2 0) }
+    ensures long { length result ≡ 3 }
 {
-    let a = smaller(x, y);
-    let b = larger(x, y);
-    let c = smaller(b, z);
-    Three {
-        low: smaller(a, c),
-        mid: larger(a, c),
-        high: larger(b, z),
-    }
+    let a = x.min(y);
+    let b = x.max(y);
+    let c = b.min(z);
+    [a.min(c), a.max(c), b.max(z)]
 }
 
 // The daughter of these two cells, where the front's components begin at the ranks b. `mark` is added to its number.
@@ -55,7 +33,7 @@ pub fn made_wide(cell: u64, places: u64, b: &[u64; 4], mark: u64) -> u64
     let r1 = b[(places / PLACE1 % COMPONENTS) as usize] + rank(cell, 1);
     let r2 = b[(places / PLACE2 % COMPONENTS) as usize] + rank(cell, 2);
     let r3 = b[(places / PLACE3 % COMPONENTS) as usize] + rank(cell, 3);
-    let least = smaller(smaller(r0, r1), smaller(r2, r3));
+    let least = r0.min(r1).min(r2.min(r3));
     pack(
         least,
         mark + number(cell),
@@ -78,16 +56,16 @@ pub fn made(cell: u64, places: u64, b: &[u64; 4], mark: u64) -> u64
     made_wide(cell, places, b, mark)
 }
 
-// Daughter j of d from the cells of the rule that begin at `at`, or 0 where there are not so many.
-pub fn made_at(t: &[u64; TABLE], at: usize, d: usize, j: usize, b: &[u64; 4], mark: u64) -> u64
-    requires { (at + 8 ≤ 2048) × (j < 3) × (length b.now ≡ 4) × (j < d → Makes t.now at j b.now mark) }
-    ensures { j < d → result ≡ daughter_at t.now at j b.now mark }
+// The d daughters from the cells of the rule that begin at `at`, and 0 behind them.
+pub fn made_at(t: &[u64; TABLE], at: usize, d: usize, b: &[u64; 4], mark: u64) -> [u64; MOST]
+    requires { (at + 8 ≤ 2048) × (d ≤ 3) × (length b.now ≡ 4) × ((j : ℕ) → j < d → Makes t.now at j b.now mark) }
+    ensures { take d result ≡ take d (daughters_at t.now at b.now mark) }
 {
-    if j < d {
-        made(daughter_cell(t, at, j), places_cell(t, at, j), b, mark)
-    } else {
-        0
+    let mut e = [0; MOST];
+    for j in 0..d {
+        e[j] = made(daughter_cell(t, at, j), places_cell(t, at, j), b, mark);
     }
+    e
 }
 
 // The daughter of these two cells, which has at most two components, for a front of two. Component `lowest` of the front has rank 0, and what takes the place of
@@ -99,31 +77,30 @@ fn made_two(cell: u64, places: u64, lowest: u64, base: u64, mark: u64) -> u64
     let far0 = (places / PLACE0 + lowest) % 2;
     let far1 = (places / PLACE1 + lowest) % 2;
     let y = lifted(cell, far0, far1, base, mark);
-    with_least(y, smaller(rank(y, 0), rank(y, 1)))
+    with_least(y, rank(y, 0).min(rank(y, 1)))
 }
 
-// Daughter j of d, made in this way from the cells of the rule that begin at `at`, or 0 where there are not so many.
+// The d daughters, made in this way from the cells of the rule that begin at `at`, and 0 behind them.
 pub fn made_two_at(
     t: &[u64; TABLE],
     at: usize,
     d: usize,
-    j: usize,
     lowest: u64,
     base: u64,
     mark: u64,
-) -> u64
-    requires { (at + 8 ≤ 2048) × (j < 3) × (j < d → MakesTwo (get_or t.now (at + 2 + 2 * j) 0) (get_or t.now (at + 3 + 2 * j) 0) lowest base mark) }
-    ensures { j < d → result ≡ daughter_at t.now at j (two_bases lowest base) mark }
+) -> [u64; MOST]
+    requires { (at + 8 ≤ 2048) × (d ≤ 3) × ((j : ℕ) → j < d → MakesTwo (get_or t.now (at + 2 + 2 * j) 0) (get_or t.now (at + 3 + 2 * j) 0) lowest base mark) }
+    ensures { take d result ≡ take d (daughters_at t.now at (two_bases lowest base) mark) }
 {
-    if j < d {
-        made_two(
+    let mut e = [0; MOST];
+    for j in 0..d {
+        e[j] = made_two(
             daughter_cell(t, at, j),
             places_cell(t, at, j),
             lowest,
             base,
             mark,
-        )
-    } else {
-        0
+        );
     }
+    e
 }

@@ -5,7 +5,7 @@ ghost use Rattle.ranks.specs.Prediction.{ranks, unpacked, Short, Behind, Apart, 
 ghost use Rattle.ranks.specs.Queue.{Roomy, Every, Mapped};
 ghost use Rattle.ranks.specs.Moves.{moves_ranks, moves_lengths, with_one, gathered, lengths_of, Bounded, begun, Begins};
 
-use crate::prediction::{Moves, moved4, rank, ranks_of};
+use crate::prediction::{Moves, moved4, ranks_of};
 use crate::queue::{ROOM, move1, move3, shift};
 use crate::table::lengths_of;
 
@@ -20,15 +20,7 @@ fn with_one(m: Moves, f: u64, len: u64) -> Moves
         return m;
     }
     if f == 0 {
-        return Moves {
-            len0: len,
-            f1: m.f1,
-            len1: m.len1,
-            f2: m.f2,
-            len2: m.len2,
-            f3: m.f3,
-            len3: m.len3,
-        };
+        return Moves { len0: len, ..m };
     }
     Moves {
         len0: m.len0,
@@ -56,10 +48,10 @@ pub fn moves_of(front: u64, lens: u64) -> Moves
     };
     let f = ranks_of(front);
     let n = lengths_of(lens);
-    let m3 = with_one(none, f.c3, n.c3);
-    let m2 = with_one(m3, f.c2, n.c2);
-    let m1 = with_one(m2, f.c1, n.c1);
-    with_one(m1, f.c0, n.c0)
+    let m3 = with_one(none, f[3], n[3]);
+    let m2 = with_one(m3, f[2], n[2]);
+    let m1 = with_one(m2, f[1], n[1]);
+    with_one(m1, f[0], n[0])
 }
 
 // The predictions from..to, which are behind the front, to `out` on, where its component of rank 0 gives way to len0 variables, and another, of rank f1, to len1;
@@ -88,11 +80,9 @@ pub fn advance(w: &mut [u64; ROOM], from: usize, to: usize, out: usize, m: Moves
     requires { Roomy w.old from to out × Every Short w.old from to × Every Behind w.old from to × Every (Apart (moves_ranks m) (moves_lengths m)) w.old from to × Bounded m }
     ensures { Mapped (remade (shifted (moves_ranks m) (moves_lengths m))) w.old w.new from to out }
 {
-    if m.len3 == 1 {
-        if m.len2 == 1 {
-            advance_two(w, from, to, out, m.len0, m.f1, m.len1);
-            return;
-        }
+    if m.len3 == 1 && m.len2 == 1 {
+        advance_two(w, from, to, out, m.len0, m.f1, m.len1);
+        return;
     }
     move3(w, from, to, out, m);
 }
@@ -102,6 +92,5 @@ pub fn bases(front: u64, lens: u64) -> [u64; 4]
     requires { Begins front lens }
     ensures { result ≡ ranks (begun front lens) }
 {
-    let y = moved4(front, ranks_of(front), lengths_of(lens));
-    [rank(y, 0), rank(y, 1), rank(y, 2), rank(y, 3)]
+    ranks_of(moved4(front, &ranks_of(front), &lengths_of(lens)))
 }

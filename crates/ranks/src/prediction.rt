@@ -4,19 +4,10 @@
 ghost use Rattle.std.specs.Prelude.{◌≡◌, [], ◌∷◌, ◌+◌, ◌*◌, ◌<◌, get_or};
 ghost use Rattle.ranking.specs.Ranks.{above, shifted};
 ghost use Rattle.ranks.specs.Table.{marked};
-ghost use Rattle.ranks.specs.Prediction.{Short, Behind, Apart, Sized, Flags, ranks, packed, unpacked, marks, remade, listed};
+ghost use Rattle.ranks.specs.Prediction.{Short, Behind, Apart, Sized, Flags, ranks, packed, unpacked, marks, remade};
 ghost use Rattle.ranks.specs.Moves.{moves_ranks, moves_lengths, Bounded, Small};
 
 use model::Category;
-
-// A number for each of four components.
-#[derive(Clone, Copy)]
-pub struct Four {
-    pub c0: u64,
-    pub c1: u64,
-    pub c2: u64,
-    pub c3: u64,
-}
 
 // The components of the front that move other ranks: the one of rank 0 gives way to len0 variables, the one of rank f1 to len1, and so on; where there is
 // none the length is 1.
@@ -126,15 +117,10 @@ pub fn rank(x: u64, c: usize) -> u64
 }
 
 // The ranks of its components.
-pub fn ranks_of(x: u64) -> Four
-    ensures { listed result ≡ ranks (unpacked x) }
+pub fn ranks_of(x: u64) -> [u64; 4]
+    ensures { result ≡ ranks (unpacked x) }
 {
-    Four {
-        c0: rank(x, 0),
-        c1: rank(x, 1),
-        c2: rank(x, 2),
-        c3: rank(x, 3),
-    }
+    [rank(x, 0), rank(x, 1), rank(x, 2), rank(x, 3)]
 }
 
 // 1 in the place of each rank of x that lies above f.
@@ -187,17 +173,15 @@ pub fn shifted(x: u64, len0: u64) -> u64
 }
 
 // Each rank where four components, of the ranks f, give way to variables: so many as `lens` says.
-pub fn moved4(x: u64, f: Four, lens: Four) -> u64
-    requires { Short (unpacked x) × Apart (listed f) (listed lens) (unpacked x) × Small f × Small lens }
-    ensures { result ≡ remade (shifted (listed f) (listed lens)) x }
+pub fn moved4(x: u64, f: &[u64; 4], lens: &[u64; 4]) -> u64
+    requires { Short (unpacked x) × Apart f.now lens.now (unpacked x) × Small f.now × Small lens.now }
+    ensures { result ≡ remade (shifted f.now lens.now) x }
 {
-    let t0 = reached(x, f.c0);
-    let t1 = reached(x, f.c1);
-    let t2 = reached(x, f.c2);
-    let t3 = reached(x, f.c3);
-    x + spread(t0, lens.c0) + spread(t1, lens.c1) + spread(t2, lens.c2) + spread(t3, lens.c3)
-        - t0
-        - t1
-        - t2
-        - t3
+    let [f0, f1, f2, f3] = *f;
+    let [n0, n1, n2, n3] = *lens;
+    let t0 = reached(x, f0);
+    let t1 = reached(x, f1);
+    let t2 = reached(x, f2);
+    let t3 = reached(x, f3);
+    x + spread(t0, n0) + spread(t1, n1) + spread(t2, n2) + spread(t3, n3) - t0 - t1 - t2 - t3
 }

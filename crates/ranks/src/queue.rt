@@ -1,6 +1,6 @@
 // The queue: a rising list of predictions, each one number, as the part from..to of a lent array. A step reads from..to and writes the next queue
 // behind it, so that the queues of all steps of a run stand one behind the other.
-ghost use Rattle.std.specs.Prelude.{[], ◌∷◌, ◌+◌, ◌-◌, ◌<◌, ◌≤◌};
+ghost use Rattle.std.specs.Prelude.{◌≡◌, [], ◌∷◌, ℕ, ◌+◌, ◌-◌, ◌<◌, ◌≤◌, get_or};
 ghost use Rattle.ranking.specs.Ranks.{shifted};
 ghost use Rattle.ranks.specs.Prediction.{Short, Behind, Apart, remade};
 ghost use Rattle.ranks.specs.Moves.{moves_ranks, moves_lengths, Bounded};
@@ -13,18 +13,27 @@ use model::Category;
 // 64 predictions for each of the 97 queues of a run, and as many cells behind the last.
 pub const ROOM: usize = 6272;
 
+// Writes f of each number of from..to, to `out` on.
+fn carry<F: Fn(u64) -> u64>(w: &mut [u64; ROOM], from: usize, to: usize, out: usize, f: F)
+    ghost after: { ℕ → ℕ }
+    requires room { Roomy w.old from to out }
+    requires may_call { (i : ℕ) → from ≤ i → i < to → F.pre f (get_or w.old i 0) }
+    requires answers { (i y : ℕ) → from ≤ i → i < to → F.post f (get_or w.old i 0) y → y ≡ after (get_or w.old i 0) }
+    ensures { Mapped after w.old w.new from to out }
+{
+    let mut k = out;
+    for i in from..to {
+        w[k] = f(w[i]);
+        k += 1;
+    }
+}
+
 // The predictions from..to, which are behind the front, to `out` on: the front's component of rank 0 gives way to len0 variables.
 pub fn shift(w: &mut [u64; ROOM], from: usize, to: usize, out: usize, len0: u64)
     requires { Roomy w.old from to out × Every Short w.old from to × Every Behind w.old from to × (len0 < 256) }
     ensures { Mapped (remade (shifted (0 ∷ []) (len0 ∷ []))) w.old w.new from to out }
 {
-    let mut i = from;
-    let mut k = out;
-    while i < to {
-        w[k] = shifted(w[i], len0);
-        i += 1;
-        k += 1;
-    }
+    carry(w, from, to, out, move |x| shifted(x, len0));
 }
 
 // The same where a component of rank f1 gives way to len1 variables too.
@@ -32,13 +41,7 @@ pub fn move1(w: &mut [u64; ROOM], from: usize, to: usize, out: usize, len0: u64,
     requires { Roomy w.old from to out × Every Short w.old from to × Every Behind w.old from to × Every (Apart (0 ∷ (f1 ∷ [])) (len0 ∷ (len1 ∷ []))) w.old from to × (len0 < 256) × (f1 < 256) × (len1 < 256) }
     ensures { Mapped (remade (shifted (0 ∷ (f1 ∷ [])) (len0 ∷ (len1 ∷ [])))) w.old w.new from to out }
 {
-    let mut i = from;
-    let mut k = out;
-    while i < to {
-        w[k] = moved1(w[i], len0, f1, len1);
-        i += 1;
-        k += 1;
-    }
+    carry(w, from, to, out, move |x| moved1(x, len0, f1, len1));
 }
 
 // The same for three other components. A component that is not there has rank 255, above which there is none.
@@ -46,13 +49,7 @@ pub fn move3(w: &mut [u64; ROOM], from: usize, to: usize, out: usize, m: Moves)
     requires { Roomy w.old from to out × Every Short w.old from to × Every Behind w.old from to × Every (Apart (moves_ranks m) (moves_lengths m)) w.old from to × Bounded m }
     ensures { Mapped (remade (shifted (moves_ranks m) (moves_lengths m))) w.old w.new from to out }
 {
-    let mut i = from;
-    let mut k = out;
-    while i < to {
-        w[k] = moved3(w[i], m);
-        i += 1;
-        k += 1;
-    }
+    carry(w, from, to, out, move |x| moved3(x, m));
 }
 
 // A lexical step: the front goes, and every rank is one less.

@@ -1,5 +1,5 @@
 // A nonlexical step on the queue.
-ghost use Rattle.std.specs.Prelude.{[], ◌∷◌, ◌++◌, map, ◌+◌, ◌-◌, ◌<◌, ◌≤◌, take};
+ghost use Rattle.std.specs.Prelude.{[], ◌∷◌, ◌++◌, map, ◌+◌, ◌-◌, ◌<◌, ◌≤◌, take, length};
 ghost use Rattle.std.proofs.Math.Seq.{slice};
 ghost use Rattle.ranking.specs.Ranks.{shifted};
 ghost use Rattle.ranks.specs.Prediction.{Short, Behind, Apart, remade};
@@ -7,7 +7,7 @@ ghost use Rattle.ranks.specs.Moves.{moves_ranks, moves_lengths, Bounded};
 ghost use Rattle.ranks.specs.Step.{ExpandsWide, expanded_wide, ExpandsTwo, expanded_two, Expandable, Expanded};
 ghost use Rattle.ranks.specs.Queue.{Every, Gap, Placed, Steps, Next, insert_all};
 
-use crate::daughters::{larger, made_at, made_two_at, rising, smaller};
+use crate::daughters::{MOST, made_at, made_two_at, rising};
 use crate::moves::{advance, advance_two, bases, moves_of};
 use crate::prediction::{Moves, rank};
 use crate::queue::{ROOM, settle1, settle2, settle3, shift};
@@ -16,61 +16,51 @@ use crate::table::{
 };
 use model::RuleNumber;
 
-// A step by a rule of dimension 1. Its component has len variables, so the d daughters, the first d of e0, e1 and e2, hold the ranks below len, and every
-// other rank moves up by len - 1: the daughters come first, in their order. The next queue begins at `to`.
+// A step by a rule of dimension 1. Its component has len variables, so the d daughters, the first d of e, hold the ranks below len, and every other rank moves
+// up by len - 1: the daughters come first, in their order. The next queue begins at `to`.
 pub fn expand_narrow(
     w: &mut [u64; ROOM],
     from: usize,
     to: usize,
     d: usize,
     len: u64,
-    e0: u64,
-    e1: u64,
-    e2: u64,
+    e: &[u64; MOST],
 )
     requires { Steps w.old from to d × Every Short w.old (from + 1) to × Every Behind w.old (from + 1) to × (len < 256) }
-    ensures { Next (take d (e0 ∷ (e1 ∷ (e2 ∷ []))) ++ map (remade (shifted (0 ∷ []) (len ∷ []))) (slice (from + 1) to w.old)) w.old w.new to (to + d + (to - (from + 1))) }
+    ensures { Next (take d e.now ++ map (remade (shifted (0 ∷ []) (len ∷ []))) (slice (from + 1) to w.old)) w.old w.new to (to + d + (to - (from + 1))) }
 {
+    // All three are stored, whatever d is: a copy of so many takes longer.
+    let [e0, e1, e2] = *e;
     w[to] = e0;
     w[to + 1] = e1;
     w[to + 2] = e2;
     shift(w, from + 1, to, to + d, len);
 }
 
-// The d daughters, the first d of e0, e1 and e2, put in their places in the rising list of from + d .. end, which fills from..end then.
-fn settle_some(w: &mut [u64; ROOM], from: usize, end: usize, d: usize, e0: u64, e1: u64, e2: u64)
-    requires { Gap w.old from d end × (d ≤ 3) }
-    ensures { Placed (take d (e0 ∷ (e1 ∷ (e2 ∷ [])))) w.old w.new from d end }
+// The daughters e, put in their places in the rising list that stands behind as many free cells from `from` on, up to `end`; it fills from..end then.
+fn settle_some(w: &mut [u64; ROOM], from: usize, end: usize, e: &[u64])
+    requires { Gap w.old from (length e.now) end × (length e.now ≤ 3) }
+    ensures { Placed e.now w.old w.new from (length e.now) end }
 {
-    if d == 1 {
-        settle1(w, from, end, e0);
-        return;
+    match *e {
+        [x] => settle1(w, from, end, x),
+        [x, y] => settle2(w, from, end, x.min(y), x.max(y)),
+        [x, y, z] => {
+            let [low, mid, high] = rising(x, y, z);
+            settle3(w, from, end, low, mid, high);
+        }
+        _ => unreachable!(),
     }
-    if d == 2 {
-        settle2(w, from, end, smaller(e0, e1), larger(e0, e1));
-        return;
-    }
-    let r = rising(e0, e1, e2);
-    settle3(w, from, end, r.low, r.mid, r.high);
 }
 
-// A step whose daughters are the first d of e0, e1 and e2, in any order: the others move as m says, and the daughters settle among them. The next queue
-// begins at `to`.
-fn replace(
-    w: &mut [u64; ROOM],
-    from: usize,
-    to: usize,
-    d: usize,
-    m: Moves,
-    e0: u64,
-    e1: u64,
-    e2: u64,
-)
-    requires { Steps w.old from to d × (0 < d) × Every Short w.old (from + 1) to × Every Behind w.old (from + 1) to × Every (Apart (moves_ranks m) (moves_lengths m)) w.old (from + 1) to × Bounded m }
-    ensures { Next (insert_all (take d (e0 ∷ (e1 ∷ (e2 ∷ [])))) (map (remade (shifted (moves_ranks m) (moves_lengths m))) (slice (from + 1) to w.old))) w.old w.new to (to + d + (to - (from + 1))) }
+// A step whose daughters are e, in any order: the others move as m says, and the daughters settle among them. The next queue begins at `to`.
+fn replace(w: &mut [u64; ROOM], from: usize, to: usize, m: Moves, e: &[u64])
+    requires { Steps w.old from to (length e.now) × (0 < length e.now) × Every Short w.old (from + 1) to × Every Behind w.old (from + 1) to × Every (Apart (moves_ranks m) (moves_lengths m)) w.old (from + 1) to × Bounded m }
+    ensures { Next (insert_all e.now (map (remade (shifted (moves_ranks m) (moves_lengths m))) (slice (from + 1) to w.old))) w.old w.new to (to + length e.now + (to - (from + 1))) }
 {
+    let d = e.len();
     advance(w, from + 1, to, to + d, m);
-    settle_some(w, to, to + d + (to - (from + 1)), d, e0, e1, e2);
+    settle_some(w, to, to + d + (to - (from + 1)), e);
 }
 
 // A step by the rule whose cells begin at `at`, which has d daughters and not dimension 1: the queue from..to to the one that begins at `to`. `mark` is
@@ -90,10 +80,8 @@ fn expand_wide(
     let front = w[from];
     let lens = lengths(t, at);
     let b = bases(front, lens);
-    let e0 = made_at(t, at, d, 0, &b, mark);
-    let e1 = made_at(t, at, d, 1, &b, mark);
-    let e2 = made_at(t, at, d, 2, &b, mark);
-    replace(w, from, to, d, moves_of(front, lens), e0, e1, e2);
+    let e = made_at(t, at, d, &b, mark);
+    replace(w, from, to, moves_of(front, lens), &e[..d]);
 }
 
 // The same for a rule of dimension 2 whose daughters have at most two components. One of the front's components has rank 0, so that the front's ranks are not
@@ -118,20 +106,14 @@ fn expand_two(
     let f1 = rank(front, 1);
     let end = to + d + (to - (from + 1));
     if f0 == 0 {
-        let base = f1 + len0 - 1;
-        let e0 = made_two_at(t, at, d, 0, 0, base, mark);
-        let e1 = made_two_at(t, at, d, 1, 0, base, mark);
-        let e2 = made_two_at(t, at, d, 2, 0, base, mark);
+        let e = made_two_at(t, at, d, 0, f1 + len0 - 1, mark);
         advance_two(w, from + 1, to, to + d, len0, f1, len1);
-        settle_some(w, to, end, d, e0, e1, e2);
+        settle_some(w, to, end, &e[..d]);
         return;
     }
-    let base = f0 + len1 - 1;
-    let e0 = made_two_at(t, at, d, 0, 1, base, mark);
-    let e1 = made_two_at(t, at, d, 1, 1, base, mark);
-    let e2 = made_two_at(t, at, d, 2, 1, base, mark);
+    let e = made_two_at(t, at, d, 1, f0 + len1 - 1, mark);
     advance_two(w, from + 1, to, to + d, len1, f0, len0);
-    settle_some(w, to, end, d, e0, e1, e2);
+    settle_some(w, to, end, &e[..d]);
 }
 
 // A step by nonlexical rule r, which is of the category of the front of the queue from..to. The next queue is written from `to` on. The daughters have the
@@ -151,10 +133,7 @@ pub fn expand(
     let d = daughters(t, at);
     if dimension(t, at) == 1 {
         let len = first_length(t, at);
-        let e0 = ready_made(t, at, 0, mark);
-        let e1 = ready_made(t, at, 1, mark);
-        let e2 = ready_made(t, at, 2, mark);
-        expand_narrow(w, from, to, d, len, e0, e1, e2);
+        expand_narrow(w, from, to, d, len, &ready_made(t, at, mark));
         return;
     }
     if !of_two(t, at) {

@@ -1,12 +1,11 @@
 // The rules of a grammar as a table, made once for a call: CELLS cells a rule, which begin at the place that `place_of` gives. The constants of this file say
 // how cells are packed: the table is made by them (crate `rule_table`) and read by them, here and in `daughters`. What is a prediction is packed as
 // `prediction` says.
-ghost use Rattle.std.specs.Prelude.{◌≡◌, ◌+◌, ◌*◌, ◌/◌, ◌%◌, ◌<◌, ◌≤◌, get_or};
-ghost use Rattle.ranks.specs.Prediction.{listed};
+ghost use Rattle.std.specs.Prelude.{◌≡◌, ℕ, ◌+◌, ◌*◌, ◌/◌, ◌%◌, ◌<◌, ◌≤◌, get_or};
 ghost use Rattle.ranks.specs.Moves.{lengths_of};
-ghost use Rattle.ranks.specs.Table.{daughters_in, dimension_in, category_in, word_in, at_most_two, of_two, marked};
+ghost use Rattle.ranks.specs.Table.{daughters_in, dimension_in, category_in, word_in, at_most_two, of_two, ready_made};
 
-use crate::prediction::{Four, marked};
+use crate::prediction::marked;
 use model::{Category, RuleNumber, Word};
 
 // The table holds the cells of 256 rules.
@@ -99,15 +98,15 @@ pub fn lengths(t: &[u64; TABLE], at: usize) -> u64
 }
 
 // The same, one by one.
-pub fn lengths_of(lens: u64) -> Four
-    ensures { listed result ≡ lengths_of lens }
+pub fn lengths_of(lens: u64) -> [u64; 4]
+    ensures { result ≡ lengths_of lens }
 {
-    Four {
-        c0: lens % LENGTH,
-        c1: lens / LENGTH % LENGTH,
-        c2: lens / LENGTH / LENGTH % LENGTH,
-        c3: lens / LENGTH / LENGTH / LENGTH,
-    }
+    [
+        lens % LENGTH,
+        lens / LENGTH % LENGTH,
+        lens / LENGTH / LENGTH % LENGTH,
+        lens / LENGTH / LENGTH / LENGTH,
+    ]
 }
 
 // The length of the first component.
@@ -142,12 +141,16 @@ pub fn places_cell(t: &[u64; TABLE], at: usize, j: usize) -> u64
     t[at + FIRST_PLACES + 2 * j]
 }
 
-// The j-th of the daughters that a rule of dimension 1 has ready made, with `mark` added to its number.
-pub fn ready_made(t: &[u64; TABLE], at: usize, j: usize, mark: u64) -> u64
-    requires { (at + 8 ≤ 2048) × (j < 3) × (get_or t.now (at + 2 + 2 * j) 0 < 1152921504606846976) × (mark < 512) }
-    ensures { result ≡ marked mark (get_or t.now (at + 2 + 2 * j) 0) }
+// The daughters that a rule of dimension 1 has ready made, with `mark` added to their numbers.
+pub fn ready_made(t: &[u64; TABLE], at: usize, mark: u64) -> [u64; 3]
+    requires { (at + 8 ≤ 2048) × ((j : ℕ) → j < 3 → get_or t.now (at + 2 + 2 * j) 0 < 1152921504606846976) × (mark < 512) }
+    ensures { result ≡ ready_made t.now at mark }
 {
-    marked(daughter_cell(t, at, j), mark)
+    [
+        marked(daughter_cell(t, at, 0), mark),
+        marked(daughter_cell(t, at, 1), mark),
+        marked(daughter_cell(t, at, 2), mark),
+    ]
 }
 
 // Whether daughter j has at most two components; one that is not there has none.
@@ -163,12 +166,5 @@ pub fn of_two(t: &[u64; TABLE], at: usize) -> bool
     requires { at + 8 ≤ 2048 }
     ensures { result ≡ of_two t.now at }
 {
-    if dimension(t, at) == 2 {
-        if at_most_two(t, at, 0) {
-            if at_most_two(t, at, 1) {
-                return at_most_two(t, at, 2);
-            }
-        }
-    }
-    false
+    dimension(t, at) == 2 && at_most_two(t, at, 0) && at_most_two(t, at, 1) && at_most_two(t, at, 2)
 }

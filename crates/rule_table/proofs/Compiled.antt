@@ -25,7 +25,7 @@ use Rattle.ranks.specs.Queue.{insert_all}
 use Rattle.ranks.specs.Held.{number_of}
 use Rattle.ranks.specs.Table.{ones, marked, daughters_of, ready_made, RuleLengths, WideCells, NarrowCells, RuleCells, Compiled}
 use Rattle.rule_table.specs.Cells.{dimension_of, head_cell, length_in, lengths_cell, positions, places_cell, pair_of, ready_cell, ready, narrow_cells, wide_cells, some_cells, lexical_cells, cells_of}
-use Rattle.rule_table.proofs.Ordering.{list_of, order_settles, order_first, order_second, order_below, order_all}
+use Rattle.rule_table.proofs.Ordering.{order_settles, order_first, order_second, order_below, order_all}
 use Rattle.rule_table.proofs.RuleVariables.{few, component_most, component_length}
 use Rattle.rule_table.proofs.DaughterCells.{width_four, repeats_is, makes_is}
 use Rattle.rule_table.proofs.ReadyMade.{ready_small, pair_is, ready_within, ready_all}
@@ -219,10 +219,10 @@ module _ (file : List ℕ) (bytes : Bytes file) (accepted : grammar_refusal file
         one : length rule.components ≡ 1
         one = components_length ∙ narrow
 
-        ready_at : (j : ℕ) → j < 3 → get_or t (at + 2 + 2 * j) 0 ≡ get_or (list_of (ready d e)) j 0
+        ready_at : (j : ℕ) → j < 3 → get_or t (at + 2 + 2 * j) 0 ≡ get_or (ready d e) j 0
         ready_at j h = cell_at (at + 2 + 2 * j) (2 + 2 * j) (omega arith) (omega arith) ∙ ap (λ (l : List ℕ). get_or l (2 + 2 * j) 0) cells_narrow ∙ go j h
           where
-            go : (j : ℕ) → j < 3 → get_or (narrow_cells d e) (2 + 2 * j) 0 ≡ get_or (list_of (ready d e)) j 0
+            go : (j : ℕ) → j < 3 → get_or (narrow_cells d e) (2 + 2 * j) 0 ≡ get_or (ready d e) j 0
             go zero h = refl
             go (suc zero) h = refl
             go (suc (suc zero)) h = refl
@@ -237,13 +237,13 @@ module _ (file : List ℕ) (bytes : Bytes file) (accepted : grammar_refusal file
         count : length rule.daughters ≡ n
         count = daughters_length g e tested
 
-        low_is : get_or t (at + 2) 0 ≡ (ready d e).low
+        low_is : get_or t (at + 2) 0 ≡ get_or (ready d e) 0 0
         low_is = let z : at + 2 ≡ at + 2 + 2 * 0 = omega arith in ap (λ (i : ℕ). get_or t i 0) z ∙ ready_at 0 (omega arith)
 
-        mid_is : get_or t (at + 4) 0 ≡ (ready d e).mid
+        mid_is : get_or t (at + 4) 0 ≡ get_or (ready d e) 1 0
         mid_is = let z : at + 4 ≡ at + 2 + 2 * 1 = omega arith in ap (λ (i : ℕ). get_or t i 0) z ∙ ready_at 1 (omega arith)
 
-        high_is : get_or t (at + 6) 0 ≡ (ready d e).high
+        high_is : get_or t (at + 6) 0 ≡ get_or (ready d e) 2 0
         high_is = let z : at + 6 ≡ at + 2 + 2 * 2 = omega arith in ap (λ (i : ℕ). get_or t i 0) z ∙ ready_at 2 (omega arith)
 
         settles : (mark : ℕ) (q : List ℕ) → insert_all (take (length rule.daughters) (ready_made t at mark)) q ≡ insert_all (map number_of (daughters_of g rule (0 ∷ []) mark)) q
@@ -258,7 +258,7 @@ module _ (file : List ℕ) (bytes : Bytes file) (accepted : grammar_refusal file
             let w : (i : ℕ) → i < n → x i + m < field e 7 * 2251799813685248 = λ i k. ready_within file accepted r here some one i k mark room in
             let b = order_below n (x 0) (x 1) (x 2) (field e 7 * 2251799813685248 - m) (λ k. less (x 0) m (field e 7 * 2251799813685248) (w 0 k)) (λ k. less (x 1) m (field e 7 * 2251799813685248) (w 1 k))
             (λ k. less (x 2) m (field e 7 * 2251799813685248) (w 2 k)) at_most_three j h in
-            back (get_or t (at + 2 + 2 * j) 0) (get_or (list_of (ready d e)) j 0) m (field e 7 * 2251799813685248) (ready_at j (omega (arith, h, at_most_three))) b
+            back (get_or t (at + 2 + 2 * j) 0) (get_or (ready d e) j 0) m (field e 7 * 2251799813685248) (ready_at j (omega (arith, h, at_most_three))) b
           where
             less : (a m b : ℕ) → a + m < b → a < b - m
             less a m b h = omega arith

@@ -3,13 +3,12 @@
 use Rattle.std.specs.Prelude.{if◌then◌else◌}
 use mathlib.Core.Path.{◌≡◌, refl, sym, ap₂, ◌∙◌}
 use mathlib.Core.Bool.{Bool, true, false}
-use mathlib.Core.List.{List, [], ◌∷◌, head-eq_of_cons-eq, tail-eq_of_cons-eq}
+use mathlib.Core.List.{List, [], ◌∷◌}
 use Prim.Native.Nat.{ℕ, zero, suc, ◌+◌, ◌<◌, ◌≤◌, min, max}
 use native.Mathlib.Omega.{arith}
 use borrow.Author.Tests.{le-ltb, ne_eqb}
 use lib.Dec.{eqb}
 use lib.ListN.{get_or, take}
-use Rattle.ranks.specs.declared.daughters.Three.{Three}
 use Rattle.ranks.specs.Queue.{insert, insert_all}
 use Rattle.ranks.specs.Daughters.{Rising}
 use Rattle.ranks.proofs.Sorting.{insert_pair, network}
@@ -35,26 +34,18 @@ module _ (x y z low mid high : ℕ) (r : Rising x y z low mid high) where
       let n : Rising x y z least middle most = network x y z (min x y) (max x y) (min (max x y) z) least middle most refl refl refl refl refl refl in
       sym (already low mid high r.first r.second) ∙ r.same [] ∙ sym (n.same []) ∙ already least middle most n.first n.second
 
-  pub order_three : record { low = low; mid = mid; high = high } ≡ in_order 3 x y z
-  order_three =
-      let a : low ≡ least = head-eq_of_cons-eq same in
-      let b : mid ≡ middle = head-eq_of_cons-eq (tail-eq_of_cons-eq same) in
-      let c : high ≡ most = head-eq_of_cons-eq (tail-eq_of_cons-eq (tail-eq_of_cons-eq same)) in
-      λ i. record { low = a i; mid = b i; high = c i }
+  pub order_three : low ∷ (mid ∷ (high ∷ [])) ≡ in_order 3 x y z
+  order_three = same
 
-pub order_two : (x y z low mid : ℕ) → low ≡ min x y → mid ≡ max x y → record { low = low; mid = mid; high = z } ≡ in_order 2 x y z
-order_two x y z low mid a b = λ i. record { low = a i; mid = b i; high = z }
+pub order_two : (x y z low mid : ℕ) → low ≡ min x y → mid ≡ max x y → low ∷ (mid ∷ (z ∷ [])) ≡ in_order 2 x y z
+order_two x y z low mid a b = λ i. a i ∷ (b i ∷ (z ∷ []))
 
-pub order_other : (n x y z : ℕ) → (n ≡ 3 → ⊥) → (n ≡ 2 → ⊥) → in_order n x y z ≡ record { low = x; mid = y; high = z }
+pub order_other : (n x y z : ℕ) → (n ≡ 3 → ⊥) → (n ≡ 2 → ⊥) → in_order n x y z ≡ x ∷ (y ∷ (z ∷ []))
 order_other n x y z h k = rw (ne_eqb n 3 h, ne_eqb n 2 k)
-
--- three numbers as a list
-abbrev pub list_of : Three → List ℕ
-list_of t = t.low ∷ (t.mid ∷ (t.high ∷ []))
 
 -- the first n settle as they did, each with m added
 pub order_settles : (n x y z m : ℕ) (q : List ℕ) → 1 ≤ n → n ≤ 3
-    → insert_all (take n (((in_order n x y z).low + m) ∷ (((in_order n x y z).mid + m) ∷ (((in_order n x y z).high + m) ∷ [])))) q
+    → insert_all (take n ((get_or (in_order n x y z) 0 0 + m) ∷ ((get_or (in_order n x y z) 1 0 + m) ∷ ((get_or (in_order n x y z) 2 0 + m) ∷ [])))) q
     ≡ insert_all (take n ((x + m) ∷ ((y + m) ∷ ((z + m) ∷ [])))) q
 order_settles zero x y z m q h k = absurd (omega arith)
 order_settles (suc zero) x y z m q h k = refl
@@ -68,14 +59,14 @@ order_settles (suc (suc (suc zero))) x y z m q h k =
     ).same q
 order_settles (suc (suc (suc (suc n)))) x y z m q h k = absurd (omega arith)
 
-pub order_first : (n x y z : ℕ) → 1 < n → n ≤ 3 → (in_order n x y z).low ≤ (in_order n x y z).mid
+pub order_first : (n x y z : ℕ) → 1 < n → n ≤ 3 → get_or (in_order n x y z) 0 0 ≤ get_or (in_order n x y z) 1 0
 order_first zero x y z h k = absurd (omega arith)
 order_first (suc zero) x y z h k = absurd (omega arith)
 order_first (suc (suc zero)) x y z h k = omega arith
 order_first (suc (suc (suc zero))) x y z h k = omega arith
 order_first (suc (suc (suc (suc n)))) x y z h k = absurd (omega arith)
 
-pub order_second : (n x y z : ℕ) → 2 < n → n ≤ 3 → (in_order n x y z).mid ≤ (in_order n x y z).high
+pub order_second : (n x y z : ℕ) → 2 < n → n ≤ 3 → get_or (in_order n x y z) 1 0 ≤ get_or (in_order n x y z) 2 0
 order_second zero x y z h k = absurd (omega arith)
 order_second (suc zero) x y z h k = absurd (omega arith)
 order_second (suc (suc zero)) x y z h k = absurd (omega arith)
@@ -83,7 +74,7 @@ order_second (suc (suc (suc zero))) x y z h k = omega arith
 order_second (suc (suc (suc (suc n)))) x y z h k = absurd (omega arith)
 
 -- what is below b, for each of the first n, is so in any order
-pub order_below : (n x y z b : ℕ) → (0 < n → x < b) → (1 < n → y < b) → (2 < n → z < b) → n ≤ 3 → (j : ℕ) → j < n → get_or (list_of (in_order n x y z)) j 0 < b
+pub order_below : (n x y z b : ℕ) → (0 < n → x < b) → (1 < n → y < b) → (2 < n → z < b) → n ≤ 3 → (j : ℕ) → j < n → get_or (in_order n x y z) j 0 < b
 order_below zero x y z b e f g k j h = absurd (omega arith)
 order_below (suc zero) x y z b e f g k zero h = e h
 order_below (suc zero) x y z b e f g k (suc j) h = absurd (omega arith)
@@ -96,15 +87,14 @@ order_below (suc (suc (suc zero))) x y z b e f g k (suc (suc zero)) h = omega (a
 order_below (suc (suc (suc zero))) x y z b e f g k (suc (suc (suc j))) h = absurd (omega arith)
 order_below (suc (suc (suc (suc n)))) x y z b e f g k j h = absurd (omega arith)
 
-pub order_all : (n x y z b : ℕ) → x < b → y < b → z < b → (j : ℕ) → j < 3 → get_or (list_of (in_order n x y z)) j 0 < b
+pub order_all : (n x y z b : ℕ) → x < b → y < b → z < b → (j : ℕ) → j < 3 → get_or (in_order n x y z) j 0 < b
 order_all n x y z b e f g j h = go (eqb n 3) (eqb n 2) j h
   where
     go : (s t : Bool) (j : ℕ) → j < 3
         → get_or
-        (list_of
-        (if s then record { low = min (min x y) (min (max x y) z); mid = max (min x y) (min (max x y) z); high = max (max x y) z }
-        else if t then record { low = min x y; mid = max x y; high = z }
-        else record { low = x; mid = y; high = z })) j 0
+        (if s then min (min x y) (min (max x y) z) ∷ (max (min x y) (min (max x y) z) ∷ (max (max x y) z ∷ []))
+        else if t then min x y ∷ (max x y ∷ (z ∷ []))
+        else x ∷ (y ∷ (z ∷ []))) j 0
         < b
     go true t zero h = omega arith
     go true t (suc zero) h = omega arith

@@ -2,7 +2,6 @@
 -- Assumes nothing.
 use Rattle.std.specs.Prelude.{◌≡◌, List, [], ◌∷◌, ℕ, ◌+◌, ◌*◌, ◌%◌, ◌<◌, min, max, ltb, eqb, length, get_or, if◌then◌else◌}
 use Rattle.model.specs.GrammarFile.{field, word_of, dimension_in}
-use Rattle.ranks.specs.declared.daughters.Three.{Three}
 use Rattle.ranks.specs.Prediction.{Prediction, packed}
 use Rattle.ranks.specs.Daughters.{daughter}
 use Rattle.rule_table.specs.declared.table.Pair.{Pair}
@@ -56,20 +55,20 @@ module _ (d e : List ℕ) where
   ready_cell j = packed (daughter zeros (pair_of j).cell (pair_of j).places 0)
 
 -- the first n of three numbers in rising order
-abbrev pub in_order : ℕ → ℕ → ℕ → ℕ → Three
+abbrev pub in_order : ℕ → ℕ → ℕ → ℕ → List ℕ
 in_order n x y z =
-    if eqb n 3 then record { low = min (min x y) (min (max x y) z); mid = max (min x y) (min (max x y) z); high = max (max x y) z }
-    else if eqb n 2 then record { low = min x y; mid = max x y; high = z }
-    else record { low = x; mid = y; high = z }
+    if eqb n 3 then min (min x y) (min (max x y) z) ∷ (max (min x y) (min (max x y) z) ∷ (max (max x y) z ∷ []))
+    else if eqb n 2 then min x y ∷ (max x y ∷ (z ∷ []))
+    else x ∷ (y ∷ (z ∷ []))
 
 module _ (d e : List ℕ) where
   -- its ready made daughters, in rising order
-  abbrev pub ready : Three
+  abbrev pub ready : List ℕ
   ready = in_order (field e 1) (ready_cell d e 0) (ready_cell d e 1) (ready_cell d e 2)
 
   -- the cells of a rule of dimension 1: the ready made daughters stand where the first cells of daughters stand in others
   abbrev pub narrow_cells : List ℕ
-  narrow_cells = head_cell d e ∷ (lengths_cell d e ∷ (ready.low ∷ (0 ∷ (ready.mid ∷ (0 ∷ (ready.high ∷ (0 ∷ [])))))))
+  narrow_cells = head_cell d e ∷ (lengths_cell d e ∷ (get_or ready 0 0 ∷ (0 ∷ (get_or ready 1 0 ∷ (0 ∷ (get_or ready 2 0 ∷ (0 ∷ [])))))))
 
   -- the cells of any other nonlexical rule
   abbrev pub wide_cells : List ℕ

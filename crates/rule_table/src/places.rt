@@ -19,18 +19,17 @@ pub struct Stand {
     pub position: u64,
 }
 
-// The number of the first variable that is x, all components together; 12 where there is none.
+// The number of the first variable that is x, all components together; 12, behind them all, where there is none, as in the definition, whose number goes on into
+// `stand_at`.
 fn first_of(e: &[u8], x: usize) -> usize
     ensures { (result ≡ first_of e.now x 0 12) × (result ≤ 12) }
 {
-    let mut v: usize = 0;
-    while v < VARIABLES {
+    for v in 0..VARIABLES {
         if byte(e, FIRST + v) as usize == x {
             return v;
         }
-        v += 1;
     }
-    v
+    VARIABLES
 }
 
 // The component and the position of variable number v.

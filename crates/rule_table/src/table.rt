@@ -14,7 +14,7 @@ use grammar::{
     record_word, rules_held,
 };
 use model::RuleNumber;
-use ranks::daughters::{Three, larger, made_wide, rising, smaller};
+use ranks::daughters::{made_wide, rising};
 use ranks::prediction::pack;
 use ranks::table::{
     CATEGORIES, CATEGORY, CELLS, DIMENSION, DIMENSIONS, LENGTH, PLACE0, TABLE, WORD,
@@ -111,23 +111,13 @@ fn ready(p: Pair) -> u64
 }
 
 // The first n of three numbers in rising order.
-fn in_order(n: u8, x: u64, y: u64, z: u64) -> Three
+fn in_order(n: u8, x: u64, y: u64, z: u64) -> [u64; 3]
     ensures { result ≡ in_order n x y z }
 {
-    if n == 3 {
-        return rising(x, y, z);
-    }
-    if n == 2 {
-        return Three {
-            low: smaller(x, y),
-            mid: larger(x, y),
-            high: z,
-        };
-    }
-    Three {
-        low: x,
-        mid: y,
-        high: z,
+    match n {
+        3 => rising(x, y, z),
+        2 => [x.min(y), x.max(y), z],
+        _ => [x, y, z],
     }
 }
 
@@ -146,7 +136,7 @@ fn cells_of(d: &[u8], e: &[u8]) -> [u64; CELLS]
     let p2 = pair_of(d, e, 2);
     if dimension_in(d, record_category(e)) == 1 {
         let t = in_order(n, ready(p0), ready(p1), ready(p2));
-        [head, lens, t.low, 0, t.mid, 0, t.high, 0]
+        [head, lens, t[0], 0, t[1], 0, t[2], 0]
     } else {
         [
             head, lens, p0.cell, p0.places, p1.cell, p1.places, p2.cell, p2.places,
@@ -159,11 +149,7 @@ fn put(t: &mut [u64; TABLE], at: usize, cells: [u64; CELLS])
     requires { (length t.old ≡ 2048) × (length cells ≡ 8) × (at + 8 ≤ 2048) }
     ensures { Put cells t.old t.new at }
 {
-    let mut i: usize = 0;
-    while i < CELLS {
-        t[at + i] = cells[i];
-        i += 1;
-    }
+    t[at..at + CELLS].copy_from_slice(&cells);
 }
 
 // The table of the file's rules.
@@ -172,12 +158,9 @@ pub fn compile(file: &[u8]) -> [u64; TABLE]
 {
     let mut t = [0u64; TABLE];
     let d = dimensions(file);
-    let n = rules_held(file) as usize;
-    let mut r: usize = 0;
-    while r < n {
-        let e = record_of(file, RuleNumber(r as u16));
-        put(&mut t, CELLS * r, cells_of(d, e));
-        r += 1;
+    for r in 0..rules_held(file) {
+        let e = record_of(file, RuleNumber(r));
+        put(&mut t, CELLS * r as usize, cells_of(d, e));
     }
     t
 }

@@ -8,12 +8,12 @@ use Rattle.ranks.proofs.TwoComponents.{no_least, least_small, two_made}
 use Rattle.ranks.proofs.daughters.made_two.Goals as goal
 
 -- the lesser of the two ranks
-module _ (c : goal.After-smaller) where
+module _ (c : goal.After-min) where
   abbrev z : ℕ
   z = c.lifted-y.result
 
-  least_is : c.smaller.result ≡ min (unpacked z).rank0 (unpacked z).rank1
-  least_is = c.smaller.ensures ∙ ap₂ min c.rank.ensures c.rank-2.ensures
+  least_is : c.min.result ≡ min (unpacked z).rank0 (unpacked z).rank1
+  least_is = c.min.ensures ∙ ap₂ min c.rank.ensures c.rank-2.ensures
 
 pub overflow_add-far0 : goal.overflow_add-far0
 overflow_add-far0 c = record { fits = omega (arith, c.requires.one_of_two) }

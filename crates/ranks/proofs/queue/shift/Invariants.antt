@@ -1,15 +1,10 @@
--- `ranks::queue::shift` meets its contract.
+-- What `ranks::queue::shift` writes of each number.
 -- Assumes nothing.
-use mathlib.Core.Path.{◌≡◌}
-use mathlib.Core.List.{[], ◌∷◌}
-use Prim.Native.Nat.{◌+◌, ◌-◌, ◌≤◌}
+use Rattle.std.proofs.Common.{[], ◌∷◌}
 use Rattle.ranking.specs.Ranks.{shifted}
 use Rattle.ranks.specs.Prediction.{remade}
-use Rattle.ranks.specs.Queue.{Mapped}
+use Rattle.ranks.specs.contracts.queue.fn.shift.carry as closure
 use Rattle.ranks.proofs.queue.shift.Given as goal
 
-abbrev pub invariant-loop-i : goal.invariant-loop-i
-invariant-loop-i l = (l.from ≤ l.i) × (l.i ≤ l.to) × (l.k ≡ l.out + (l.i - l.from)) × Mapped (remade (shifted (0 ∷ []) (l.len0 ∷ []))) l.initial.w l.w l.from l.i l.out
-
-abbrev pub decreases-loop-i : goal.decreases-loop-i
-decreases-loop-i l = l.to - l.i
+abbrev pub ghost-carry : goal.ghost-carry
+ghost-carry a = remade (shifted (0 ∷ []) ((closure.captures a.f).len0 ∷ []))

@@ -1,6 +1,6 @@
 -- `ranks::step::expand` meets its contract.
 -- Assumes nothing.
-use mathlib.Core.Path.{◌≡◌, sym, ap, ap₂, subst, subst⁻¹, ◌∙◌}
+use mathlib.Core.Path.{◌≡◌, refl, sym, ap, ap₂, subst, subst⁻¹, ◌∙◌}
 use mathlib.Core.Bool.{Bool, true}
 use mathlib.Core.List.{List, [], ◌∷◌, ◌++◌, map}
 use Prim.Native.Nat.{ℕ, ◌+◌, ◌-◌, ◌*◌}
@@ -42,32 +42,14 @@ first_length-len-requires c =
     let p = c.requires in
     cells_at p.grammar a.t.now a.w.now a.r.0 a.mark a.from a.to p.expands c.place_of-at.result c.place_of-at.ensures
 
-pub ready_made-e0-requires : goal.ready_made-e0-requires
-ready_made-e0-requires c =
+pub ready_made-requires : goal.ready_made-requires
+ready_made-requires c =
     let a = c.args in
     let p = c.requires in
     let at = c.place_of-at in
     let d = c.dimension in
     let is_one = dimension_at p.grammar a.t.now a.w.now a.r.0 a.mark a.from a.to p.expands at.result d.result 1 at.ensures d.ensures c.if-dimension-eq1.true in
-    (cells_at p.grammar a.t.now a.w.now a.r.0 a.mark a.from a.to p.expands at.result at.ensures, omega arith, ready_small p.grammar a.t.now a.w.now a.r.0 a.mark a.from a.to p.expands is_one at.result 0 (at.result + 2 + 0) at.ensures (omega arith) (omega arith), omega (arith, p.expands.small))
-
-pub ready_made-e1-requires : goal.ready_made-e1-requires
-ready_made-e1-requires c =
-    let a = c.args in
-    let p = c.requires in
-    let at = c.place_of-at in
-    let d = c.dimension in
-    let is_one = dimension_at p.grammar a.t.now a.w.now a.r.0 a.mark a.from a.to p.expands at.result d.result 1 at.ensures d.ensures c.if-dimension-eq1.true in
-    (cells_at p.grammar a.t.now a.w.now a.r.0 a.mark a.from a.to p.expands at.result at.ensures, omega arith, ready_small p.grammar a.t.now a.w.now a.r.0 a.mark a.from a.to p.expands is_one at.result 1 (at.result + 2 + 2) at.ensures (omega arith) (omega arith), omega (arith, p.expands.small))
-
-pub ready_made-e2-requires : goal.ready_made-e2-requires
-ready_made-e2-requires c =
-    let a = c.args in
-    let p = c.requires in
-    let at = c.place_of-at in
-    let d = c.dimension in
-    let is_one = dimension_at p.grammar a.t.now a.w.now a.r.0 a.mark a.from a.to p.expands at.result d.result 1 at.ensures d.ensures c.if-dimension-eq1.true in
-    (cells_at p.grammar a.t.now a.w.now a.r.0 a.mark a.from a.to p.expands at.result at.ensures, omega arith, ready_small p.grammar a.t.now a.w.now a.r.0 a.mark a.from a.to p.expands is_one at.result 2 (at.result + 2 + 4) at.ensures (omega arith) (omega arith), omega (arith, p.expands.small))
+    (cells_at p.grammar a.t.now a.w.now a.r.0 a.mark a.from a.to p.expands at.result at.ensures, λ j l. ready_small p.grammar a.t.now a.w.now a.r.0 a.mark a.from a.to p.expands is_one at.result j (at.result + 2 + 2 * j) at.ensures l refl, omega (arith, p.expands.small))
 
 pub expand_narrow-requires : goal.expand_narrow-requires
 expand_narrow-requires c =
@@ -91,16 +73,14 @@ returns-then-dimension-eq1 c =
     let n = c.daughters-d in
     let d = c.dimension in
     let f = c.first_length-len in
-    let d0 = c.ready_made-e0 in
-    let d1 = c.ready_made-e1 in
-    let d2 = c.ready_made-e2 in
+    let e = c.ready_made in
     record {
       of_grammar = λ g h.
           let k : n.result ≡ length h.rule.daughters = daughters_at g a.t.now a.w.now a.r.0 a.mark a.from a.to h at.result n.result at.ensures n.ensures.0 in
           let is_one = dimension_at g a.t.now a.w.now a.r.0 a.mark a.from a.to h at.result d.result 1 at.ensures d.ensures c.if-dimension-eq1.true in
           written_as a.w.now c.expand_narrow.new.w a.to
-          (ap (λ (m : ℕ). take m (d0.result ∷ (d1.result ∷ (d2.result ∷ []))) ++ map (remade (shifted (0 ∷ []) (f.result ∷ []))) (slice (a.from + 1) a.to a.w.now)) k
-          ∙ narrow_written g a.t.now a.w.now a.r.0 a.mark a.from a.to h is_one at.result f.result d0.result d1.result d2.result at.ensures f.ensures d0.ensures d1.ensures d2.ensures)
+          (ap (λ (m : ℕ). take m e.result ++ map (remade (shifted (0 ∷ []) (f.result ∷ []))) (slice (a.from + 1) a.to a.w.now)) k
+          ∙ narrow_written g a.t.now a.w.now a.r.0 a.mark a.from a.to h is_one at.result f.result e.result at.ensures f.ensures e.ensures)
           (ap (λ (m : ℕ). a.to + m + (a.to - (a.from + 1))) k ∙ end_is g a.t.now a.w.now a.r.0 a.mark a.from a.to h) c.expand_narrow.ensures;
     }
 

@@ -1,37 +1,32 @@
 -- `ranks::step::settle_some` meets its contract.
 -- Assumes nothing.
-use mathlib.Core.Path.{◌≡◌, subst⁻¹, ap₂, ◌∙◌}
+use mathlib.Core.Path.{ap₂, ◌∙◌}
 use mathlib.Core.List.{[], ◌∷◌}
-use Prim.Native.Nat.{ℕ, ◌≤◌}
+use Prim.Native.Nat.{ℕ}
 use native.Mathlib.Omega.{arith}
-use lib.ListN.{take}
-use Rattle.ranks.specs.Queue.{Placed, insert}
+use lib.ListN.{get_or}
+use Rattle.ranks.specs.Queue.{insert}
+use Rattle.ranks.proofs.Lists.{two_of, three_of}
 use Rattle.ranks.proofs.Sorting.{insert_pair}
-use Rattle.ranks.proofs.Stepping.{placed_as}
+use Rattle.ranks.proofs.Stepping.{placed_as, placed_list}
 use Rattle.ranks.proofs.step.settle_some.Goals as goal
 
-three : (n : ℕ) → 1 ≤ n → n ≤ 3 → (n ≡ 1 → ⊥) → (n ≡ 2 → ⊥) → n ≡ 3
-three n a b h k = omega arith
-
-pub returns-then-d-eq1 : goal.returns-then-d-eq1
-returns-then-d-eq1 c =
+pub returns-in-len2 : goal.returns-in-len2
+returns-in-len2 c =
     let a = c.args in
-    subst⁻¹ (λ (k : ℕ). Placed (take k (a.e0 ∷ (a.e1 ∷ (a.e2 ∷ [])))) a.w.now c.settle1.new.w a.from k a.end) c.if-d-eq1.true c.settle1.ensures
-
-pub returns-then-d-eq2 : goal.returns-then-d-eq2
-returns-then-d-eq2 c =
-    let a = c.args in
-    let s = c.smaller in
-    let l = c.larger in
-    subst⁻¹ (λ (k : ℕ). Placed (take k (a.e0 ∷ (a.e1 ∷ (a.e2 ∷ [])))) a.w.now c.settle2.new.w a.from k a.end) c.if-d-eq2.true
-    (placed_as (s.result ∷ (l.result ∷ [])) (a.e0 ∷ (a.e1 ∷ [])) a.w.now c.settle2.new.w a.from 2 a.end
-    (λ q. ap₂ (λ (x y : ℕ). insert x (insert y q)) l.ensures s.ensures ∙ insert_pair a.e0 a.e1 q)
+    let x = get_or a.e.now 0 0 in
+    let y = get_or a.e.now 1 0 in
+    placed_list (two_of a.e.now (omega (arith, c.in-len2.len_at_least, c.in-len2.len_below)))
+    (placed_as (c.min.result ∷ (c.max.result ∷ [])) (x ∷ (y ∷ [])) a.w.now c.settle2.new.w a.from 2 a.end
+    (λ q. ap₂ (λ (u v : ℕ). insert u (insert v q)) c.max.ensures c.min.ensures ∙ insert_pair x y q)
     c.settle2.ensures)
 
-pub returns : goal.returns
-returns c =
+pub returns-in-len3 : goal.returns-in-len3
+returns-in-len3 c =
     let a = c.args in
-    let r = c.rising-r in
-    let e = three a.d c.requires.0.free c.requires.1 c.if-d-eq1.false c.if-d-eq2.false in
-    subst⁻¹ (λ (k : ℕ). Placed (take k (a.e0 ∷ (a.e1 ∷ (a.e2 ∷ [])))) a.w.now c.settle3.new.w a.from k a.end) e
-    (placed_as (r.result.low ∷ (r.result.mid ∷ (r.result.high ∷ []))) (a.e0 ∷ (a.e1 ∷ (a.e2 ∷ []))) a.w.now c.settle3.new.w a.from 3 a.end r.ensures.same c.settle3.ensures)
+    let r = c.rising in
+    let x = get_or a.e.now 0 0 in
+    let y = get_or a.e.now 1 0 in
+    let z = get_or a.e.now 2 0 in
+    placed_list (three_of a.e.now (omega (arith, c.in-len3.len_at_least, c.in-len3.len_below)))
+    (placed_as (get_or r.result 0 0 ∷ (get_or r.result 1 0 ∷ (get_or r.result 2 0 ∷ []))) (x ∷ (y ∷ (z ∷ []))) a.w.now c.settle3.new.w a.from 3 a.end r.ensures.order.same c.settle3.ensures)

@@ -11,17 +11,17 @@ pub returns-then-byte-x : goal.returns-then-byte-x
 returns-then-byte-x c =
     let i = c.loop-v in
     let a = c.args in
-    (sym (i.invariant.1 ∙ first_here a.e.now a.x i.v (omega arith) (sym c.byte.ensures ∙ c.if-byte-x.true)), omega arith)
+    (sym (i.invariant ∙ first_here a.e.now a.x i.v (omega arith) (sym c.byte.ensures ∙ c.if-byte-x.true)), omega arith)
 
 pub loop-v-preserved : goal.loop-v-preserved
 loop-v-preserved c =
     let i = c.loop-v in
     let a = c.args in
-    (omega arith, i.invariant.1 ∙ first_next a.e.now a.x i.v (omega arith) (λ h. c.if-byte-x.false (c.byte.ensures ∙ h)))
+    i.invariant ∙ first_next a.e.now a.x i.v (omega arith) (λ h. c.if-byte-x.false (c.byte.ensures ∙ h))
 
 pub returns : goal.returns
 returns c =
     let i = c.loop-v in
     let a = c.args in
     let z : i.v ≡ 12 = omega arith in
-    (sym (i.invariant.1 ∙ ap (λ (v : ℕ). first_of a.e.now a.x v (12 - v)) z ∙ sym z), omega arith)
+    (sym (i.invariant ∙ ap (λ (v : ℕ). first_of a.e.now a.x v (12 - v)) z), omega arith)

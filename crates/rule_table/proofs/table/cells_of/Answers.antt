@@ -7,6 +7,7 @@ use mathlib.Core.List.{[], ◌∷◌}
 use Prim.Native.Nat.{ℕ}
 use native.Mathlib.Omega.{arith}
 use borrow.Author.Tests.{eq-eqb, ne_eqb}
+use lib.ListN.{get_or}
 use Rattle.model.specs.GrammarFile.{field, dimension_in}
 use Rattle.ranks.specs.Prediction.{Sized, packed}
 use Rattle.ranks.specs.Daughters.{daughter}
@@ -53,7 +54,7 @@ returns-then-dimension_in-eq1 c =
     let o : c.in_order-t.result ≡ ready d e = c.in_order-t.ensures ∙ (λ i. in_order (n i) (x i) (y i) (z i)) in
     let h = c.head_cell-head.ensures in
     let l = c.lengths_cell-lens.ensures in
-    (λ i. h i ∷ (l i ∷ ((o i).low ∷ (0 ∷ ((o i).mid ∷ (0 ∷ ((o i).high ∷ (0 ∷ []))))))))
+    (λ i. h i ∷ (l i ∷ (get_or (o i) 0 0 ∷ (0 ∷ (get_or (o i) 1 0 ∷ (0 ∷ (get_or (o i) 2 0 ∷ (0 ∷ []))))))))
     ∙ sym (ap (λ (b : Bool). if b then lexical_cells d e else some_cells d e) (ne_eqb (field e 1) 0 (λ q. c.if-n-eq0.false (c.record_daughters-n.ensures ∙ q)))
     ∙ ap (λ (b : Bool). if b then narrow_cells d e else wide_cells d e) (eq-eqb (dimension_of d e) 1 (sym w ∙ c.if-dimension_in-eq1.true)))
 

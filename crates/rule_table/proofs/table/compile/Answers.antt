@@ -14,14 +14,13 @@ loop-r-preserved c =
     let f = c.args.file.now in
     let i = c.loop-r in
     let e = c.cells_of.ensures ∙ ap₂ cells_of c.dimensions-d.ensures c.record_of-e.ensures in (
-      omega arith,
-      c.put.ensures.kept ∙ i.invariant.1,
-      rules_next (λ q. cells_of (dimensions_of f) (record_of f q)) i.t _ c.cells_of.result i.r c.put.ensures e i.invariant.2,
+      c.put.ensures.kept ∙ i.invariant.0,
+      rules_next (λ q. cells_of (dimensions_of f) (record_of f q)) i.t _ c.cells_of.result i.r c.put.ensures e i.invariant.1,
     )
 
 pub returns : goal.returns
 returns c accepted =
     let i = c.loop-r in
     let f = c.args.file.now in
-    compiled f (λ j. (c.type_inv.file j).fits) accepted i.t i.invariant.1
-    (λ q h. i.invariant.2 q (omega (arith, c.rules_held-n.ensures.1 (rules_in f accepted).1)))
+    compiled f (λ j. (c.type_inv.file j).fits) accepted i.t i.invariant.0
+    (λ q h. i.invariant.1 q (omega (arith, c.loop-r-test.false, c.rules_held-r-end.ensures.1 (rules_in f accepted).1)))
