@@ -7,7 +7,7 @@ use Prim.Native.Nat.{ℕ, ◌<◌, ◌≤◌}
 use borrow.Author.Tests.{le-leb, lt-leb, leb-true}
 use lib.Dec.{leb}
 use Rattle.model.specs.declared.Refusal.{Refusal}
-use Rattle.model.specs.Verdict.{refuse_if, tested, Tested}
+use Rattle.model.specs.Verdict.{refuse_if, tested}
 use Rattle.model.specs.Counting.{limits_refusal}
 use Rattle.model.proofs.Tests.{passes, no_refusal, not_off, and_l, and_r}
 use Rattle.std.specs.Prelude.{Ok, Err}

@@ -13,6 +13,7 @@ use Rattle.model.specs.LivePrefixes.{Live, InOrder, Different}
 use Rattle.model.specs.Calls.{count_call, entry_verdict, entry_output}
 use Rattle.model.specs.Demands.{◌⇔◌, Analysis, Belongs, trace_of_tree}
 use Rattle.model.specs.Verdict.{Verdict, CountVerdict, counts}
+
 module _ (file sentence : List ℕ) (n limit : ℕ) where
   -- The answers of the two calls for a grammar file, a sentence and limits: of the count; and for entry m, verdict and output after, by the output lent. They
   -- are as `count` and `entry` promise.

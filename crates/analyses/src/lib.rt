@@ -3,4 +3,4 @@
 
 mod calls;
 
-pub use calls::{count, entry, limits_refusal};
+pub use calls::{count, entry, limits_refusal, tables_of};

@@ -236,10 +236,10 @@ fn print_text(rt: &(impl Print + Eprint), file: &[u8], bytes: &[u8], even: bool)
         if !write_text(rt, &out[0..end]) {
             return;
         }
-        if !text.more {
+        let Some(rest) = text.rest else {
             return;
-        }
-        text = next_page(text, out);
+        };
+        text = next_page(rest, out);
     }
 }
 

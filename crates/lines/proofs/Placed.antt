@@ -1,22 +1,25 @@
 -- Text written at a place, and more written behind it.
 -- Assumes nothing.
+use Rattle.std.specs.Prelude.{Ok, Err}
 use mathlib.Core.Path.{◌≡◌, refl, sym, ap, ap₂, subst, ◌∙◌}
 use mathlib.Core.Bool.{Bool, true, false}
 use mathlib.Core.Logic.{⊎_elim}
 use mathlib.Core.List.{List, [], ◌∷◌, ◌++◌, append_assoc, append-nil}
-use Prim.Native.Nat.{ℕ, suc, ◌+◌, ◌<◌, ◌≤◌}
+use Prim.Native.Nat.{ℕ, suc, ◌+◌, ◌-◌, ◌<◌, ◌≤◌}
 use native.Mathlib.Omega.{arith}
 use native.Mathlib.Nat.{eq-or-lt_of_le}
 use native.Mathlib.Numerals.{add-one}
 use borrow.Author.Tests.{eqb-true, eqb-false}
 use lib.Dec.{eqb}
-use lib.ListN.{length, get_or, drop, set, length-set, length-append, length-drop}
+use borrow.Rule.Slice.PartMut.{put_mid, post_of, Post-is}
+use lib.ListN.{length, get_or, take, drop, set, length-set, length-append, length-drop}
 use lib.Seq.{sets, length-sets, drop-cons, drop-length}
+use Rattle.std.proofs.lemmas.List.Edits.{sets-eq}
 use Rattle.model.specs.Verdict.{number, place, CountVerdict}
 use Rattle.model.specs.Program.{decimal, line, blank, newline}
 use Rattle.lines.specs.Text.{Put, ending, verdict_line}
 use Rattle.lines.proofs.Digits.{word_digits, all_digits}
-use Rattle.std.specs.Prelude.{Err, Ok}
+
 sets_append : (l : List ℕ) (i : ℕ) (u v : List ℕ) → sets l i (u ++ v) ≡ sets (sets l i u) (i + length u) v
 sets_append l i [] v = let e : i ≡ i + 0 = omega arith in ap (λ (k : ℕ). sets l k v) e
 sets_append l i (x ∷ u) v =
@@ -44,11 +47,15 @@ put_same {before} {after} {at} {r} w e = subst (λ (x : List ℕ). Put before af
 pub put_one : (before : List ℕ) (at x : ℕ) → at < length before → Put before (set before at x) at (x ∷ []) (at + 1)
 put_one before at x h = record { written = refl; place = refl; within = omega (arith, length-set before at x) }
 
--- the rest of a text, byte by byte
-pub rest_more : (text out : List ℕ) (i p : ℕ) → i < length text → sets out p (drop i text) ≡ sets (set out p (get_or text i 0)) (p + 1) (drop (i + 1) text)
-rest_more text out i p h =
-    ap (λ (l : List ℕ). sets out p l) (drop-cons text i 0 h)
-    ∙ ap₂ (λ (a b : ℕ). sets (set out p (get_or text i 0)) a (drop b text)) (sym (add-one p)) (sym (add-one i))
+-- bytes copied into a part of the buffer
+pub put_part : (before part l : List ℕ) (at : ℕ) → at + length l ≤ length before → part ≡ l → Put before (put_mid at (at + length l - at) before part) at l (at + length l)
+put_part before part l at h e =
+    let w : put_mid at (at + length l - at) before part ≡ sets before at l
+    = ap (λ (y : List ℕ). take at before ++ (y ++ post_of at (at + length l - at) before)) e
+    ∙ ap (λ (y : List ℕ). take at before ++ (l ++ y)) (Post-is at (at + length l) before (omega arith))
+    ∙ sym (append_assoc (take at before) l (drop (at + length l) before))
+    ∙ sym (sets-eq l before at h) in
+    record { written = w; place = refl; within = omega (arith, ap length w, length-sets before at l) }
 
 -- what is left of a line when the numbers before are written
 abbrev pub line_from : List ℕ → List ℕ

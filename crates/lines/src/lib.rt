@@ -1,18 +1,18 @@
 // Lines of numbers as text, written into a lent buffer at a place (document 01, "Counting and listing"). Each function answers the place after what it writes.
 #![tactic(auto)]
 
-ghost use Rattle.std.specs.Prelude.{[], ◌∷◌, ◌++◌, ◌≡◌, ◌+◌, ◌*◌, ◌%◌, ◌<◌, ◌≤◌, length, take, drop};
+ghost use Rattle.std.specs.Prelude.{[], ◌∷◌, ◌++◌, ◌≡◌, ◌+◌, ◌*◌, ◌%◌, ◌<◌, ◌≤◌, length, drop};
 ghost use Rattle.std.proofs.Math.Option.{some};
 ghost use Rattle.model.specs.Program.{decimal, line, printed, digit_zero};
 ghost use Rattle.lines.specs.Text.{Put, ending, verdict_line};
 
-use model::{MOST_STEPS, Counts, Refusal};
+use model::{Counts, Refusal};
 
 // The last decimal digit of n.
 fn digit(n: u64) -> u8
     ensures { result ≡ digit_zero + n % 10 }
 {
-    48 + (n % 10) as u8
+    b'0' + (n % 10) as u8
 }
 
 // Writes the decimal digits of n at the end of the text, and answers where they begin.
@@ -20,10 +20,8 @@ fn spell(n: u64, text: &mut [u8; 20]) -> usize
     requires { length text.old ≡ 20 }
     ensures { (result ≤ 20) × (length text.new ≡ 20) × (drop result text.new ≡ decimal n) }
 {
-    let mut i: usize = 20;
     let mut rest = n;
-    while 0 < i {
-        i -= 1;
+    for i in (0..20).rev() {
         text[i] = digit(rest);
         if rest < 10 {
             return i;
@@ -33,19 +31,14 @@ fn spell(n: u64, text: &mut [u8; 20]) -> usize
     0
 }
 
-// Writes the end of the text, from a place of it on.
-fn put_rest(text: &[u8; 20], from: usize, out: &mut [u8], at: usize) -> usize
-    requires { (length text.now ≡ 20) × (from ≤ 20) × (at + length (drop from text.now) ≤ length out.old) }
-    ensures { Put out.old out.new at (drop from text.now) result }
+// Writes bytes.
+fn put_bytes(bytes: &[u8], out: &mut [u8], at: usize) -> usize
+    requires { at + length bytes.now ≤ length out.old }
+    ensures { Put out.old out.new at bytes.now result }
 {
-    let mut i = from;
-    let mut p = at;
-    while i < 20 {
-        out[p] = text[i];
-        p += 1;
-        i += 1;
-    }
-    p
+    let end = at + bytes.len();
+    out[at..end].copy_from_slice(bytes);
+    end
 }
 
 // Writes a number in decimal digits.
@@ -55,7 +48,7 @@ fn put_number(n: u64, out: &mut [u8], at: usize) -> usize
 {
     let mut text = [0u8; 20];
     let i = spell(n, &mut text);
-    put_rest(&text, i, out, at)
+    put_bytes(&text[i..], out, at)
 }
 
 // What stands after a number: a newline after the last one of a line, else a blank.
@@ -89,8 +82,8 @@ fn put_refusal(r: Refusal, out: &mut [u8], at: usize) -> usize
     requires { at + 44 ≤ length out.old }
     ensures { Put out.old out.new at (printed (some r) []) result }
 {
-    let number = r.number() as u64;
-    let place = r.place() as u64;
+    let number = u64::from(r.number());
+    let place = u64::from(r.place());
     out[at] = b'R';
     out[at + 1] = b' ';
     put_count(number, place, out, at + 2)
@@ -107,27 +100,18 @@ pub fn put_verdict(v: Result<Counts, Refusal>, out: &mut [u8], at: usize) -> usi
     }
 }
 
-// Writes the first n numbers of a list as a line, at most six bytes a number.
-pub fn put_line(list: &[u16; MOST_STEPS], n: usize, out: &mut [u8], at: usize) -> usize
-    requires { (length list.now ≡ 96) × (n ≤ 96) × (at + 6 * n < length out.old) }
-    ensures { Put out.old out.new at (line (take n list.now)) result }
+// Writes the numbers of a list as a line, at most six bytes a number.
+pub fn put_line(list: &[u16], out: &mut [u8], at: usize) -> usize
+    requires { at + 6 * length list.now < length out.old }
+    ensures { Put out.old out.new at (line list.now) result }
 {
-    if n == 0 {
+    if list.is_empty() {
         out[at] = b'\n';
         return at + 1;
     }
-    let mut i: usize = 0;
     let mut p = at;
-    while i < n {
-        p = put_item(wide(list[i]), i + 1 == n, out, p);
-        i += 1;
+    for (i, x) in list.iter().enumerate() {
+        p = put_item(u64::from(*x), i + 1 == list.len(), out, p);
     }
     p
-}
-
-// The number in 64 bits.
-fn wide(x: u16) -> u64
-    ensures { (result ≡ x) × (result < 65536) }
-{
-    x as u64
 }

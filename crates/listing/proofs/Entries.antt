@@ -1,6 +1,6 @@
 -- From live prefix to live prefix up to the next entry: the entries after a list are the complete ones of the live prefixes after it.
 -- Assumes nothing.
-use Rattle.std.specs.Prelude.{if◌then◌else◌}
+use Rattle.std.specs.Prelude.{if◌then◌else◌, Some, None}
 use mathlib.Core.Path.{◌≡◌, refl, sym, ap, subst, ◌∙◌}
 use mathlib.Core.Bool.{Bool, true, false}
 use mathlib.Core.List.{List, [], ◌∷◌}
@@ -15,7 +15,6 @@ use Rattle.ranking.specs.Ranks.{rank_recognizer, start_ranked}
 use Rattle.ranking.specs.Numbered.{plain}
 use Rattle.steps.specs.declared.Standing.{Standing}
 use Rattle.steps.specs.Steps.{state_in}
-use Rattle.walk.specs.declared.prefixes.Walked.TheVariants.{Came, Ended}
 use Rattle.walk.specs.Rest.{live_after}
 use Rattle.walk.specs.Walking.{Trailed, Walking, steps_of, at_end}
 use Rattle.walk.specs.Prefixes.{SameLengths, Walks, NextLive, WalkedOn}
@@ -106,7 +105,7 @@ module _ (t chain sentence w₀ path₀ turns₀ : List ℕ) (at : Standing) whe
     none_walks walks = record { grammar = walks.grammar; walking = (so.of_grammar walks.grammar walks.walking).walking }
 
     module _ (w' path' turns' : List ℕ) where
-      pub none_ends : WalkedOn t chain sentence w path turns w' path' turns' here Ended → WalkedToEntry t chain sentence w₀ path₀ turns₀ w' path' turns' at Ended
+      pub none_ends : WalkedOn t chain sentence w path turns w' path' turns' here None → WalkedToEntry t chain sentence w₀ path₀ turns₀ w' path' turns' at None
       none_ends walked =
           record {
             of_grammar = λ g walking.
@@ -122,8 +121,8 @@ module _ (t chain sentence w₀ path₀ turns₀ : List ℕ) (at : Standing) whe
                 };
           }
 
-      module _ (next : Standing) (walked : WalkedOn t chain sentence w path turns w' path' turns' here (Came next)) where
-        pub none_meets : true ≡ at_end sentence next → WalkedToEntry t chain sentence w₀ path₀ turns₀ w' path' turns' at (Came next)
+      module _ (next : Standing) (walked : WalkedOn t chain sentence w path turns w' path' turns' here (Some next)) where
+        pub none_meets : true ≡ at_end sentence next → WalkedToEntry t chain sentence w₀ path₀ turns₀ w' path' turns' at (Some next)
         none_meets e =
             record {
               of_grammar = λ g walking.

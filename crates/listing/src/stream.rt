@@ -2,39 +2,25 @@
 ghost use Rattle.walk.specs.Prefixes.{Walks};
 ghost use Rattle.listing.specs.Stream.{WalkedToEntry};
 
-use model::MOST_STEPS;
-use ranks::queue::ROOM;
-use ranks::table::TABLE;
 use steps::Standing;
-use walk::{CHAIN, TURNS, Walked, at_end, next};
+use walk::{Tables, Walk, at_end};
 
-// The next entry of the listing, in dictionary order, after the live prefix that path[0..at.steps] holds: of the live prefixes after it, the first that is
-// complete.
+// The next entry of the listing, in dictionary order, after the live prefix that walk.path[0..at.steps] holds: of the live prefixes after it, the first that
+// is complete.
 pub fn next_entry(
-    t: &[u64; TABLE],
-    chain: &[u16; CHAIN],
+    tables: &Tables,
     sentence: &[u32],
-    w: &mut [u64; ROOM],
-    path: &mut [u16; MOST_STEPS],
-    turns: &mut [u64; TURNS],
+    walk: &mut Walk,
     at: Standing,
-) -> Walked
-    requires { Walks t.now chain.now sentence.now w.old path.old turns.old at }
-    ensures { WalkedToEntry t.now chain.now sentence.now w.old path.old turns.old w.new path.new turns.new at result }
+) -> Option<Standing>
+    requires { Walks tables.now.rules tables.now.chain sentence.now walk.old.queues walk.old.path walk.old.turns at }
+    ensures { WalkedToEntry tables.now.rules tables.now.chain sentence.now walk.old.queues walk.old.path walk.old.turns walk.new.queues walk.new.path walk.new.turns at result }
 {
     let mut here = at;
     loop {
-        let s = next(t, chain, sentence, w, path, turns, here);
-        match s {
-            Walked::Came(n) => {
-                if at_end(sentence, n) {
-                    return Walked::Came(n);
-                }
-                here = n;
-            }
-            Walked::Ended => {
-                return Walked::Ended;
-            }
+        here = walk.next(tables, sentence, here)?;
+        if at_end(sentence, here) {
+            return Some(here);
         }
     }
 }

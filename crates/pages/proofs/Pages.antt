@@ -1,20 +1,20 @@
 -- The listing as lines: a line and those after it, page by page.
 -- Assumes nothing.
+use Rattle.std.specs.Prelude.{Some, None}
 use mathlib.Core.Path.{◌≡◌, refl, sym, ap, subst, ◌∙◌}
 use mathlib.Core.List.{List, [], ◌∷◌, ◌++◌, append_assoc, append-nil}
 use Prim.Native.Nat.{ℕ, ◌+◌, ◌-◌, ◌*◌, ◌<◌, ◌≤◌}
 use native.Mathlib.Omega.{arith}
 use lib.ListN.{length, take, length-append}
+use lib.Seq.{length-take-le}
 use Rattle.model.specs.Base.{each}
 use Rattle.model.specs.Grammar.{Grammar}
 use Rattle.model.specs.Program.{decimal, line, blank, newline}
 use Rattle.steps.specs.declared.Standing.{Standing}
-use Rattle.walk.specs.declared.prefixes.Walked.TheVariants.{Came, Ended}
 use Rattle.walk.specs.Walking.{Walking, steps_of}
 use Rattle.walk.specs.Prefixes.{Walks}
 use Rattle.listing.specs.Stream.{WalkedToEntry}
 use Rattle.pages.specs.declared.Pen.{Pen}
-use Rattle.pages.specs.declared.Line.{Line}
 use Rattle.pages.specs.declared.Page.{Page}
 use Rattle.lines.specs.Text.{Put}
 use Rattle.pages.specs.Page.{lines_after, WroteLine, FilledTo, FilledPage}
@@ -22,16 +22,21 @@ use Rattle.lines.proofs.Placed.{put_none, put_join, put_long}
 
 -- the next entry, as a line
 module _ (t chain sentence w path turns w' path' turns' : List ℕ) (pen : Pen) where
-  pub next_fits : (next : Standing) → WalkedToEntry t chain sentence w path turns w' path' turns' pen.at (Came next) → Walks t chain sentence w path turns pen.at
-      → (room : ℕ) → pen.place + 576 < room → (length path' ≡ 96) × (next.steps ≤ 96) × (pen.place + 6 * next.steps < room)
-  next_fits next walked walks room r =
+  pub next_few : (next : Standing) → WalkedToEntry t chain sentence w path turns w' path' turns' pen.at (Some next) → Walks t chain sentence w path turns pen.at
+      → (next.steps ≤ length path') × (next.steps ≤ 96)
+  next_few next walked walks =
       let h = (walked.of_grammar walks.grammar walks.walking).says.walking in
-      let few : next.steps ≤ 96 = omega (arith, h.trailed.ready.few) in
-      (h.trailed.long, few, omega arith)
+      (omega (arith, h.trailed.ready.few, h.trailed.long), omega (arith, h.trailed.ready.few))
 
-  pub says_next : (next : Standing) → WalkedToEntry t chain sentence w path turns w' path' turns' pen.at (Came next) → {before after : List ℕ} {p : ℕ}
+  pub next_fits : (next : Standing) → WalkedToEntry t chain sentence w path turns w' path' turns' pen.at (Some next) → Walks t chain sentence w path turns pen.at
+      → (room : ℕ) → pen.place + 576 < room → pen.place + 6 * length (take next.steps path') < room
+  next_fits next walked walks room r =
+      let few = next_few next walked walks in
+      omega (arith, few.1, r, length-take-le next.steps path' few.0)
+
+  pub says_next : (next : Standing) → WalkedToEntry t chain sentence w path turns w' path' turns' pen.at (Some next) → {before after : List ℕ} {p : ℕ}
       → Put before after pen.place (line (take next.steps path')) p
-      → WroteLine t chain sentence w path turns before pen w' path' turns' after (Line.Put (record { at = next; place = p }))
+      → WroteLine t chain sentence w path turns before pen w' path' turns' after (Some (record { at = next; place = p }))
   says_next next walked put =
       record {
         of_grammar = λ g walking.
@@ -39,8 +44,8 @@ module _ (t chain sentence w path turns w' path' turns' : List ℕ) (pen : Pen) 
             record { walking = h.walking; same_steps = h.same_steps; put = put; lines = ap (each line) h.comes };
       }
 
-  pub says_last : WalkedToEntry t chain sentence w path turns w' path' turns' pen.at Ended → (before : List ℕ)
-      → WroteLine t chain sentence w path turns before pen w' path' turns' before Line.Last
+  pub says_last : WalkedToEntry t chain sentence w path turns w' path' turns' pen.at None → (before : List ℕ)
+      → WroteLine t chain sentence w path turns before pen w' path' turns' before None
   says_last walked before = record { of_grammar = λ g walking. (refl, ap (each line) (walked.of_grammar g walking).says) }
 
 line_some : (xs : List ℕ) → 0 < length (line xs)
@@ -65,7 +70,7 @@ module _ (t chain sentence w₀ path₀ turns₀ before : List ℕ) (pen : Pen) 
 
     -- a line more
     module _ (w' path' turns' after' : List ℕ) where
-      pub filled_more : (next : Pen) → WroteLine t chain sentence w path turns after here w' path' turns' after' (Line.Put next) → FilledSoFar w' path' turns' after' next
+      pub filled_more : (next : Pen) → WroteLine t chain sentence w path turns after here w' path' turns' after' (Some next) → FilledSoFar w' path' turns' after' next
       filled_more next wrote =
           record {
             of_grammar = λ g walking.
@@ -84,7 +89,7 @@ module _ (t chain sentence w₀ path₀ turns₀ before : List ℕ) (pen : Pen) 
                 };
           }
 
-      pub filled_last : WroteLine t chain sentence w path turns after here w' path' turns' after' Line.Last
+      pub filled_last : WroteLine t chain sentence w path turns after here w' path' turns' after' None
           → FilledPage t chain sentence w₀ path₀ turns₀ before pen w' path' turns' after' (Page.Last here.place)
       filled_last wrote =
           record {
@@ -112,10 +117,10 @@ module _ (t chain sentence w₀ path₀ turns₀ before : List ℕ) (pen : Pen) 
       filled_long = put_long filled.put
 
       module _ (w' path' turns' after' : List ℕ) where
-        pub filled_less : (next : Pen) → WroteLine t chain sentence w path turns after here w' path' turns' after' (Line.Put next) → length after' - next.place < length after - here.place
+        pub filled_less : (next : Pen) → WroteLine t chain sentence w path turns after here w' path' turns' after' (Some next) → length after' - next.place < length after - here.place
         filled_less next wrote =
             let v = wrote.of_grammar walks.grammar filled.walking in
             omega (arith, v.put.place, v.put.within, line_some (take next.at.steps path'), put_long v.put)
 
-        pub last_long : WroteLine t chain sentence w path turns after here w' path' turns' after' Line.Last → length after' ≡ length before
+        pub last_long : WroteLine t chain sentence w path turns after here w' path' turns' after' None → length after' ≡ length before
         last_long wrote = ap length (wrote.of_grammar walks.grammar filled.walking).0 ∙ filled_long

@@ -1,6 +1,6 @@
 -- The listing as lines, a page at a time.
 -- Assumes nothing.
-use Rattle.std.specs.Prelude.{◌≡◌, List, [], ◌++◌, ℕ, ◌+◌, ◌≤◌, length, take}
+use Rattle.std.specs.Prelude.{◌≡◌, List, [], ◌++◌, ℕ, ◌+◌, ◌≤◌, length, take, Option, Some, None}
 use Rattle.model.specs.Base.{each}
 use Rattle.model.specs.Grammar.{Grammar}
 use Rattle.model.specs.Program.{line}
@@ -8,8 +8,6 @@ use Rattle.walk.specs.Walking.{Walking, steps_of}
 use Rattle.listing.specs.Stream.{entries_after}
 use Rattle.lines.specs.Text.{Put}
 use Rattle.pages.specs.declared.Pen.{Pen}
-use Rattle.pages.specs.declared.Line.{Line}
-use Rattle.pages.specs.declared.Line.TheVariants.{Put as LinePut, Last as LineLast}
 use Rattle.pages.specs.declared.Page.{Page}
 use Rattle.pages.specs.declared.Page.TheVariants.{More, Last}
 
@@ -26,12 +24,12 @@ pub record LinePutTo (g : Grammar) (t chain sentence list before : List ℕ) (pe
   pub lines : lines_after g sentence (steps_of pen.at) list ≡ line (take next.at.steps path) ++ lines_after g sentence (steps_of pen.at) (take next.at.steps path)
 
 -- one line is written, or there is none
-abbrev pub LineSays : Grammar → List ℕ → List ℕ → List ℕ → List ℕ → List ℕ → Pen → List ℕ → List ℕ → List ℕ → List ℕ → Line → Type 0
-LineSays g t chain sentence list before pen w path turns after (LinePut next) = LinePutTo g t chain sentence list before pen w path turns after next
-LineSays g t chain sentence list before pen w path turns after LineLast = (after ≡ before) × (lines_after g sentence (steps_of pen.at) list ≡ [])
+abbrev pub LineSays : Grammar → List ℕ → List ℕ → List ℕ → List ℕ → List ℕ → Pen → List ℕ → List ℕ → List ℕ → List ℕ → Option Pen → Type 0
+LineSays g t chain sentence list before pen w path turns after (Some next) = LinePutTo g t chain sentence list before pen w path turns after next
+LineSays g t chain sentence list before pen w path turns after None = (after ≡ before) × (lines_after g sentence (steps_of pen.at) list ≡ [])
 
 -- what is so for every grammar whose walk stands there; the list is the one on the path
-pub record WroteLine (t chain sentence w path turns before : List ℕ) (pen : Pen) (w' path' turns' after : List ℕ) (answer : Line) : Type 0 where
+pub record WroteLine (t chain sentence w path turns before : List ℕ) (pen : Pen) (w' path' turns' after : List ℕ) (answer : Option Pen) : Type 0 where
   pub of_grammar : (g : Grammar) → Walking g t chain sentence w path turns pen.at → LineSays g t chain sentence (take pen.at.steps path) before pen w' path' turns' after answer
 
 -- lines are written from the pen's place on to that of `next`, and the last entry written is on the path, where the walk stands: the lines after the list are

@@ -2,7 +2,8 @@
 -- Assumes nothing.
 use mathlib.Core.Path.{◌≡◌, refl, sym, ap, ap₂, ◌∙◌}
 use mathlib.Core.List.{List, [], ◌∷◌, ◌++◌, append_assoc, append-nil}
-use Prim.Native.Nat.{ℕ, suc, ◌+◌, ◌*◌, ◌<◌, ◌≤◌}
+use Prim.Native.Nat.{ℕ, suc, ◌+◌, ◌-◌, ◌*◌, ◌/◌, ◌<◌, ◌≤◌, min}
+use native.Mathlib.Decide.{dec_le}
 use native.Mathlib.Omega.{arith}
 use lib.ListN.{length, get_or, take, drop, set, length-drop}
 use lib.Seq.{drop-cons, take-suc-set, take_at, length-take-le, take_all}
@@ -59,3 +60,15 @@ words_full bytes words k w h =
     let e : k ≡ 97 = omega (arith, w.few) in
     let l : length (take k words) ≡ 97 = length-take-le k words (omega (arith, w.room, w.few)) ∙ e in
     sym (ap (take 97) w.so_far ∙ take_at (take k words) (pairs (drop (2 * k + 1) bytes)) 97 l)
+
+-- as many words as there are pairs of bytes after the first byte, or 97
+pub words_read : (bytes words : List ℕ) (k spoken : ℕ) → WordsTo bytes words k → spoken ≤ k → k ≤ spoken → spoken ≡ min ((length bytes - 1) / 2) 97
+    → take spoken words ≡ take 97 (sentence_in bytes)
+words_read bytes words k spoken w h l e = go (dec_le 97 k)
+  where
+    same : k ≡ spoken
+    same = omega arith
+
+    go : Dec (97 ≤ k) → take spoken words ≡ take 97 (sentence_in bytes)
+    go (yes m) = ap (λ (i : ℕ). take i words) (sym same) ∙ words_full bytes words k w m
+    go (no m) = ap (λ (i : ℕ). take i words) (sym same) ∙ words_end bytes words k w (omega arith)

@@ -1,6 +1,6 @@
 -- What is printed for what the program reads of its files is what document 01 says is printed for the whole files (`whole_text`), and so are the pages joined.
 -- Assumes nothing.
-use Rattle.std.specs.Prelude.{if◌then◌else◌}
+use Rattle.std.specs.Prelude.{Option as Maybe}
 use mathlib.Core.Path.{◌≡◌, refl, sym, ap, ap₂, ◌∙◌}
 use mathlib.Core.Bool.{Bool, true, false, not, ◌&&◌}
 use mathlib.Core.List.{List, [], ◌∷◌, ◌++◌}
@@ -21,9 +21,9 @@ use Rattle.model.specs.Counting.{count, effort, listing, limits_refusal, effort_
 use Rattle.model.specs.Step.{single}
 use Rattle.model.specs.Program.{pairs, sentence_in, limit_in, program_limit, printed, program}
 use Rattle.model.proofs.Tests.{stop, and_l, and_r, within_low}
-use Rattle.pages.specs.Page.{lines_after}
 use Rattle.report.specs.Whole.{words_in, refusal_of, text_by, WholeText}
-use Rattle.report.specs.Printing.{Pages, last, more, PrintsPages}
+use Rattle.report.specs.declared.program.Rest.{Rest}
+use Rattle.report.specs.Printing.{left_in, Pages, last, more, PrintsPages}
 
 -- the text for a grammar file, a sentence, a node limit and the parity of the sentence file
 abbrev text_for : List ℕ → List ℕ → ℕ → Bool → List ℕ
@@ -133,8 +133,9 @@ whole_text f s file bytes even r =
 -- pages that come one after the other are what was to be printed
 pages_joined : (g : Grammar) (sentence : List ℕ) (n : ℕ) {to_print : List ℕ} {pages : List (List ℕ)} → Pages g sentence n to_print pages → to_print ≡ each (λ l. l) pages
 pages_joined g sentence n (last {to_print} {out} {text} page e) =
-    page.joined ∙ ap (λ (b : Bool). take text.end out ++ (if b then lines_after g sentence n (take text.at.steps text.path) else [])) e
-pages_joined g sentence n (more {to_print} {out} {text} page e rest) = page.joined ∙ ap (λ (l : List ℕ). take text.end out ++ l) (pages_joined g sentence n rest)
+    page.joined ∙ ap (λ (o : Maybe Rest). take text.end out ++ left_in g sentence n o) e
+pages_joined g sentence n (more {to_print} {out} {text} page e others) =
+    page.joined ∙ ap (λ (l : List ℕ). take text.end out ++ l) (pages_joined g sentence n others)
 
 pub prints_pages : PrintsPages
 prints_pages f s file bytes even r pages p = sym (whole_text f s file bytes even r) ∙ pages_joined (grammar_of file) (words_in bytes) (limit_in bytes) p

@@ -5,4 +5,4 @@ mod program;
 mod sentence;
 mod verdict;
 
-pub use program::{Text, first_page, next_page};
+pub use program::{Rest, Text, first_page, next_page};

@@ -1,5 +1,5 @@
 // What the program reads out of the first bytes of the sentence file.
-ghost use Rattle.std.specs.Prelude.{◌≡◌, length, take};
+ghost use Rattle.std.specs.Prelude.{◌≡◌, take};
 ghost use Rattle.model.specs.Program.{limit_in};
 ghost use Rattle.report.specs.Whole.{WordsRead};
 
@@ -17,28 +17,30 @@ pub fn read_limit(bytes: &[u8]) -> u8
     byte(bytes, 0)
 }
 
-// Writes the sentence's words, or the first SENTENCE_WORDS of them, at the front of `words`, each as a place that holds it alone, and answers how many they are.
-pub fn read_words(bytes: &[u8], words: &mut [u32; SENTENCE_WORDS]) -> usize
-    requires { length words.old ≡ 97 }
-    ensures { WordsRead bytes.now words.new result }
-{
-    let mut k: usize = 0;
-    while k < SENTENCE_WORDS {
-        if bytes.len() <= 2 * k + 2 {
-            return k;
-        }
-        words[k] = single_word(Word(two_bytes(bytes, 2 * k + 1)));
-        k += 1;
-    }
-    k
+// The words read of a sentence, each as a place that holds it alone: so many, at the front.
+#[derive(Clone, Copy)]
+pub struct Sentence {
+    pub words: [u32; SENTENCE_WORDS],
+    pub spoken: usize,
 }
 
-// The first n of the words; all of them where there are no more.
-pub fn first_words(words: &[u32], n: usize) -> &[u32]
-    ensures { result.now ≡ take n words.now }
-{
-    if words.len() <= n {
-        return words;
+impl Sentence {
+    // Reads the sentence's words, or the first SENTENCE_WORDS of them.
+    pub fn read(bytes: &[u8]) -> Sentence
+        ensures { WordsRead bytes.now result.words result.spoken }
+    {
+        let mut words = [0; SENTENCE_WORDS];
+        let spoken = (bytes.len().saturating_sub(1) / 2).min(SENTENCE_WORDS);
+        for k in 0..spoken {
+            words[k] = single_word(Word(two_bytes(bytes, 2 * k + 1)));
+        }
+        Sentence { words, spoken }
     }
-    &words[0..n]
+
+    // The words.
+    pub fn heard(&self) -> &[u32]
+        ensures { result.now ≡ take self.now.spoken self.now.words }
+    {
+        &self.words[..self.spoken.min(SENTENCE_WORDS)]
+    }
 }

@@ -1,6 +1,6 @@
 -- Where the walk goes on when no rule leads on from where it stands.
 -- Assumes nothing.
-use Rattle.std.specs.Prelude.{if◌then◌else◌}
+use Rattle.std.specs.Prelude.{if◌then◌else◌, Option}
 use mathlib.Core.Path.{◌≡◌, refl, sym, ap, subst, ◌∙◌}
 use mathlib.Core.Logic.{◌⊎◌, inl, inr}
 use mathlib.Core.Bool.{Bool}
@@ -12,17 +12,19 @@ use borrow.Author.Tests.{eq-eqb, ne_eqb}
 use lib.ListN.{get_or, take, set, length-set}
 use lib.Seq.{take-set-le, get_or-set_same}
 use Rattle.model.specs.Grammar.{Grammar}
+use Rattle.model.specs.declared.RuleNumber.{RuleNumber}
 use Rattle.steps.specs.declared.Standing.{Standing}
 use Rattle.steps.specs.Steps.{Ready, Fronted, behind, StepSays}
 use Rattle.steps.specs.declared.Stepped.TheVariants.{Leads}
 use Rattle.steps.proofs.Applying.{rule_small}
 use Rattle.walk.specs.Chain.{no_rule}
+use Rattle.walk.specs.Named.{Names, number_of}
 use Rattle.walk.specs.Turns.{turn_at, rule_of, steps_in, standing_of, SmallTurn, turn_or, found, Resumes}
 use Rattle.walk.specs.Walking.{Trailed, Walking, steps_of, remaining}
-use Rattle.walk.specs.Prefixes.{OpenFrom, StepFrom, SameLengths, ComesTo}
+use Rattle.walk.specs.Prefixes.{OpenFrom, StepFrom, MayExtend, SameLengths, ComesTo}
 use Rattle.walk.proofs.Kept.{take_less, get_d_kept}
 use Rattle.walk.proofs.OneStep.{next_to_try, next_passes, next_steps, back_is, leads_trailed, leads_steps, leads_comes, back_fronted, back_trailed, back_steps, back_comes, walk_ends}
-use Rattle.walk.proofs.Seeking.{tried_fronted, found_open}
+use Rattle.walk.proofs.Seeking.{named_number, tried_fronted, found_open, found_small, number_is}
 
 -- a turn tells its rule and its standing
 module _ (at : Standing) (r : ℕ) (small : SmallTurn at r) where
@@ -118,6 +120,19 @@ module _ (g : Grammar) (t chain sentence w path turns : List ℕ) (at : Standing
           comes = leads_comes g t chain sentence w path at trailed r fronted w' next says.kept says.below says.says;
         },
       )
+
+-- the rule after rule r whose step leads on from `at`, as code names it
+module _ (t chain sentence w path turns : List ℕ) (at : Standing) (r : ℕ) (may : MayExtend t chain sentence w path turns at r) where
+  pub extend_found : (after : Option RuleNumber) → Names after (get_or chain (64 + r) 0) → (x : Option RuleNumber) → Names x (found t chain sentence at (number_of after))
+      → (number_of x ≡ found t chain sentence at (get_or chain (64 + r) 0)) × (number_of x ≤ no_rule)
+  extend_found after named x h =
+      let g = may.grammar in
+      let k = may.walking.trailed in
+      let try = next_to_try g t chain sentence w at k.ready k.chained r may.fronted (get_or chain (64 + r) 0) refl in
+      let n = number_is g t chain sentence w at k.ready k.chained after _ named try in
+      let small = found_small g t chain sentence w path at k (get_or chain (64 + r) 0) try _ refl in
+      let e : number_of x ≡ found t chain sentence at (get_or chain (64 + r) 0) = named_number x _ (subst (λ (y : ℕ). Names x (found t chain sentence at y)) n h) small in
+      (e, omega (arith, e, small))
 
 -- what a turn tells: that nothing is to come; or a step to make
 abbrev pub Tells : Grammar → List ℕ → List ℕ → List ℕ → List ℕ → List ℕ → List ℕ → Standing → List (List ℕ) → ℕ → Type 0

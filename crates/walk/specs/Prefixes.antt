@@ -1,24 +1,23 @@
 -- What the functions of the walk require, and what they say: the rule to go on with, the step to make, the step made, and the next live prefix.
 -- Assumes nothing.
-use Rattle.std.specs.Prelude.{◌≡◌, true, List, [], ◌∷◌, ℕ, length, take}
+use Rattle.std.specs.Prelude.{◌≡◌, true, List, [], ◌∷◌, ℕ, length, take, Option, Some, None}
 use Rattle.model.specs.Grammar.{Grammar}
+use Rattle.model.specs.declared.RuleNumber.{RuleNumber}
 use Rattle.steps.specs.declared.Standing.{Standing}
 use Rattle.steps.specs.Steps.{Ready, Fronted, opens}
-use Rattle.walk.specs.declared.prefixes.Choice.{Choice}
-use Rattle.walk.specs.declared.prefixes.Choice.TheVariants.{Step, Nothing}
-use Rattle.walk.specs.declared.prefixes.Walked.{Walked}
-use Rattle.walk.specs.declared.prefixes.Walked.TheVariants.{Came, Ended}
 use Rattle.walk.specs.Chain.{no_rule, Chained}
+use Rattle.walk.specs.Named.{Names, number_of}
 use Rattle.walk.specs.Rest.{live_after}
 use Rattle.walk.specs.Walking.{Trailed, Walking, steps_of, remaining, ToTry}
 
--- the recognizer of some grammar stands there, with some array, and rule r is one to try
-pub record MayFind (t chain sentence : List ℕ) (at : Standing) (r : ℕ) : Type 0 where
+-- the recognizer of some grammar stands there, with some array, and r is a rule to try, or none
+pub record MayFind (t chain sentence : List ℕ) (at : Standing) (r : Option RuleNumber) : Type 0 where
   pub grammar : Grammar
   pub array : List ℕ
   pub ready : Ready grammar t sentence array at
   pub chained : Chained grammar chain
-  pub to_try : ToTry grammar array at r
+  pub named : Names r (number_of r)
+  pub to_try : ToTry grammar array at (number_of r)
 
 -- the recognizer of some grammar stands there, where some path led
 pub record StandsAt (t chain sentence w : List ℕ) (at : Standing) : Type 0 where
@@ -33,8 +32,9 @@ pub record OpenFrom (g : Grammar) (t sentence w path : List ℕ) (at : Standing)
   pub comes : remaining g sentence w path at r ≡ remaining g sentence w path at x
 
 -- what is so for every grammar and every path that led there
-pub record FirstOpen (t chain sentence w : List ℕ) (at : Standing) (x : ℕ) : Type 0 where
-  pub of_grammar : (g : Grammar) (path : List ℕ) → Trailed g t chain sentence w path at → OpenFrom g t sentence w path at 0 x
+pub record FirstOpen (t chain sentence w : List ℕ) (at : Standing) (answer : Option RuleNumber) : Type 0 where
+  pub named : Names answer (number_of answer)
+  pub of_grammar : (g : Grammar) (path : List ℕ) → Trailed g t chain sentence w path at → OpenFrom g t sentence w path at 0 (number_of answer)
 
 -- the step to make is that of rule r from standing `from`, where the walk stands too; `coming` is what is to come
 pub record StepFrom (g : Grammar) (t chain sentence w path turns : List ℕ) (at : Standing) (coming : List (List ℕ)) (from : Standing) (r : ℕ) : Type 0 where
@@ -45,9 +45,9 @@ pub record StepFrom (g : Grammar) (t chain sentence w path turns : List ℕ) (at
   pub comes : coming ≡ remaining g sentence w path from r
 
 -- what an answer says: the step to make, or that nothing is to come
-abbrev pub ChoiceSays : Grammar → List ℕ → List ℕ → List ℕ → List ℕ → List ℕ → List ℕ → Standing → List (List ℕ) → Choice → Type 0
-ChoiceSays g t chain sentence w path turns at coming (Step from r) = StepFrom g t chain sentence w path turns at coming from r.0
-ChoiceSays g t chain sentence w path turns at coming Nothing = coming ≡ []
+abbrev pub ChoiceSays : Grammar → List ℕ → List ℕ → List ℕ → List ℕ → List ℕ → List ℕ → Standing → List (List ℕ) → Option (Standing × RuleNumber) → Type 0
+ChoiceSays g t chain sentence w path turns at coming (Some (from, r)) = StepFrom g t chain sentence w path turns at coming from r.0
+ChoiceSays g t chain sentence w path turns at coming None = coming ≡ []
 
 -- with these turns, the walk of some grammar stands there
 pub record MayResume (turns : List ℕ) (at : Standing) : Type 0 where
@@ -60,7 +60,7 @@ pub record MayResume (turns : List ℕ) (at : Standing) : Type 0 where
   pub walking : Walking grammar t chain sentence array path turns at
 
 -- the answer is right for every such walk, where no rule from `at` is left to try
-pub record Resumed (turns : List ℕ) (at : Standing) (answer : Choice) : Type 0 where
+pub record Resumed (turns : List ℕ) (at : Standing) (answer : Option (Standing × RuleNumber)) : Type 0 where
   pub of_grammar : (g : Grammar) (t chain sentence w path : List ℕ) → Walking g t chain sentence w path turns at
       → ChoiceSays g t chain sentence w path turns at (remaining g sentence w path at no_rule) answer
 
@@ -71,7 +71,7 @@ pub record MayChoose (t chain sentence w turns : List ℕ) (at : Standing) : Typ
   pub walking : Walking grammar t chain sentence w path turns at
 
 -- the answer is right for every such walk, where all rules from `at` are to try
-pub record Chosen (t chain sentence w turns : List ℕ) (at : Standing) (answer : Choice) : Type 0 where
+pub record Chosen (t chain sentence w turns : List ℕ) (at : Standing) (answer : Option (Standing × RuleNumber)) : Type 0 where
   pub of_grammar : (g : Grammar) (path : List ℕ) → Walking g t chain sentence w path turns at → ChoiceSays g t chain sentence w path turns at (remaining g sentence w path at 0) answer
 
 -- the walk of some grammar stands there, and rule r is one of the front's category whose step leads on
@@ -110,14 +110,14 @@ pub record NextLive (g : Grammar) (t chain sentence w' path' turns' : List ℕ) 
   pub comes : live_after g sentence (steps_of at) list ≡ take next.steps path' ∷ live_after g sentence (steps_of at) (take next.steps path')
 
 -- what an answer says: the next live prefix, or that there is none
-abbrev pub NextSays : Grammar → List ℕ → List ℕ → List ℕ → List ℕ → List ℕ → List ℕ → List ℕ → Standing → Walked → Type 0
-NextSays g t chain sentence w' path' turns' list at (Came next) = NextLive g t chain sentence w' path' turns' list at next
-NextSays g t chain sentence w' path' turns' list at Ended = live_after g sentence (steps_of at) list ≡ []
+abbrev pub NextSays : Grammar → List ℕ → List ℕ → List ℕ → List ℕ → List ℕ → List ℕ → List ℕ → Standing → Option Standing → Type 0
+NextSays g t chain sentence w' path' turns' list at (Some next) = NextLive g t chain sentence w' path' turns' list at next
+NextSays g t chain sentence w' path' turns' list at None = live_after g sentence (steps_of at) list ≡ []
 
-pub record NextFor (g : Grammar) (t chain sentence w path turns w' path' turns' : List ℕ) (at : Standing) (answer : Walked) : Type 0 where
+pub record NextFor (g : Grammar) (t chain sentence w path turns w' path' turns' : List ℕ) (at : Standing) (answer : Option Standing) : Type 0 where
   pub lengths : SameLengths w path turns w' path' turns'
   pub says : NextSays g t chain sentence w' path' turns' (take at.steps path) at answer
 
 -- what is so for every grammar whose walk stands there
-pub record WalkedOn (t chain sentence w path turns w' path' turns' : List ℕ) (at : Standing) (answer : Walked) : Type 0 where
+pub record WalkedOn (t chain sentence w path turns w' path' turns' : List ℕ) (at : Standing) (answer : Option Standing) : Type 0 where
   pub of_grammar : (g : Grammar) → Walking g t chain sentence w path turns at → NextFor g t chain sentence w path turns w' path' turns' at answer

@@ -7,5 +7,5 @@ mod prefixes;
 mod turns;
 
 pub use chain::{CHAIN, chain_rules};
-pub use prefixes::{Walked, at_end, next};
-pub use turns::{TURNS, no_turns};
+pub use prefixes::{Tables, Walk, at_end};
+pub use turns::TURNS;

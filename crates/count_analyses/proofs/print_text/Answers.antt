@@ -1,6 +1,5 @@
 -- Of a page that `count_analyses::print_text` writes there is more, so that the next one can be made.
 use Rattle.std.proofs.Common.{arith, rules}
-use Rattle.std.proofs.lemmas.Bool.{not-false}
 use Rattle.report.proofs.Printing.{page_less}
 use Rattle.count_analyses.proofs.print_text.Goals as goal
 
@@ -13,16 +12,14 @@ slice_bounds-write_text-end g c = omega (arith, c.loop-out.invariant.1.within)
 pub next_page-text-requires : goal.next_page-text-requires
 next_page-text-requires g c =
     let i = c.loop-out in
-    (record { grammar = _; sentence = _; limit = _; goes_on = i.invariant.1.goes_on (not-false _ c.if-not-text.false) }, omega (arith, i.invariant.2))
+    (record { grammar = _; sentence = _; limit = _; goes_on = i.invariant.1.goes_on _ c.in-Some.is }, omega (arith, i.invariant.2))
 
 pub loop-out-smaller : goal.loop-out-smaller
 loop-out-smaller g c =
     let i = c.loop-out in
-    let m = not-false _ c.if-not-text.false in
-    page_less _ _ _ i.text c.next_page-text.result m (c.next_page-text.ensures.of_grammar _ _ _ (i.invariant.1.goes_on m))
+    page_less _ _ _ i.text c.next_page-text.result c.in-Some.is (c.next_page-text.ensures.of_grammar _ _ _ (i.invariant.1.goes_on _ c.in-Some.is))
 
 pub loop-out-preserved : goal.loop-out-preserved
 loop-out-preserved g c =
     let i = c.loop-out in
-    let m = not-false _ c.if-not-text.false in
-    (_, c.next_page-text.ensures.of_grammar _ _ _ (i.invariant.1.goes_on m), search rules)
+    (_, c.next_page-text.ensures.of_grammar _ _ _ (i.invariant.1.goes_on _ c.in-Some.is), search rules)

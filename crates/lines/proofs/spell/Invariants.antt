@@ -8,6 +8,3 @@ use Rattle.lines.proofs.spell.Given as goal
 
 abbrev pub invariant-loop-i : goal.invariant-loop-i
 invariant-loop-i l = (l.i ≤ 20) × (length l.text ≡ 20) × (decimal l.n ≡ digits_before l.i l.rest (drop l.i l.text))
-
-abbrev pub decreases-loop-i : goal.decreases-loop-i
-decreases-loop-i l = l.i

@@ -3,8 +3,8 @@
 use Rattle.listing.proofs.Entries.{still_left, NoneSoFar}
 use Rattle.listing.proofs.stream.next_entry.Given as goal
 
-abbrev pub invariant-loop-n : goal.invariant-loop-n
-invariant-loop-n l = NoneSoFar l.t l.chain l.sentence l.initial.w l.initial.path l.initial.turns l.initial.here l.w l.path l.turns l.here
+abbrev pub invariant-loop-here : goal.invariant-loop-here
+invariant-loop-here l = NoneSoFar l.tables.rules l.tables.chain l.sentence l.initial.walk.queues l.initial.walk.path l.initial.walk.turns l.initial.here l.walk.queues l.walk.path l.walk.turns l.here
 
-abbrev pub decreases-loop-n : goal.decreases-loop-n
-decreases-loop-n l = still_left l.path l.here
+abbrev pub decreases-loop-here : goal.decreases-loop-here
+decreases-loop-here l = still_left l.walk.path l.here

@@ -1,25 +1,25 @@
 -- `report::begun` meets its contract.
 -- Assumes nothing.
+use mathlib.Core.Path.{refl, ap}
 use lib.ListN.{take}
 use Rattle.model.specs.Program.{program_limit}
 use Rattle.steps.specs.declared.Standing.{Standing}
 use Rattle.analyses.proofs.Limits.{ranges}
-use Rattle.analyses.proofs.Tables.{start_small}
 use Rattle.report.proofs.Printing.{walk_begins}
-use mathlib.Core.Path.{refl, ap}
 use Rattle.report.proofs.program.begun.Goals as goal
 
-pub first_queue-queues-requires : goal.first_queue-queues-requires
-first_queue-queues-requires c = start_small c.args.file.now c.requires.0 _ c.start.ensures
+pub first-walk-requires : goal.first-walk-requires
+first-walk-requires c = c.requires.0
 
-pub first_of_listing-at-requires : goal.first_of_listing-at-requires
-first_of_listing-at-requires c = let r = ranges c.args.n program_limit c.requires.1 in (r.nodes_some, r.nodes_few)
+pub first_of_listing-requires : goal.first_of_listing-requires
+first_of_listing-requires c = let r = ranges c.args.n program_limit c.requires.1 in (r.nodes_some, r.nodes_few)
 
 pub returns : goal.returns
-returns c =
+returns c = λ file accepted tables start.
     let a = c.args in
-    let v = walk_begins a.file.now c.requires.0 a.table a.chain (take a.spoken a.words) c.first_queue-queues.result _ _ a.n _ _ c.requires.2 c.start.ensures c.first_queue-queues.ensures refl c.no_turns-turns.ensures c.requires.1 c.first_of_listing-at.ensures in
+    let w = c.first-walk.ensures in
+    let v = walk_begins file accepted a.tables.rules a.tables.chain (take a.sentence.spoken a.sentence.words) c.first-walk.result.queues _ _ a.n _ _ tables start w.0 w.1 w.2 c.requires.1 c.first_of_listing.ensures in
     record {
-      goes_on = record { more_is = refl; sentence_is = refl; walking = v.0; steps_are = v.1 };
-      at_start = ap (λ (t : Standing). t.steps) c.first_of_listing-at.ensures;
+      goes_on = record { sentence_is = refl; walking = v.0; steps_are = v.1 };
+      at_start = ap (λ (t : Standing). t.steps) c.first_of_listing.ensures;
     }

@@ -4,4 +4,4 @@ use Rattle.report.proofs.Printing.{refused_page}
 use Rattle.report.proofs.program.refused_page.Goals as goal
 
 pub returns : goal.returns
-returns c = refused_page _ c.put_verdict.ensures c.ends_at.ensures
+returns c = refused_page _ c.put_verdict.ensures

@@ -1,36 +1,37 @@
 -- `tally::calls::entry_from` meets its contract.
 -- Assumes nothing.
-use mathlib.Core.Path.{refl, sym}
+use mathlib.Core.Path.{ap}
+use mathlib.Core.List.{List, ◌++◌}
+use Prim.Native.Nat.{ℕ}
+use lib.ListN.{drop}
 use native.Mathlib.Omega.{arith}
-use lib.Seq.{length-take-le}
-use Rattle.tally.proofs.Says.{entry_over, entry_beyond, entry_writes, may_copy}
+use Rattle.model.proofs.Verdicts.{handed_on}
+use Rattle.tally.proofs.Says.{entry_over, entry_beyond, entry_writes}
 use Rattle.tally.proofs.calls.entry_from.Goals as goal
+
+pub tally_all-requires : goal.tally_all-requires
+tally_all-requires c =
+    let p = c.requires in
+    (p.0, λ w f. let may = p.1 w f in record { grammar = may.grammar; starts = may.starts; limited = may.limited; room = omega arith })
+
+pub returns-in_err-so : goal.returns-in_err-so
+returns-in_err-so c =
+    let a = c.args in
+    let k = rw c.in_err-so.was at c.tally_all.ensures in
+    rw (handed_on c.from_residual.result c.from_residual.ensures.1) (k.0, k.1, entry_over a.tables.now.rules a.tables.now.chain a.sentence.now k.0 a.n a.limit a.m _ _ a.out.now _ k.2)
 
 pub returns-then-so-m : goal.returns-then-so-m
 returns-then-so-m c =
     let a = c.args in
-    entry_beyond a.t.now a.chain.now a.sentence.now a.w.now a.n a.limit a.m _ _ a.out.now _ (rw c.in-All.is at c.tally_all-all.ensures) (omega (arith, c.if-so-m.true))
+    let k = rw c.in_ok-so.was at c.tally_all.ensures in
+    (k.0, k.1, entry_beyond a.tables.now.rules a.tables.now.chain a.sentence.now k.0 a.n a.limit a.m _ _ a.out.now _ k.2 (omega (arith, c.if-so-m.true)))
 
-pub slice_bounds-write_front-end : goal.slice_bounds-write_front-end
-slice_bounds-write_front-end c =
+pub returns : goal.returns
+returns c =
     let a = c.args in
-    let k = may_copy a.t.now a.chain.now a.sentence.now a.w.now a.n a.limit a.m _ _ _ a.out.now c.requires refl (rw c.in-All.is at c.tally_all-all.ensures) in
-    sym (length-take-le c.in-All.so.steps c.tally_all-all.new.held k.0)
-
-pub write_front-requires : goal.write_front-requires
-write_front-requires c =
-    let a = c.args in
-    let k = may_copy a.t.now a.chain.now a.sentence.now a.w.now a.n a.limit a.m _ _ _ a.out.now c.requires refl (rw c.in-All.is at c.tally_all-all.ensures) in
-    omega (arith, k.1, length-take-le c.in-All.so.steps c.tally_all-all.new.held k.0)
-
-pub returns-in-Over : goal.returns-in-Over
-returns-in-Over c =
-    let a = c.args in
-    entry_over a.t.now a.chain.now a.sentence.now a.w.now a.n a.limit a.m _ _ a.out.now (rw c.in-Over.is at c.tally_all-all.ensures)
-
-pub returns-else-so-m : goal.returns-else-so-m
-returns-else-so-m c =
-    let a = c.args in
-    let h = (may_copy a.t.now a.chain.now a.sentence.now a.w.now a.n a.limit a.m _ _ _ a.out.now c.requires refl (rw c.in-All.is at c.tally_all-all.ensures)).0 in
-    let w = rw length-take-le at c.write_front.ensures in
-    entry_writes a.t.now a.chain.now a.sentence.now a.w.now a.n a.limit a.m _ _ a.out.now _ (rw c.in-All.is at c.tally_all-all.ensures) (omega (arith, c.if-so-m.false)) c.tally_all-all.ensures.kept c.write_front.new.out w
+    let k = rw c.in_ok-so.was at c.tally_all.ensures in (
+      k.0,
+      k.1,
+      entry_writes a.tables.now.rules a.tables.now.chain a.sentence.now k.0 a.n a.limit a.m _ _ a.out.now _ k.2 (omega (arith, c.if-so-m.false)) k.2.kept _
+          (ap (λ (l : List ℕ). l ++ drop c.in_ok-so.so.steps a.out.now) c.copy_from_slice.ensures.after),
+    )

@@ -26,12 +26,13 @@ loop-r-init c =
 
 pub loop-r-preserved : goal.loop-r-preserved
 loop-r-preserved c =
-    let f = c.args.file.now in (
+    let f = c.args.file.now in
+    rw (c.from.ensures, c.from-a.ensures) (
       omega arith,
       search rules,
       λ accepted.
           let i = c.loop-r.invariant.2 accepted in
-          file_link f accepted c.loop-r.r c.category_of-a.result.0 c.loop-r.chain (omega arith) i.0 c.category_of-a.ensures i.1,
+          file_link f accepted c.loop-r.r c.category_of.result.0 c.loop-r.chain (omega arith) i.0 c.category_of.ensures i.1,
     )
 
 pub returns : goal.returns

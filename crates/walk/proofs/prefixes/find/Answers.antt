@@ -1,42 +1,30 @@
 -- `walk::prefixes::find` meets its contract.
 -- Assumes nothing.
-use mathlib.Core.Path.{refl, sym, ◌∙◌}
+use mathlib.Core.Path.{sym, ◌∙◌}
 use native.Mathlib.Omega.{arith}
-use Rattle.walk.proofs.Seeking.{find_none, find_opens, find_here, find_later, find_goes}
+use Rattle.walk.proofs.Seeking.{find_opens, find_returns, find_later, find_goes}
 use Rattle.walk.proofs.prefixes.find.Goals as goal
-
-pub loop-x-init : goal.loop-x-init
-loop-x-init c = (c.requires, refl)
 
 pub opens-requires : goal.opens-requires
 opens-requires c =
     let a = c.args in
-    let l = c.loop-x in
-    find_opens a.t.now a.chain.now a.sentence.now a.at l.x l.invariant.0 c.loop-x-test.true
+    find_opens a.tables.now.rules a.tables.now.chain a.sentence.now a.at c.in-Some.x (rw c.in-Some.is at c.loop-next.invariant.0)
 
 pub returns-then-opens : goal.returns-then-opens
 returns-then-opens c =
     let a = c.args in
-    let l = c.loop-x in
-    find_here a.t.now a.chain.now a.sentence.now a.at l.x l.invariant.0 c.loop-x-test.true (sym c.opens.ensures ∙ c.if-opens.true) ∙ sym l.invariant.1
+    find_returns a.tables.now.rules a.tables.now.chain a.sentence.now a.at c.in-Some.x (rw c.in-Some.is at c.loop-next.invariant.0) a.r (rw c.in-Some.is at c.loop-next.invariant.1) (sym c.opens.ensures ∙ c.if-opens.true)
 
-pub loop-x-smaller : goal.loop-x-smaller
-loop-x-smaller c =
+pub loop-next-smaller : goal.loop-next-smaller
+loop-next-smaller c =
     let a = c.args in
-    let l = c.loop-x in
-    let small = c.loop-x-test.true in
-    omega (arith, small, find_later a.t.now a.chain.now a.sentence.now a.at l.x l.invariant.0 small c.next_rule-x.result.0 c.next_rule-x.ensures)
+    let may = rw c.in-Some.is at c.loop-next.invariant.0 in
+    let later = find_later a.tables.now.rules a.tables.now.chain a.sentence.now a.at c.in-Some.x may c.next_rule-next.result c.next_rule-next.ensures in
+    rw c.in-Some.is (omega (arith, later, may.named.1))
 
-pub loop-x-preserved : goal.loop-x-preserved
-loop-x-preserved c =
+pub loop-next-preserved : goal.loop-next-preserved
+loop-next-preserved c =
     let a = c.args in
-    let l = c.loop-x in
-    let small = c.loop-x-test.true in
-    let h = find_goes a.t.now a.chain.now a.sentence.now a.at l.x l.invariant.0 small (sym c.opens.ensures ∙ c.if-opens.false) c.next_rule-x.result.0 c.next_rule-x.ensures in
-    (h.0, l.invariant.1 ∙ h.1)
-
-pub returns : goal.returns
-returns c =
-    let a = c.args in
-    let l = c.loop-x in
-    find_none a.t.now a.chain.now a.sentence.now a.at l.x l.invariant.0 c.loop-x-test.false ∙ sym l.invariant.1
+    let i = rw c.in-Some.is at c.loop-next.invariant in
+    let h = find_goes a.tables.now.rules a.tables.now.chain a.sentence.now a.at c.in-Some.x i.0 c.next_rule-next.result c.next_rule-next.ensures (sym c.opens.ensures ∙ c.if-opens.false) in
+    (h.0, i.1 ∙ h.1)

@@ -1,0 +1,2 @@
+-- `report::sentence::Sentence::heard` meets its contract.
+-- Assumes nothing.
