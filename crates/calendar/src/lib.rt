@@ -9,8 +9,8 @@ pub use first_days::first_day;
 pub use leap_years::{is_leap, year_length};
 pub use months::month_length;
 
-// A date: the year as it is written, month and day counted from 1.
-#[derive(Clone, Copy)]
+// A date: the year as it is written, month and day counted from 1. The order of dates is that of their days.
+#[derive(Clone, Copy, PartialEq, Eq, PartialOrd, Ord)]
 pub struct Date {
     pub year: u16,
     pub month: u8,
