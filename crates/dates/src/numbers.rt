@@ -10,37 +10,13 @@ use model::{Refusal, Verdict};
 // The most days that a year has.
 const LONGEST_YEAR: u64 = 366;
 
-// The days of a month.
-fn days_in(leap: bool, month: u8) -> u64
-    requires { (1 ≤ month) × (month ≤ 12) }
-    ensures { result ≡ length_in leap month }
-{
-    month_length(leap, month) as u64
-}
-
 // The date is one of the span.
 pub fn is_date(d: Date) -> bool
     ensures { result ≡ is_date d }
 {
-    let year = d.year;
-    let month = d.month;
-    let day = d.day;
-    if year < FIRST_YEAR {
-        return false;
-    }
-    if LAST_YEAR < year {
-        return false;
-    }
-    if month < 1 {
-        return false;
-    }
-    if 12 < month {
-        return false;
-    }
-    if day < 1 {
-        return false;
-    }
-    day <= month_length(is_leap(year), month)
+    (FIRST_YEAR..=LAST_YEAR).contains(&d.year)
+        && (1..=12).contains(&d.month)
+        && (1..=month_length(is_leap(d.year), d.month)).contains(&d.day)
 }
 
 // The days of a year before a month.
@@ -49,11 +25,9 @@ fn months_before(year: u16, month: u8) -> u64
     ensures { result ≡ days_of_months year (month - 1) }
 {
     let leap = is_leap(year);
-    let mut total: u64 = 0;
-    let mut k: u8 = 1;
-    while k < month {
-        total += days_in(leap, k);
-        k += 1;
+    let mut total = 0;
+    for k in 1..month {
+        total += u64::from(month_length(leap, k));
     }
     total
 }
@@ -63,11 +37,7 @@ pub fn number_of(d: Date) -> u64
     requires { is_date d ≡ true }
     ensures { result ≡ day_number d }
 {
-    let year = d.year;
-    let day = d.day;
-    let first = first_day(year) as u64;
-    let before = months_before(year, d.month);
-    first + before + ((day - 1) as u64)
+    u64::from(first_day(d.year)) + months_before(d.year, d.month) + u64::from(d.day - 1)
 }
 
 // A date's number.
@@ -87,21 +57,19 @@ fn date_in(year: u16, number: u64) -> Date
     ensures { result ≡ date_in year number }
 {
     let leap = is_leap(year);
-    let mut month: u8 = 1;
     let mut left = number;
-    while month < 12 {
-        let in_month = days_in(leap, month);
+    for month in 1..=12 {
+        let in_month = u64::from(month_length(leap, month));
         if left < in_month {
-            break;
+            return Date {
+                year,
+                month,
+                day: left as u8 + 1,
+            };
         }
         left -= in_month;
-        month += 1;
     }
-    Date {
-        year,
-        month,
-        day: (left as u8) + 1,
-    }
+    unreachable!()
 }
 
 // The date that is so many days after 1 January of a year.
@@ -109,17 +77,15 @@ fn date_after(start: u16, count: u64) -> Date
     requires { (first_year ≤ start) × (start ≤ last_year) × (days_of_years (start - first_year) + count < days) }
     ensures { result ≡ date_of (days_of_years (start - first_year) + count) }
 {
-    let mut year = start;
     let mut left = count;
-    while year < LAST_YEAR {
+    for year in start..=LAST_YEAR {
         let in_year = year_length(year);
         if left < in_year {
-            break;
+            return date_in(year, left);
         }
         left -= in_year;
-        year += 1;
     }
-    date_in(year, left)
+    unreachable!()
 }
 
 // A number's one date. No year has more than 366 days, so that the year looked up has begun by that day; it is the day's year or the one before it.

@@ -11,25 +11,19 @@ use model::{Refusal, Verdict};
 // The longest term, in months.
 const LONGEST_TERM: u64 = 600;
 
-// The lesser of two numbers.
-fn least_of(a: u8, b: u8) -> u8
-    ensures { result ≡ min a b }
-{
-    if a <= b { a } else { b }
-}
-
 // The opening day, in the month the term after the deposit's.
 fn opening_date(d: Date, term: u64) -> Date
     requires { (is_date d ≡ true) × (term ≤ longest_term) }
     ensures { result ≡ opening d term }
 {
-    let months = (d.month - 1) as u64 + term;
-    let year = d.year + ((months / 12) as u16);
-    let month = ((months % 12) as u8) + 1;
+    let months = u64::from(d.month - 1) + term;
+    let year = d.year + (months / 12) as u16;
+    let month = (months % 12) as u8 + 1;
+    let last = month_length(is_leap(year), month);
     Date {
         year,
         month,
-        day: least_of(d.day, month_length(is_leap(year), month)),
+        day: d.day.min(last),
     }
 }
 
