@@ -1,9 +1,9 @@
 // A date's number, and a number's date.
 ghost use Rattle.std.specs.Prelude.{◌≡◌, true, ◌+◌, ◌-◌, ◌<◌, ◌≤◌};
-ghost use Rattle.calendar.specs.Calendar.{first_year, last_year, days, year_length, length_in, is_date, days_of_years, days_of_months, day_number, date_in, date_of};
+ghost use Rattle.calendar.specs.Calendar.{first_year, last_year, days, year_length, is_date, days_of_years, days_of_months, day_number, date_in, date_of};
 ghost use Rattle.dates.specs.Dates.{number_verdict, date_call};
 
-use crate::DateVerdict;
+use crate::NO_DATE;
 use calendar::{DAYS, Date, FIRST_YEAR, LAST_YEAR, first_day, is_leap, month_length, year_length};
 use model::Refusal;
 
@@ -47,7 +47,7 @@ pub fn day_number(d: Date) -> Result<u64, Refusal>
     if is_date(d) {
         Ok(number_of(d))
     } else {
-        Err(Refusal::Desk(27, 0))
+        Err(NO_DATE)
     }
 }
 
@@ -89,12 +89,12 @@ fn date_after(start: u16, count: u64) -> Date
 }
 
 // A number's one date. No year has more than 366 days, so that the year looked up has begun by that day; it is the day's year or the one before it.
-pub fn date_of(number: u64) -> DateVerdict
+pub fn date_of(number: u64) -> Result<Date, Refusal>
     ensures { result ≡ date_call number }
 {
     if DAYS <= number {
-        return DateVerdict::NotDated(Refusal::Desk(27, 0));
+        return Err(NO_DATE);
     }
-    let year = FIRST_YEAR + ((number / LONGEST_YEAR) as u16);
-    DateVerdict::Dated(date_after(year, number - first_day(year) as u64))
+    let year = FIRST_YEAR + (number / LONGEST_YEAR) as u16;
+    Ok(date_after(year, number - u64::from(first_day(year))))
 }
