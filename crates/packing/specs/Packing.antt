@@ -5,6 +5,7 @@ use Rattle.std.specs.Prelude.{◌≡◌, ℕ, ◌+◌, ◌*◌, ◌/◌, ◌%◌
 use Rattle.model.specs.declared.Refusal.{Refusal}
 use Rattle.model.specs.Verdict.{Author, grammar_author, analysis_author, desk, author, number, place, Answer, values, refusal, Verdict, CountVerdict}
 use Rattle.dates.specs.Dates.{DateVerdict}
+
 -- whose a refusal is: 0 the grammar's, 1 the analysis's, 2 the desk's
 abbrev pub author_code : Author → ℕ
 author_code grammar_author = 0
