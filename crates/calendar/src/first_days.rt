@@ -45,5 +45,5 @@ pub fn first_day(year: u16) -> u32
     requires { (first_year ≤ year) × (year ≤ last_year) }
     ensures { result ≡ days_of_years (year - first_year) }
 {
-    FIRST_DAYS[(year - FIRST_YEAR) as usize]
+    FIRST_DAYS[usize::from(year - FIRST_YEAR)]
 }

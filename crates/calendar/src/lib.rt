@@ -8,13 +8,21 @@ mod months;
 pub use first_days::first_day;
 pub use leap_years::{is_leap, year_length};
 pub use months::month_length;
+use std::fmt;
 
-// A date: the year as it is written, month and day counted from 1.
-#[derive(Clone, Copy)]
+// A date: the year as it is written, month and day counted from 1. Dates are ordered by year, month and day.
+#[derive(Clone, Copy, PartialEq, Eq, PartialOrd, Ord)]
 pub struct Date {
     pub year: u16,
     pub month: u8,
     pub day: u8,
+}
+
+// Year, month and day, parted by blanks.
+impl fmt::Display for Date {
+    fn fmt<W: fmt::Write>(&self, f: &mut fmt::Formatter<W>) -> fmt::Result {
+        write!(f, "{} {} {}", self.year, self.month, self.day)
+    }
 }
 
 pub const FIRST_YEAR: u16 = 2000;

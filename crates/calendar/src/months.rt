@@ -13,10 +13,5 @@ pub fn month_length(leap: bool, month: u8) -> u8
     requires { (1 ≤ month) × (month ≤ 12) }
     ensures { result ≡ length_in leap month }
 {
-    let k = (month - 1) as usize;
-    if leap {
-        MONTH_LENGTHS[1][k]
-    } else {
-        MONTH_LENGTHS[0][k]
-    }
+    MONTH_LENGTHS[usize::from(leap)][usize::from(month - 1)]
 }

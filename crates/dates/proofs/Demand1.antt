@@ -11,8 +11,8 @@ use Rattle.model.proofs.Verdicts.{same_refusal}
 use Rattle.model.proofs.Refusals.{answer_by, decided, by_tests, Gives, ◌then◌, desk_one}
 use Rattle.calendar.specs.declared.Date.{Date}
 use Rattle.calendar.specs.Calendar.{date, day_number, date_of}
-use Rattle.dates.specs.declared.DateVerdict.{DateVerdict}
-use Rattle.dates.specs.Dates.{opening, open_on, no_date, no_day, too_long, too_late, date_refusal, day_refusal, term_refusal, opening_refusal, open_refusal, date_verdict, date_answer, date_tests, day_tests, term_tests, Demand1Dated}
+use Rattle.dates.specs.Dates.{opening, open_on, no_date, no_day, too_long, too_late, date_refusal, day_refusal, term_refusal, opening_refusal, open_refusal, date_verdict, date_answer, date_tests, day_tests, term_tests, Demand1Dated, DateVerdict}
+use Rattle.std.specs.Prelude.{Ok, Err}
 
 date_gives : (d : Date) → Gives (date_tests d) (date_refusal d)
 date_gives d = desk_one 27 0 (no_date d)
@@ -42,11 +42,11 @@ demand_1_dated =
 
 -- an answer in the paper's terms says which value of the enum it is
 pub same_dated : (v w : DateVerdict) → date_answer v ≡ date_answer w → v ≡ w
-same_dated (DateVerdict.Dated d) (DateVerdict.Dated f) e =
+same_dated (Ok d) (Ok f) e =
     let y : d.year ≡ f.year = cc in
     let m : d.month ≡ f.month = cc in
     let n : d.day ≡ f.day = cc in
-    λ i. DateVerdict.Dated (date (y i) (m i) (n i))
-same_dated (DateVerdict.NotDated r) (DateVerdict.NotDated s) e = ap DateVerdict.NotDated (same_refusal r s e)
-same_dated (DateVerdict.Dated d) (DateVerdict.NotDated s) e = let z : ◌≡◌ {A = ℕ} 0 1 = cc in absurd (omega arith)
-same_dated (DateVerdict.NotDated r) (DateVerdict.Dated f) e = let z : ◌≡◌ {A = ℕ} 0 1 = cc in absurd (omega arith)
+    λ i. Ok (date (y i) (m i) (n i))
+same_dated (Err r) (Err s) e = ap Err (same_refusal r s e)
+same_dated (Ok d) (Err s) e = let z : ◌≡◌ {A = ℕ} 0 1 = cc in absurd (omega arith)
+same_dated (Err r) (Ok f) e = let z : ◌≡◌ {A = ℕ} 0 1 = cc in absurd (omega arith)

@@ -3,7 +3,6 @@ pub mod OneDate
 pub mod BackAndForth
 pub mod OpeningMonth
 pub mod YearsAndMonths
-pub mod OpenOrNot
 pub mod WideDates
 pub mod Demand1
 pub mod Examples

@@ -3,9 +3,9 @@
 use mathlib.Core.Path.{◌≡◌, sym, ap, ◌∙◌}
 use Prim.Native.Nat.{ℕ, suc, ◌+◌, ◌-◌, ◌/◌, ◌<◌, ◌≤◌}
 use native.Mathlib.Omega.{arith}
-use Rattle.calendar.specs.Calendar.{date, first_year, last_year, years, days, year_length, month_length, days_of_year, days_of_years, days_of_month, days_of_months, Passed, years_passed, date_in, date_of}
+use Rattle.calendar.specs.Calendar.{date, first_year, last_year, years, year_length, month_length, days_of_year, days_of_years, days_of_month, days_of_months, Passed, years_passed, date_in, date_of}
 use Rattle.calendar.proofs.Passed.{passed_is}
-use Rattle.calendar.proofs.Calendar.{months_sum, years_sum, years_most, month_more}
+use Rattle.calendar.proofs.Calendar.{years_most, month_more}
 
 -- ---- the year: as many years as 366 goes into the number have begun, since none has more days
 pub years_begun : (number : ℕ) → days_of_years (first_year + number / 366 - first_year) ≤ number
@@ -17,17 +17,6 @@ years_begun number =
 module _ (number year left : ℕ) (from : first_year ≤ year) (sum : days_of_years (year - first_year) + left ≡ number) where
   year_is : first_year + (year - first_year) ≡ year
   year_is = omega arith
-
-  pub year_over : (length : ℕ) → length ≡ year_length year → length ≤ left → days_of_years (year + 1 - first_year) + (left - length) ≡ number
-  year_over length e l =
-      let next : year + 1 - first_year ≡ suc (year - first_year) = omega arith in
-      omega (arith, ap days_of_years next, ap year_length year_is)
-
-  -- in the last year they are days of it
-  pub last_inside : number < days → year ≤ last_year → last_year ≤ year → left < year_length year
-  last_inside l to late =
-      let e : suc (year - first_year) ≡ years = omega arith in
-      omega (arith, ap days_of_years e, years_sum, ap year_length year_is)
 
   pub date_of_year : year ≤ last_year → left < year_length year → date_in year left ≡ date_of number
   date_of_year to inside =
@@ -41,12 +30,6 @@ module _ (year number month left : ℕ) (from : 1 ≤ month) (sum : days_of_mont
   month_over length e l =
       let same : month + 1 - 1 ≡ month = omega arith in
       omega (arith, ap (days_of_months year) same, month_more year month from)
-
-  -- in the last month they are days of it
-  pub december_inside : number < year_length year → month ≤ 12 → 12 ≤ month → left < month_length year month
-  december_inside l to late =
-      let e : month ≡ 12 = omega arith in
-      omega (arith, month_more year month from, ap (days_of_months year) e, months_sum year)
 
   pub date_found : month ≤ 12 → left < month_length year month → date year month (left + 1) ≡ date_in year number
   date_found to inside =

@@ -1,6 +1,6 @@
 -- The day a deposit opens (document 02, paper 3): the opening day, the refusals in their order, the outcome of each call, and what is proved of them.
 -- Assumes nothing.
-use Rattle.std.specs.Prelude.{◌≡◌, ℕ, zero, suc, min, ◌<◌, ◌≤◌, Bool, true, false, not, List, [], ◌∷◌, ltb, leb, if◌then◌else◌, Ok, Err}
+use Rattle.std.specs.Prelude.{◌≡◌, ℕ, zero, suc, min, ◌<◌, ◌≤◌, Bool, true, false, not, List, [], ◌∷◌, ltb, leb, if◌then◌else◌, Ok, Err, Result}
 use Rattle.std.proofs.Math.Option.{Option, none, some}
 use Rattle.model.specs.declared.Refusal.{Refusal}
 use Rattle.model.specs.Base.{◌or_else◌}
@@ -9,8 +9,10 @@ use Rattle.model.specs.Refusals.{Test, of_desk, ◌and_then◌}
 use Rattle.model.specs.Demands.{◌⇔◌, Decided}
 use Rattle.calendar.specs.declared.Date.{Date}
 use Rattle.calendar.specs.Calendar.{date, month_length, last_year, days, is_date, day_number, date_of, Month, month_of, next_month, BothWays}
-use Rattle.dates.specs.declared.DateVerdict.{DateVerdict}
-use Rattle.dates.specs.declared.DateVerdict.TheVariants.{Dated, NotDated}
+
+-- a date, or a refusal
+abbrev pub DateVerdict : Type 0
+DateVerdict = Result Date Refusal
 
 -- "The opening day lies in the month the term after the deposit's"
 abbrev pub month_after : ℕ → Month → Month
@@ -74,8 +76,8 @@ number_verdict d = verdict (date_refusal d) (day_number d)
 
 -- "a number's one date,"
 abbrev pub date_verdict : Option Refusal → Date → DateVerdict
-date_verdict none d = Dated d
-date_verdict (some r) d = NotDated r
+date_verdict none d = Ok d
+date_verdict (some r) d = Err r
 
 abbrev pub date_call : ℕ → DateVerdict
 date_call number = date_verdict (day_refusal number) (date_of number)
@@ -90,8 +92,8 @@ open_verdict d term asked = verdict (open_refusal d term asked) (open_on d term 
 
 -- the paper's values for each case of the enum: year, month and day, or a refusal
 abbrev pub date_answer : DateVerdict → Answer
-date_answer (Dated d) = values (d.year ∷ d.month ∷ d.day ∷ [])
-date_answer (NotDated r) = refusal_answer r
+date_answer (Ok d) = values (d.year ∷ d.month ∷ d.day ∷ [])
+date_answer (Err r) = refusal_answer r
 
 -- The tests of the calls, in parts: of a date, of a day number, of a term
 abbrev pub date_tests : Date → List Test
@@ -136,13 +138,13 @@ pub record DateAnswers : Type 0 where
 -- "The calls give a date's number, a number's one date": the two calls one after the other, for all answers that are as they promise
 pub record BackAndForth : Type 0 where
   -- a day number of the span has a date, and that date has that number
-  pub number_back : (answers : DateAnswers) (n : ℕ) → n < days → (d : Date) × (answers.its_date n ≡ Dated d) × (answers.number_of d ≡ Ok n)
+  pub number_back : (answers : DateAnswers) (n : ℕ) → n < days → (d : Date) × (answers.its_date n ≡ Ok d) × (answers.number_of d ≡ Ok n)
   -- a date of the span has a number, and that number has that date
-  pub date_back : (answers : DateAnswers) (d : Date) → is_date d ≡ true → (n : ℕ) × (answers.number_of d ≡ Ok n) × (answers.its_date n ≡ Dated d)
+  pub date_back : (answers : DateAnswers) (d : Date) → is_date d ≡ true → (n : ℕ) × (answers.number_of d ≡ Ok n) × (answers.its_date n ≡ Ok d)
   -- it is the number's one date: no other date has that number, and no other number has that date
-  pub one : (answers : DateAnswers) (d : Date) (n : ℕ) → (answers.number_of d ≡ Ok n) ⇔ (answers.its_date n ≡ Dated d)
+  pub one : (answers : DateAnswers) (d : Date) (n : ℕ) → (answers.number_of d ≡ Ok n) ⇔ (answers.its_date n ≡ Ok d)
   -- all else is 27 in the one call and not given by the other: "no such date, or a date or day number outside that span"
   pub no_date_of : (answers : DateAnswers) (d : Date) → is_date d ≡ false
-      → (answers.number_of d ≡ Err (Refusal.Desk 27 0)) × ((n : ℕ) → answers.its_date n ≡ Dated d → ⊥)
+      → (answers.number_of d ≡ Err (Refusal.Desk 27 0)) × ((n : ℕ) → answers.its_date n ≡ Ok d → ⊥)
   pub no_day_of : (answers : DateAnswers) (n : ℕ) → days ≤ n
-      → (answers.its_date n ≡ NotDated (Refusal.Desk 27 0)) × ((d : Date) → answers.number_of d ≡ Ok n → ⊥)
+      → (answers.its_date n ≡ Err (Refusal.Desk 27 0)) × ((d : Date) → answers.number_of d ≡ Ok n → ⊥)

@@ -5,7 +5,6 @@ use Rattle.model.specs.declared.Refusal.{Refusal}
 use Rattle.model.specs.Examples.{Claim, ◌is◌}
 use Rattle.calendar.specs.Calendar.{date, leap, day_number}
 use Rattle.dates.specs.Dates.{opening, number_verdict, opening_verdict, open_verdict}
-use Rattle.model.specs.Verdict.{Verdict}
 
 -- the paper's own: "31 January 2001 plus 1 month is 28 February 2001", "2100 is a common year"
 abbrev pub of_the_paper : List Claim

@@ -5,15 +5,12 @@ mod numbers;
 mod opening;
 mod wide;
 
-use calendar::Date;
 use model::Refusal;
 pub use numbers::{date_of, day_number};
 pub use opening::{is_open, opening_day};
 pub use wide::date_from;
 
-// A date, or a refusal.
-#[derive(Clone, Copy)]
-pub enum DateVerdict {
-    Dated(Date),
-    NotDated(Refusal),
-}
+// No such date, or a date or a day number outside the span; and a term that is too long, or an opening day after the last date.
+const NO_DATE: Refusal = Refusal::Desk(27, 0);
+
+const TOO_LATE: Refusal = Refusal::Desk(28, 0);

@@ -1,35 +1,30 @@
 // The opening day of a deposit, and whether it is open on a day.
-ghost use Rattle.std.specs.Prelude.{◌≡◌, true, min, ◌≤◌};
+ghost use Rattle.std.specs.Prelude.{◌≡◌, true, ◌≤◌};
 ghost use Rattle.model.specs.Verdict.{verdict};
 ghost use Rattle.calendar.specs.Calendar.{is_date, day_number};
-ghost use Rattle.dates.specs.Dates.{open_from, longest_term, opening, term_refusal, opening_verdict, open_verdict};
+ghost use Rattle.dates.specs.Dates.{longest_term, opening, term_refusal, opening_verdict, open_verdict};
 
 use crate::numbers::{is_date, number_of};
+use crate::{NO_DATE, TOO_LATE};
 use calendar::{DAYS, Date, LAST_YEAR, is_leap, month_length};
 use model::Refusal;
 
 // The longest term, in months.
 const LONGEST_TERM: u64 = 600;
 
-// The lesser of two numbers.
-fn least_of(a: u8, b: u8) -> u8
-    ensures { result ≡ min a b }
-{
-    if a <= b { a } else { b }
-}
-
 // The opening day, in the month the term after the deposit's.
 fn opening_date(d: Date, term: u64) -> Date
     requires { (is_date d ≡ true) × (term ≤ longest_term) }
     ensures { result ≡ opening d term }
 {
-    let months = (d.month - 1) as u64 + term;
-    let year = d.year + ((months / 12) as u16);
-    let month = ((months % 12) as u8) + 1;
+    let months = u64::from(d.month - 1) + term;
+    let year = d.year + (months / 12) as u16;
+    let month = (months % 12) as u8 + 1;
+    let last = month_length(is_leap(year), month);
     Date {
         year,
         month,
-        day: least_of(d.day, month_length(is_leap(year), month)),
+        day: d.day.min(last),
     }
 }
 
@@ -39,14 +34,13 @@ fn opening_number(d: Date, term: u64) -> Result<u64, Refusal>
     ensures { result ≡ verdict (term_refusal d term) (day_number (opening d term)) }
 {
     if LONGEST_TERM < term {
-        return Err(Refusal::Desk(28, 0));
+        return Err(TOO_LATE);
     }
-    let o = opening_date(d, term);
-    let year = o.year;
-    if LAST_YEAR < year {
-        return Err(Refusal::Desk(28, 0));
+    let opened = opening_date(d, term);
+    if LAST_YEAR < opened.year {
+        return Err(TOO_LATE);
     }
-    Ok(number_of(o))
+    Ok(number_of(opened))
 }
 
 // The number of a deposit's opening day.
@@ -56,29 +50,17 @@ pub fn opening_day(d: Date, term: u64) -> Result<u64, Refusal>
     if is_date(d) {
         opening_number(d, term)
     } else {
-        Err(Refusal::Desk(27, 0))
+        Err(NO_DATE)
     }
 }
 
-// 1 from that day on, 0 before it.
-fn open_from(day: u64, asked: u64) -> u64
-    ensures { result ≡ open_from day asked }
-{
-    if day <= asked { 1 } else { 0 }
-}
-
-// 1 or 0, for open or not on the day asked.
+// 1 or 0, for open or not on the day asked: a number, as the paper has it and C gets it.
 pub fn is_open(d: Date, term: u64, asked: u64) -> Result<u64, Refusal>
     ensures { result ≡ open_verdict d term asked }
 {
-    if !is_date(d) {
-        return Err(Refusal::Desk(27, 0));
+    if !is_date(d) || DAYS <= asked {
+        return Err(NO_DATE);
     }
-    if DAYS <= asked {
-        return Err(Refusal::Desk(27, 0));
-    }
-    match opening_number(d, term) {
-        Err(r) => Err(r),
-        Ok(day) => Ok(open_from(day, asked)),
-    }
+    let day = opening_number(d, term)?;
+    Ok(u64::from(day <= asked))
 }

@@ -10,9 +10,7 @@ use borrow.Author.Tests.{lt-ltb, le-ltb}
 use lib.Dec.{ltb}
 use Rattle.model.specs.declared.Refusal.{Refusal}
 use Rattle.model.specs.declared.Refusal.TheVariants.{Grammar, Analysis, Desk}
-use Rattle.dates.specs.declared.DateVerdict.{DateVerdict}
-use Rattle.dates.specs.declared.DateVerdict.TheVariants.{Dated, NotDated}
-use Rattle.dates.specs.Dates.{date_answer}
+use Rattle.dates.specs.Dates.{date_answer, DateVerdict}
 use Rattle.model.specs.Verdict.{author, number, place, Answer, values, refusal, refusal_answer, verdict_answer, count_answer, Verdict, CountVerdict}
 use Rattle.packing.specs.Packing.{author_code, packed_refusal, packed_verdict, packed_count, packed_date, author_of, unpacked_refusal, unpacked_verdict, unpacked_count, unpacked_date, Fits, VerdictFits, CountFits, DateFits, Says, SaysCount, SaysDate}
 
@@ -54,14 +52,14 @@ count_back (Ok x) f =
 count_back (Err r) f = by_refusal r (values (packed_refusal r % 1073741824 ∷ packed_refusal r / 1073741824 ∷ [])) f
 
 pub date_back : (v : DateVerdict) → DateFits v → unpacked_date (packed_date v) ≡ date_answer v
-date_back (Dated d) f =
+date_back (Ok d) f =
     let x = 65536 * d.year + 256 * d.month + d.day in
     let low : ltb x 9223372036854775808 ≡ true = lt-ltb x 9223372036854775808 (omega (arith, f.0, f.1, f.2)) in
     let first : x / 65536 ≡ d.year = omega (arith, f.1, f.2) in
     let second : x / 256 % 256 ≡ d.month = omega (arith, f.1, f.2) in
     let third : x % 256 ≡ d.day = omega (arith, f.2) in
     rw low (λ i. values (first i ∷ second i ∷ third i ∷ []))
-date_back (NotDated r) f = by_refusal r (values (packed_refusal r / 65536 ∷ packed_refusal r / 256 % 256 ∷ packed_refusal r % 256 ∷ [])) f
+date_back (Err r) f = by_refusal r (values (packed_refusal r / 65536 ∷ packed_refusal r / 256 % 256 ∷ packed_refusal r % 256 ∷ [])) f
 
 -- what a number says is what C reads from its bits
 pub says_back : (v : Verdict) (x : ℕ) → Says v x → unpacked_verdict x ≡ verdict_answer v

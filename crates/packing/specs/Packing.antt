@@ -3,9 +3,9 @@
 -- Assumes nothing.
 use Rattle.std.specs.Prelude.{◌≡◌, ℕ, ◌+◌, ◌*◌, ◌/◌, ◌%◌, ◌<◌, [], ◌∷◌, ltb, eqb, if◌then◌else◌, Ok, Err}
 use Rattle.model.specs.declared.Refusal.{Refusal}
-use Rattle.dates.specs.declared.DateVerdict.{DateVerdict}
-use Rattle.dates.specs.declared.DateVerdict.TheVariants.{Dated, NotDated}
 use Rattle.model.specs.Verdict.{Author, grammar_author, analysis_author, desk, author, number, place, Answer, values, refusal, Verdict, CountVerdict}
+use Rattle.dates.specs.Dates.{DateVerdict}
+
 -- whose a refusal is: 0 the grammar's, 1 the analysis's, 2 the desk's
 abbrev pub author_code : Author → ℕ
 author_code grammar_author = 0
@@ -24,8 +24,8 @@ packed_count (Ok c) = c.count + 1073741824 * c.effort
 packed_count (Err r) = packed_refusal r
 
 abbrev pub packed_date : DateVerdict → ℕ
-packed_date (Dated d) = 65536 * d.year + 256 * d.month + d.day
-packed_date (NotDated r) = packed_refusal r
+packed_date (Ok d) = 65536 * d.year + 256 * d.month + d.day
+packed_date (Err r) = packed_refusal r
 
 -- and back, in the paper's terms
 abbrev pub author_of : ℕ → Author
@@ -67,8 +67,8 @@ CountFits (Ok c) = (c.count < 1073741824) × (c.effort < 1073741824)
 CountFits (Err r) = Fits r
 
 abbrev pub DateFits : DateVerdict → Type 0
-DateFits (Dated d) = (d.year < 65536) × (d.month < 256) × (d.day < 256)
-DateFits (NotDated r) = Fits r
+DateFits (Ok d) = (d.year < 65536) × (d.month < 256) × (d.day < 256)
+DateFits (Err r) = Fits r
 
 -- the number x says the verdict v: it is v packed, and every field of v fits its bits
 pub record Says (v : Verdict) (x : ℕ) : Type 0 where

@@ -8,4 +8,4 @@ use Rattle.calendar.proofs.Table.{sum_entry}
 use Rattle.calendar.proofs.first_days.first_day.Goals as goal
 
 pub returns : goal.returns
-returns c = sum_entry days_of_year years (c.args.year - first_year) (search rules)
+returns c = rw c.from.ensures (sum_entry days_of_year years (c.args.year - first_year) (search rules))

@@ -4,8 +4,8 @@ use mathlib.Core.Path.{◌≡◌, refl, ap, ◌∙◌}
 use Prim.Native.Nat.{◌+◌, ◌-◌, ◌/◌}
 use native.Mathlib.Omega.{arith}
 use borrow.Author.Tests.{le-leb, lt-leb}
+use Rattle.std.specs.Prelude.{Ok}
 use Rattle.calendar.specs.Calendar.{first_year, days, days_of_years, date_of}
-use Rattle.dates.specs.declared.DateVerdict.{DateVerdict}
 use Rattle.dates.proofs.YearsAndMonths.{years_begun}
 use Rattle.dates.proofs.numbers.date_of.Goals as goal
 
@@ -13,16 +13,14 @@ pub returns-then-number-ge-DAYS : goal.returns-then-number-ge-DAYS
 returns-then-number-ge-DAYS c = rw (le-leb days c.args.number (omega (arith, c.if-number-ge-DAYS.true))) refl
 
 pub overflow_sub-number : goal.overflow_sub-number
-overflow_sub-number c = omega (arith, c.first_day.ensures, years_begun c.args.number)
+overflow_sub-number c = omega (arith, years_begun c.args.number)
 
 pub date_after-requires : goal.date_after-requires
-date_after-requires c =
-    let n = c.args.number in
-    (omega arith, omega (arith, c.if-number-ge-DAYS.false), omega (arith, c.if-number-ge-DAYS.false, c.first_day.ensures, years_begun n))
+date_after-requires c = (omega arith, omega arith, omega (arith, years_begun c.args.number))
 
 pub returns : goal.returns
 returns c =
     let n = c.args.number in
     let year = first_year + n / 366 in
-    let same : days_of_years (year - first_year) + (n - c.first_day.result) ≡ n = omega (arith, c.first_day.ensures, years_begun n) in
-    rw (lt-leb days n (omega (arith, c.if-number-ge-DAYS.false))) (ap DateVerdict.Dated (c.date_after.ensures ∙ ap date_of same))
+    let same : days_of_years (year - first_year) + (n - c.from.result) ≡ n = omega (arith, years_begun n) in
+    rw (lt-leb days n (omega (arith, c.if-number-ge-DAYS.false))) (ap Ok (c.date_after.ensures ∙ ap date_of same))

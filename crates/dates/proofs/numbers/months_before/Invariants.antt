@@ -6,7 +6,4 @@ use Rattle.calendar.specs.Calendar.{days_of_months}
 use Rattle.dates.proofs.numbers.months_before.Given as goal
 
 abbrev pub invariant-loop-k : goal.invariant-loop-k
-invariant-loop-k l = (1 ≤ l.k) × (l.k ≤ l.month) × (l.total ≡ days_of_months l.year (l.k - 1)) × (l.total ≤ 31 * l.k)
-
-abbrev pub decreases-loop-k : goal.decreases-loop-k
-decreases-loop-k l = l.month - l.k
+invariant-loop-k l = (l.total ≡ days_of_months l.year (l.k - 1)) × (l.total ≤ 31 * l.k)
