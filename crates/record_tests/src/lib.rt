@@ -44,20 +44,23 @@ fn wrong_word(dimensions: &[u8], e: &[u8], words: u16) -> bool
         && (dimension_in(dimensions, record_category(e)) != 1 || words <= w.0 && w.0 != EMPTY_WORD)
 }
 
-// Whether every variable of the daughter at position j is among the bytes exactly once.
-fn daughter_once(dimensions: &[u8], e: &[u8], named: &[u8], j: u8) -> bool
-    ensures { result ≡ all_below (λ c. eqb (occurrences (4 * j + c) named.now) 1) (dimension_in dimensions.now (field e.now (2 + j))) }
-{
-    let d = dimension_in(dimensions, record_daughter(e, usize::from(j)));
-    (0..d).all(|c| occurrences(4 * usize::from(j) + usize::from(c), named) == 1)
-}
-
-// Whether every variable of every daughter occurs exactly once.
+// Whether every variable of every daughter occurs exactly once. Document 01 names the form: nested loops, left by a label at the first that does not.
 fn each_once(dimensions: &[u8], e: &[u8]) -> bool
     ensures { result ≡ each_once dimensions.now e.now }
 {
     let named = fields(e, 11, usize::from(variables(dimensions, e)));
-    (0..record_daughters(e)).all(|j| daughter_once(dimensions, e, named, j))
+    let n = usize::from(record_daughters(e));
+    let mut once = true;
+    'daughters: for j in 0..n {
+        let d = usize::from(dimension_in(dimensions, record_daughter(e, j)));
+        for c in 0..d {
+            if occurrences(4 * j + c, named) != 1 {
+                once = false;
+                break 'daughters;
+            }
+        }
+    }
+    once
 }
 
 // Refusal 8: variables not each once, or lengths not adding up.
