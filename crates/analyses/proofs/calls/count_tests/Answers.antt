@@ -24,7 +24,7 @@ returns-in_err-limits_refusal c =
     let W = sentence_refusal (grammar_of a.file.now) a.sentence.now in
     let g = c.grammar_refusal in
     let k = c.limits_refusal in
-    rw (handed_on c.from_residual-in_err-limits_refusal.result c.from_residual-in_err-limits_refusal.ensures.1) (tests_after G (L or_else W) k.result (tests_pass G g.result g.ensures c.in_ok-grammar_refusal.was) (tests_stop L k.result k.ensures W c.in_err-limits_refusal.was))
+    rw (handed_on c.from_residual-in_err-limits_refusal.result c.from_residual-in_err-limits_refusal.ensures.1) (tests_after G (L or_else W) _ (tests_pass G g.result g.ensures c.in_ok-grammar_refusal.was) (tests_stop L k.result k.ensures W c.in_err-limits_refusal.was))
 
 pub returns : goal.returns
 returns c =
