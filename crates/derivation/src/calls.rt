@@ -22,7 +22,7 @@ pub fn trace_tree(
     list: &[u16],
     trace: &mut [u16; MOST_STEPS],
 ) -> Result<u64, Refusal>
-    requires { (grammar_refusal file.now ≡ none) × (length trace.old ≡ 96) }
+    requires { grammar_refusal file.now ≡ none }
     ensures { TreeSays (grammar_of file.now) sentence.now list.now trace.new result }
 {
     if MOST_STEPS < list.len() {
@@ -68,7 +68,12 @@ fn write_trace(file: &[u8], sentence: &[u32], tree: &[u16], out: &mut [u16]) -> 
 }
 
 // The trace that belongs to a tree: refusals 1 to 10, 23, 11 and 29, and those of the tree checker; else the trace is written at the front of the output.
-pub fn tree_to_trace(file: &[u8], sentence: &[u32], tree: &[u16], out: &mut [u16]) -> Result<u64, Refusal>
+pub fn tree_to_trace(
+    file: &[u8],
+    sentence: &[u32],
+    tree: &[u16],
+    out: &mut [u16],
+) -> Result<u64, Refusal>
     ensures { (result ≡ tree_to_trace_verdict file.now sentence.now tree.now out.old) × (out.new ≡ tree_to_trace_output file.now sentence.now tree.now out.old) }
 {
     conversion_tests(file, sentence, out)?;

@@ -57,7 +57,7 @@ fn read_daughters(
 
 // Reads the whole list as one tree with the start category as root: refusals 19, 13, 20 and 21.
 pub fn read_tree(file: &[u8], list: &[u16], ends: &mut [u16; MOST_STEPS]) -> Result<(), Refusal>
-    requires { (grammar_refusal file.now ≡ none) × (length list.now ≤ 96) × (length ends.old ≡ 96) }
+    requires { (grammar_refusal file.now ≡ none) × (length list.now ≤ 96) }
     ensures { ReadAll (grammar_of file.now) list.now ends.new result }
 {
     let first = TreeReader { list, place: 0 };

@@ -27,7 +27,8 @@ pub fn weigh_trace(file: &[u8], sentence: &[u32], trace: &[u16]) -> Result<u64, 
     Ok(sum_weights(file, trace))
 }
 
-// The sum of weights along a tree, which is refused as the tree checker refuses it.
+// The sum of weights along a tree, which is refused as the tree checker refuses it. One function for both would be no plainer: each has two lines and its
+// own promise.
 pub fn weigh_tree(file: &[u8], sentence: &[u32], tree: &[u16]) -> Result<u64, Refusal>
     ensures { TreeWeighed file.now sentence.now tree.now result }
 {

@@ -1,6 +1,5 @@
 -- `derivation::calls::check_tree` meets its contract.
 -- Assumes nothing.
-use mathlib.Core.Path.{refl}
 use lib.ListN.{length}
 use Rattle.model.specs.Base.{◌or_else◌}
 use Rattle.model.specs.GrammarFile.{grammar_refusal, grammar_of}
@@ -33,7 +32,7 @@ pub trace_tree-requires : goal.trace_tree-requires
 trace_tree-requires c =
     let g = c.grammar_refusal in
     let a = c.args in
-    (tests_pass (grammar_refusal a.file.now) g.result g.ensures c.in_ok-grammar_refusal.was, refl {a = 96})
+    tests_pass (grammar_refusal a.file.now) g.result g.ensures c.in_ok-grammar_refusal.was
 
 pub returns : goal.returns
 returns c =

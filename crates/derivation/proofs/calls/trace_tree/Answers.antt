@@ -25,12 +25,11 @@ returns-in_err-read_tree c =
 pub spells-requires : goal.spells-requires
 spells-requires c =
     let a = c.args in
-    let p = c.requires in
     let k = c.read_tree in
     let g = grammar_of a.file.now in
     let N = nodes_refusal g 0 (g.start ∷ []) a.list.now in
     let e = tests_pass N k.result k.ensures.answer c.in_ok-read_tree.was in
-    (p.0, c.if-list-gt-MOST_STEPS.false, e, k.ensures.long, k.ensures.ended e, p.1)
+    (c.requires, c.if-list-gt-MOST_STEPS.false, e, k.ensures.long, k.ensures.ended e, c.told-trace)
 
 pub returns-then-spells : goal.returns-then-spells
 returns-then-spells c =
