@@ -1,7 +1,7 @@
 -- The library's words for what a chain of iterators gives are the words of document 01: a test of all, a sum, a count and a comparison of bytes.
 -- Assumes nothing.
-use Rattle.std.proofs.Common.{◌≡◌, refl, sym, arith, if◌then◌else◌, Bool, true, false, ◌&&◌, cond, List, [], ◌∷◌, map, ℕ, ◌+◌, ◌*◌, ◌≤◌, length, eqb}
-use Rattle.std.specs.List.{list_all, fold, sum, sum_by, count_by}
+use Rattle.std.proofs.Common.{◌≡◌, refl, sym, arith, if◌then◌else◌, Bool, true, false, cond, List, [], ◌∷◌, map, ℕ, ◌+◌, ◌*◌, ◌≤◌, length, eqb}
+use Rattle.std.specs.List.{list_all, sum, sum_by, count_by}
 use Rattle.std.proofs.lemmas.List.Recursion.{is_sum_by, is_count_by}
 use Rattle.std.proofs.lemmas.Bool.Decides.{same_from_decides, Decides-eqb}
 use Rattle.model.specs.Base.{every, occurrences, total}

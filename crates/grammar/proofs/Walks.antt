@@ -1,4 +1,4 @@
--- A list walked from the front, one element further: what a test of all and a sum say of what is left; and the first elements of two lists compared.
+-- A list walked from the front, one element further: what a sum says of what is left; and the first elements of two lists compared.
 -- Assumes nothing.
 use mathlib.Core.Path.{◌≡◌, refl, sym, ap, ◌∙◌}
 use mathlib.Core.Bool.{Bool, true, false, ◌&&◌}
@@ -11,20 +11,9 @@ use borrow.Author.Tests.{ne_eqb}
 use lib.Dec.{eqb}
 use lib.ListN.{length, get_or, take, drop, drop_of_length-le}
 use lib.Seq.{drop-cons}
-use Rattle.model.specs.Base.{every, total, same_list}
+use Rattle.model.specs.Base.{total, same_list}
 use Rattle.model.specs.GrammarFile.{weighted}
 use Rattle.model.proofs.Tests.{not_both}
-
--- every element passes the test
-module _ (test : ℕ → Bool) (l : List ℕ) (i : ℕ) where
-  pub every_pass : i < length l → test (get_or l i 0) ≡ true → every test (drop i l) ≡ every test (drop (i + 1) l)
-  every_pass h t = rw (add-one, drop-cons l i 0 h) (rw t)
-
-  pub every_fail : i < length l → test (get_or l i 0) ≡ false → every test (drop i l) ≡ false
-  every_fail h t = rw (drop-cons l i 0 h) (rw t)
-
-  pub every_end : length l ≤ i → every test (drop i l) ≡ true
-  every_end h = rw (drop_of_length-le l {i = i} h)
 
 -- a weighted sum
 module _ (l : List ℕ) (i : ℕ) where

@@ -9,7 +9,7 @@ pub fn byte(bytes: &[u8], i: usize) -> u8
     bytes.get(i).copied().unwrap_or(0)
 }
 
-// The number of the 2 bytes at i, little-endian.
+// The number of the 2 bytes at i, little-endian. Where i is past the end, i + 1 may be no `usize`.
 pub fn two_bytes(bytes: &[u8], i: usize) -> u16
     ensures { result ≡ get_or bytes.now i 0 + 256 * get_or bytes.now (i + 1) 0 }
 {

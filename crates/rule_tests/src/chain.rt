@@ -35,7 +35,7 @@ pub fn hash_of(e: &[u8]) -> u8
 }
 
 // Enters record r, whose hash is h, in the table of the latest records. The answer is what stood there: one more than the number of the latest record
-// before it with that hash, or 0.
+// before it with that hash, or 0. It is a number, and no Option: `latest` and `Chained`, which say what a chain is, are of numbers.
 pub fn enter(table: &mut [u16; HASHES], h: u8, r: RuleNumber) -> u16
     requires { r.0 < 256 }
     ensures { (result ≡ get_or table.old h 0) × (table.new ≡ set table.old h (r.0 + 1)) }

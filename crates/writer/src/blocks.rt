@@ -109,7 +109,7 @@ fn put_checks(out: &mut [u8], n: usize)
     }
 }
 
-// Puts the whole file into a buffer of its length.
+// Puts the whole file into a buffer of its length. The heading is given in parts, as `make_grammar` calls it.
 pub fn put_file(
     categories: u8,
     start: u8,

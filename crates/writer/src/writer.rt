@@ -50,7 +50,7 @@ fn given_refusal(
     )
 }
 
-// The writer: refusals 4 to 10, 23; else the file's length, with the file at the front of the output.
+// The writer: refusals 4 to 10, 23; else the file's length, with the file at the front of the output. The heading is given in parts, as C passes it.
 pub fn write_grammar(
     categories: u8,
     start: u8,
