@@ -11,6 +11,7 @@ use lib.ListN.{length, take, drop, length-append}
 use lib.Seq.{sets-eq, take_at, length-take-le}
 use Rattle.model.specs.declared.Refusal.{Refusal}
 use Rattle.model.specs.Base.{each, ◌or_else◌}
+use Rattle.model.specs.declared.Counts.{Counts}
 use Rattle.model.specs.Verdict.{refuse_if, count_verdict, CountVerdict, counts}
 use Rattle.model.specs.Grammar.{Grammar}
 use Rattle.model.specs.GrammarFile.{grammar_refusal, grammar_of, start_of}
@@ -174,8 +175,9 @@ module _ (g : Grammar) (sentence : List ℕ) (n : ℕ) where
   pub counted_text : (o : Option Refusal) (a b : ℕ) → count_verdict o (count g sentence n) (effort g sentence n) ≡ Ok (counts a b)
       → text_by o g sentence n ≡ verdict_line (Ok (counts a b)) ++ lines_after g sentence n []
   counted_text none a b e =
-      let c : count g sentence n ≡ a = cc in
-      let d : effort g sentence n ≡ b = cc in
+      let f : counts (count g sentence n) (effort g sentence n) ≡ counts a b = cc in
+      let c = ap (λ (x : Counts). x.count) f in
+      let d = ap (λ (x : Counts). x.effort) f in
       ap₂ (λ (x y : ℕ). line (x ∷ y ∷ []) ++ each line (listing g sentence n)) c d
       ∙ ap (λ (l : List (List ℕ)). line (a ∷ b ∷ []) ++ each line l) (sym (after_nothing g sentence n))
   counted_text (some r) a b e = let z : ◌≡◌ {A = ℕ} 0 1 = cc in absurd (omega arith)

@@ -1,8 +1,9 @@
 -- `derivation::calls::write_trace` meets its contract.
 -- Assumes nothing.
-use mathlib.Core.Path.{sym}
+use mathlib.Core.Path.{sym, ◌∙◌}
 use native.Mathlib.Omega.{arith}
 use Rattle.model.specs.GrammarFile.{grammar_of}
+use Rattle.model.proofs.Verdicts.{handed_on}
 use Rattle.derivation.proofs.TreeCalls.{list_few, trace_room, trace_written, none_written}
 use Rattle.derivation.proofs.calls.write_trace.Goals as goal
 
@@ -24,10 +25,12 @@ pub returns : goal.returns
 returns c =
     let a = c.args in
     let k = c.trace_tree in
-    trace_written (grammar_of a.file.now) a.sentence.now a.tree.now k.result _ k.ensures a.out.now _ c.write_front.ensures c.in_ok-n.was
+    let w = trace_written (grammar_of a.file.now) a.sentence.now a.tree.now k.result _ k.ensures a.out.now _ c.write_front.ensures c.in_ok-n.was in
+    (sym c.in_ok-n.was ∙ w.0, w.1)
 
 pub returns-in_err-n : goal.returns-in_err-n
 returns-in_err-n c =
     let a = c.args in
     let k = c.trace_tree in
-    none_written (grammar_of a.file.now) a.sentence.now a.tree.now k.result _ k.ensures a.out.now c.in_err-n.was
+    let w = none_written (grammar_of a.file.now) a.sentence.now a.tree.now k.result _ k.ensures a.out.now c.in_err-n.was in
+    (handed_on c.from_residual.result c.from_residual.ensures.1 ∙ sym c.in_err-n.was ∙ w.0, w.1)
