@@ -13,7 +13,7 @@ use ranks::prediction::number;
 use ranks::queue::{ROOM, first_queue};
 use ranks::table::{daughters, place_of};
 use rule_table::compile;
-use steps::{NUMBERS, Stepped, first_daughter, first_standing, step};
+use steps::{NUMBERS, first_daughter, first_standing, step};
 
 // Names d predictions from number `made` on by the places of the daughters of the node at place i, which the table of ends gives.
 fn name_daughters(
@@ -65,17 +65,13 @@ pub fn spells(
         }
         let i = front_node(&w, from, &names);
         let r = list[i];
-        let s = step(file, &t, sentence, &mut w, at, RuleNumber(r));
-        match s {
-            Stepped::Halts(_) => return false,
-            Stepped::Long => return false,
-            Stepped::Leads(next) => {
-                trace[k] = r;
-                let d = daughters(&t, place_of(RuleNumber(r)));
-                name_daughters(ends, i, first_daughter(k), d, &mut names);
-                at = next;
-            }
-        }
+        let Ok(next) = step(file, &t, sentence, &mut w, at, RuleNumber(r)) else {
+            return false;
+        };
+        trace[k] = r;
+        let d = daughters(&t, place_of(RuleNumber(r)));
+        name_daughters(ends, i, first_daughter(k), d, &mut names);
+        at = next;
     }
     sentence.len() <= at.read
 }

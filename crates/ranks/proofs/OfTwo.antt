@@ -1,7 +1,7 @@
 -- Whether a rule is of dimension 2 and its daughters of at most two components: by its dimension, and then by each daughter.
 -- Assumes nothing.
 use Rattle.std.specs.Prelude.{if◌then◌else◌}
-use mathlib.Core.Path.{◌≡◌, refl, sym, ap, ◌∙◌}
+use mathlib.Core.Path.{◌≡◌, refl, sym}
 use mathlib.Core.Bool.{Bool, true, false}
 use mathlib.Core.List.{List}
 use Prim.Native.Nat.{ℕ, zero, suc, ◌+◌, ◌*◌, ◌%◌, ◌<◌}
@@ -17,12 +17,6 @@ both : (a b : Bool) → (if a then b else false) ≡ true → (a ≡ true) × (b
 both true b e = (refl, e)
 both false b e = not_both (sym e)
 
-first_fails : (a b : Bool) → a ≡ false → false ≡ (if a then b else false)
-first_fails a b e = sym (ap (λ (x : Bool). if x then b else false) e)
-
-then_second : (a b : Bool) → a ≡ true → {x : Bool} → x ≡ b → x ≡ (if a then b else false)
-then_second a b e f = f ∙ sym (ap (λ (x : Bool). if x then b else false) e)
-
 module _ (t : List ℕ) (at : ℕ) where
   abbrev two : Bool
   two = eqb (dimension_in t at) 2
@@ -32,18 +26,6 @@ module _ (t : List ℕ) (at : ℕ) where
 
   abbrev rest0 : Bool
   rest0 = if at_most_two t at 0 then rest1 else false
-
-  pub all_are : two ≡ true → at_most_two t at 0 ≡ true → at_most_two t at 1 ≡ true → {x : Bool} → x ≡ at_most_two t at 2 → x ≡ of_two t at
-  all_are e p q f = then_second two rest0 e (then_second (at_most_two t at 0) rest1 p (then_second (at_most_two t at 1) (at_most_two t at 2) q f))
-
-  pub not_second : two ≡ true → at_most_two t at 0 ≡ true → at_most_two t at 1 ≡ false → false ≡ of_two t at
-  not_second e p q = then_second two rest0 e (then_second (at_most_two t at 0) rest1 p (first_fails (at_most_two t at 1) (at_most_two t at 2) q))
-
-  pub not_first : two ≡ true → at_most_two t at 0 ≡ false → false ≡ of_two t at
-  not_first e p = then_second two rest0 e (first_fails (at_most_two t at 0) rest1 p)
-
-  pub not_two : two ≡ false → false ≡ of_two t at
-  not_two e = first_fails two rest0 e
 
   -- what such a rule has
   module _ (h : of_two t at ≡ true) where

@@ -80,7 +80,7 @@ fn made_two(cell: u64, places: u64, lowest: u64, base: u64, mark: u64) -> u64
     with_least(y, rank(y, 0).min(rank(y, 1)))
 }
 
-// The d daughters, made in this way from the cells of the rule that begin at `at`, and 0 behind them.
+// The d daughters, made in this way from the cells of the rule that begin at `at`, and 0 behind them. Beside `made_at`, since it asks other facts of the cells.
 pub fn made_two_at(
     t: &[u64; TABLE],
     at: usize,

@@ -48,6 +48,7 @@ pub fn moves_of(front: u64, lens: u64) -> Moves
     };
     let f = ranks_of(front);
     let n = lengths_of(lens);
+    // Written out, as `gathered` unfolds on four.
     let m3 = with_one(none, f[3], n[3]);
     let m2 = with_one(m3, f[2], n[2]);
     let m1 = with_one(m2, f[1], n[1]);

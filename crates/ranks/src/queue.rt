@@ -21,6 +21,7 @@ fn carry<F: Fn(u64) -> u64>(w: &mut [u64; ROOM], from: usize, to: usize, out: us
     requires answers { (i y : ℕ) → from ≤ i → i < to → F.post f (get_or w.old i 0) y → y ≡ after (get_or w.old i 0) }
     ensures { Mapped after w.old w.new from to out }
 {
+    // A counter beside i: with the place reckoned as `out + (i - from)` a step by a rule of dimension 1 takes half as long again.
     let mut k = out;
     for i in from..to {
         w[k] = f(w[i]);
@@ -65,6 +66,7 @@ pub fn settle(w: &mut [u64; ROOM], from: usize, gap: usize, end: usize, e: u64) 
     requires { Gap w.old from gap end }
     ensures { Settled e w.old w.new from gap end result }
 {
+    // By index: one array is read and written, at a distance of `gap`, until e has its place.
     let mut p = from;
     while p + gap < end {
         let x = w[p + gap];
@@ -79,7 +81,7 @@ pub fn settle(w: &mut [u64; ROOM], from: usize, gap: usize, end: usize, e: u64) 
     p + 1
 }
 
-// One daughter in its place: the list of from + 1 .. end with e in it stands in from..end then.
+// One daughter in its place (a function for each number of daughters: each leaves the rest to the one below it): the list of from + 1 .. end with e in it stands in from..end then.
 pub fn settle1(w: &mut [u64; ROOM], from: usize, end: usize, e: u64)
     requires { Gap w.old from 1 end }
     ensures { Placed (e ∷ []) w.old w.new from 1 end }

@@ -14,7 +14,7 @@ use ranks::table::TABLE;
 use reader::grammar_refusal;
 use rule_table::compile;
 use sentences::sentence_refusal;
-use steps::{Standing, Stepped, first_standing, step};
+use steps::{Halt, Standing, first_standing, step};
 
 // The steps of the trace from where the recognizer stands. Answers the trace's verdict, and stores for each step the number of the prediction that it
 // takes.
@@ -40,14 +40,13 @@ fn run(
     }
     let from = at.from;
     let front = number(w[from]);
-    let s = step(file, t, sentence, w, at, RuleNumber(trace[k]));
-    match s {
-        Stepped::Halts(n) => Err(Refusal::Analysis(n, k as u16)),
-        Stepped::Long => Err(Refusal::Analysis(17, k as u16 + 1)),
-        Stepped::Leads(next) => {
+    match step(file, t, sentence, w, at, RuleNumber(trace[k])) {
+        Ok(next) => {
             taken[k] = front as u16;
             run(file, t, sentence, trace, w, next, taken)
         }
+        Err(Halt::Refused(n)) => Err(Refusal::Analysis(n, k as u16)),
+        Err(Halt::Long) => Err(Refusal::Analysis(17, k as u16 + 1)),
     }
 }
 

@@ -6,7 +6,7 @@ use mathlib.Core.Bool.{Bool, true, false}
 use mathlib.Core.List.{List, [], ◌∷◌}
 use Prim.Native.Nat.{ℕ, zero, suc, ◌+◌, ◌<◌, ◌≤◌, min, max}
 use native.Mathlib.Omega.{arith}
-use borrow.Author.Tests.{le-ltb, ne_eqb}
+use borrow.Author.Tests.{le-ltb}
 use lib.Dec.{eqb}
 use lib.ListN.{get_or, take}
 use Rattle.ranks.specs.Queue.{insert, insert_all}
@@ -36,12 +36,6 @@ module _ (x y z low mid high : ℕ) (r : Rising x y z low mid high) where
 
   pub order_three : low ∷ (mid ∷ (high ∷ [])) ≡ in_order 3 x y z
   order_three = same
-
-pub order_two : (x y z low mid : ℕ) → low ≡ min x y → mid ≡ max x y → low ∷ (mid ∷ (z ∷ [])) ≡ in_order 2 x y z
-order_two x y z low mid a b = λ i. a i ∷ (b i ∷ (z ∷ []))
-
-pub order_other : (n x y z : ℕ) → (n ≡ 3 → ⊥) → (n ≡ 2 → ⊥) → in_order n x y z ≡ x ∷ (y ∷ (z ∷ []))
-order_other n x y z h k = rw (ne_eqb n 3 h, ne_eqb n 2 k)
 
 -- the first n settle as they did, each with m added
 pub order_settles : (n x y z m : ℕ) (q : List ℕ) → 1 ≤ n → n ≤ 3

@@ -6,21 +6,8 @@ use mathlib.Core.List.{List}
 use Prim.Native.Nat.{ℕ, ◌+◌, ◌*◌, ◌<◌, ◌≤◌}
 use native.Mathlib.Nat.{eq-or-lt_of_le}
 use native.Mathlib.Omega.{arith}
-use lib.ListN.{length, get_or, set}
-use lib.Seq.{get_or-set_same, get_or-set_other}
+use lib.ListN.{get_or}
 use Rattle.rule_table.specs.Cells.{Put}
-
--- one cell further
-pub put_next : (cells t : List ℕ) (at i : ℕ) → at + i < length t → ((k : ℕ) → k < i → get_or t (at + k) 0 ≡ get_or cells k 0)
-    → (k : ℕ) → k < i + 1 → get_or (set t (at + i) (get_or cells i 0)) (at + k) 0 ≡ get_or cells k 0
-put_next cells t at i h p k l =
-    ⊎_elim
-    (λ (q : k ≡ i). ap (λ (n : ℕ). get_or (set t (at + i) (get_or cells i 0)) (at + n) 0) q ∙ get_or-set_same t (at + i) (get_or cells i 0) 0 h ∙ sym (ap (λ (n : ℕ). get_or cells n 0) q))
-    (λ (q : k < i). get_or-set_other t (at + i) (at + k) (get_or cells i 0) 0 (λ z. omega arith) ∙ p k q)
-    (eq-or-lt_of_le (low l))
-  where
-    low : k < i + 1 → k ≤ i
-    low l = omega arith
 
 -- one rule further: `of r` are the cells of rule r
 pub rules_next : (of : ℕ → List ℕ) (before after cells : List ℕ) (r : ℕ) → Put cells before after (8 * r) → cells ≡ of r

@@ -1,13 +1,13 @@
 -- The step of a rule of the front's category, in code.
 -- Assumes nothing.
-use Rattle.std.specs.Prelude.{if◌then◌else◌}
+use Rattle.std.specs.Prelude.{Ok, Err, if◌then◌else◌}
 use mathlib.Core.Path.{◌≡◌, refl, sym, ap, ap₂, subst, ◌∙◌}
 use mathlib.Core.Bool.{Bool, true, false}
 use mathlib.Core.Option.{Option, none, some}
 use mathlib.Core.List.{List, [], ◌∷◌, map}
 use Prim.Native.Nat.{ℕ, suc, ◌+◌, ◌-◌, ◌*◌, ◌<◌, ◌≤◌}
 use native.Mathlib.Omega.{arith}
-use borrow.Author.Tests.{eq-eqb, ne_eqb, lt-ltb, le-ltb, ltb-true, ltb-false}
+use borrow.Author.Tests.{eq-eqb, ne_eqb, ltb-true, ltb-false}
 use lib.Dec.{eqb, ltb}
 use lib.ListN.{length, get_or, drop, length-map, drop_of_length-le}
 use lib.Seq.{slice, drop-cons}
@@ -29,7 +29,7 @@ use Rattle.ranks.proofs.Holding.{queue_first, others_numbers, each_held}
 use Rattle.ranks.proofs.Predicting.{others_short, others_behind}
 use Rattle.ranks.proofs.Scanning.{scanned_numbers}
 use Rattle.steps.specs.declared.Standing.{Standing}
-use Rattle.steps.specs.declared.Stepped.TheVariants.{Halts, Long, Leads}
+use Rattle.steps.specs.declared.Halt.TheVariants.{Refused, Long}
 use Rattle.steps.specs.Steps.{state_in, Ready, Fronted, hears, taken, read_by, ahead, opens, Advances, StepSays}
 use Rattle.steps.proofs.Behind.{reads_few}
 use Rattle.steps.proofs.Onward.{state, pending, leads_there, stands_there, x, R, right, reached_front, fit_front, others_length, scans, predicts}
@@ -97,15 +97,6 @@ module _ (t sentence : List ℕ) (at : Standing) (r cell d : ℕ) (place : cell 
   opens_lexical z word e b h =
       h ∙ ap (λ (v : ℕ). hears v sentence at.read) (e ∙ ap (word_in t) place) ∙ sym (ap (λ (l : Bool). by l (ltb at.left (at.to - at.from + daughters_in t (8 * r)))) (eq-eqb (daughters_in t (8 * r)) 0 (same ∙ z)))
 
-  opens_by : (d ≡ 0 → ⊥) → (long : Bool) → ltb at.left (at.to - at.from + daughters_in t (8 * r)) ≡ long → opens t sentence at r ≡ by false long
-  opens_by h long e = ap₂ by (ne_eqb (daughters_in t (8 * r)) 0 (λ z. h (sym same ∙ z))) e
-
-  pub opens_long : (d ≡ 0 → ⊥) → at.left < at.to - at.from + d → false ≡ opens t sentence at r
-  opens_long h l = sym (opens_by h true (lt-ltb at.left (at.to - at.from + daughters_in t (8 * r)) (omega (arith, same))))
-
-  pub opens_fits : (d ≡ 0 → ⊥) → at.to - at.from + d ≤ at.left → true ≡ opens t sentence at r
-  opens_fits h l = sym (opens_by h false (le-ltb at.left (at.to - at.from + daughters_in t (8 * r)) (omega (arith, same))))
-
 -- a rule of the front's category
 module _ (g : Grammar) (t sentence w : List ℕ) (at : Standing) (ready : Ready g t sentence w at) (r : ℕ) (front : Fronted g w at r) where
   pub cells : RuleCells g front.rule t (8 * r)
@@ -126,7 +117,7 @@ module _ (g : Grammar) (t sentence w : List ℕ) (at : Standing) (ready : Ready 
   leads_to : (read : ℕ) (q : List (Ranked ℕ)) → step_ranked (number_at at.steps) g (state g t sentence w at ready) r ≡ goes (record { queue = q; words = drop read sentence })
       → read ≡ at.read + read_by t r → length q ≡ at.to - at.from - 1 + daughters_in t (8 * r) → at.to - at.from + daughters_in t (8 * r) ≤ at.left → read ≤ length sentence
       → (w' : List ℕ) → NextQueue (map number_of q) w w' at.to (at.to + (at.to - at.from - 1 + daughters_in t (8 * r)))
-      → StepSays g t sentence w w' at r (Leads (ahead t at r))
+      → StepSays g t sentence w w' at r (Ok (ahead t at r))
   leads_to read q leads words long fits known w' next =
       let numbers : slice at.to (at.to + length q) w' ≡ map number_of q = ap (λ (n : ℕ). slice at.to (at.to + n) w') long ∙ next.written in
       let few : length q + 1 ≤ at.left = omega (arith, long, fits, front.predicted) in
@@ -179,7 +170,7 @@ module _ (g : Grammar) (t sentence w : List ℕ) (at : Standing) (ready : Ready 
         sym (ap (λ (c : Bool). if c then hears (word_in t (8 * r)) sentence at.read else if ltb at.left (at.to - at.from + daughters_in t (8 * r)) then false else true) (eq-eqb (daughters_in t (8 * r)) 0 no_daughters))
         ∙ o
 
-    pub scan_says : opens t sentence at r ≡ true → (w' : List ℕ) → Mapped (remade (λ k. k - 1)) w w' (at.from + 1) at.to at.to → StepSays g t sentence w w' at r (Leads (ahead t at r))
+    pub scan_says : opens t sentence at r ≡ true → (w' : List ℕ) → Mapped (remade (λ k. k - 1)) w w' (at.from + 1) at.to at.to → StepSays g t sentence w w' at r (Ok (ahead t at r))
     scan_says o w' m =
         let word = word_in t (8 * r) in
         let q = without_front (x g t sentence w at ready r front) (R g t sentence w at ready r front) in
@@ -198,7 +189,7 @@ module _ (g : Grammar) (t sentence w : List ℕ) (at : Standing) (ready : Ready 
               ∙ scanned_numbers g front.rule (right g t sentence w at ready r front) lex (x g t sentence w at ready r front) (R g t sentence w at ready r front) (drop at.read sentence) (reached_front g t sentence w at ready r front) (fit_front g t sentence w at ready r front) front.of_front;
         })
 
-    pub other_says : opens t sentence at r ≡ false → StepSays g t sentence w w at r (Halts 16)
+    pub other_says : opens t sentence at r ≡ false → StepSays g t sentence w w at r (Err (Refused 16))
     other_says o =
         record {
           kept = refl;
@@ -231,7 +222,7 @@ module _ (g : Grammar) (t sentence w : List ℕ) (at : Standing) (ready : Ready 
         go true e d = not_both (sym d)
         go false e d = ltb-false at.left (at.to - at.from + daughters_in t (8 * r)) e
 
-    pub long_says : opens t sentence at r ≡ false → StepSays g t sentence w w at r Long
+    pub long_says : opens t sentence at r ≡ false → StepSays g t sentence w w at r (Err Long)
     long_says o =
         record {
           kept = refl;
@@ -278,7 +269,7 @@ module _ (g : Grammar) (t sentence w : List ℕ) (at : Standing) (ready : Ready 
 
     pub expand_says : (fits : at.to - at.from + daughters_in t (8 * r) ≤ at.left) (w' : List ℕ)
         → NextQueue (map number_of (expanded_queue g front.rule (made_at at.steps) w at.from at.to)) w w' at.to (at.to + (at.to - at.from - 1 + length front.rule.daughters))
-        → StepSays g t sentence w w' at r (Leads (ahead t at r))
+        → StepSays g t sentence w w' at r (Ok (ahead t at r))
     expand_says fits w' next =
         leads_to at.read (predict_ranked (number_at at.steps) g front.rule (x g t sentence w at ready r front) (R g t sentence w at ready r front)) (predicts g t sentence w at ready r front nonlexical)
         ((let y : at.read ≡ at.read + 0 = omega arith in y) ∙ ap (λ (b : Bool). at.read + (if b then taken (word_in t (8 * r)) else 0)) (sym (ne_eqb (daughters_in t (8 * r)) 0 daughters)))
@@ -287,14 +278,14 @@ module _ (g : Grammar) (t sentence w : List ℕ) (at : Standing) (ready : Ready 
 
 -- a rule number that does not apply: there is no such rule, no prediction, or a rule of another category
 module _ (g : Grammar) (t sentence w : List ℕ) (at : Standing) (ready : Ready g t sentence w at) (r : ℕ) where
-  halts : (n : ℕ) → step_ranked (number_at at.steps) g (state_in g sentence w at) r ≡ stops n → StepSays g t sentence w w at r (Halts n)
+  halts : (n : ℕ) → step_ranked (number_at at.steps) g (state_in g sentence w at) r ≡ stops n → StepSays g t sentence w w at r (Err (Refused n))
   halts n e = record { kept = refl; below = refl; says = e }
 
-  pub no_rule : rule_at g r ≡ none → StepSays g t sentence w w at r (Halts 13)
+  pub no_rule : rule_at g r ≡ none → StepSays g t sentence w w at r (Err (Refused 13))
   no_rule e = halts 13 (ap (λ (o : Option Rule). apply_ranked (number_at at.steps) g o (queue_in g w at.from at.to) (drop at.read sentence)) e)
 
   module _ (rule : Rule) (is : rule_at g r ≡ some rule) where
-    pub no_prediction : at.to ≤ at.from → StepSays g t sentence w w at r (Halts 14)
+    pub no_prediction : at.to ≤ at.from → StepSays g t sentence w w at r (Err (Refused 14))
     no_prediction h =
         halts 14
         (ap₂ (λ (o : Option Rule) (q : List (Ranked ℕ)). apply_ranked (number_at at.steps) g o q (drop at.read sentence)) is
@@ -304,7 +295,7 @@ module _ (g : Grammar) (t sentence w : List ℕ) (at : Standing) (ready : Ready 
         empty [] e = refl
         empty (p ∷ q) e = absurd (omega arith)
 
-    pub other_category : at.from < at.to → (rule.category ≡ (unpacked (get_or w at.from 0)).category → ⊥) → StepSays g t sentence w w at r (Halts 15)
+    pub other_category : at.from < at.to → (rule.category ≡ (unpacked (get_or w at.from 0)).category → ⊥) → StepSays g t sentence w w at r (Err (Refused 15))
     other_category h k =
         halts 15
         (ap₂ (λ (o : Option Rule) (q : List (Ranked ℕ)). apply_ranked (number_at at.steps) g o q (drop at.read sentence)) is (queue_first g w at.from at.to ready.held h)

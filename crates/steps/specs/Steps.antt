@@ -1,6 +1,6 @@
 -- One step of the recognizer in code, against the step of predictions that hold ranks (ranking/specs/Ranks).
 -- Assumes nothing.
-use Rattle.std.specs.Prelude.{◌≡◌, Bool, true, false, List, ℕ, ◌+◌, ◌-◌, ◌*◌, ◌<◌, ◌≤◌, eqb, ltb, length, get_or, take, drop, if◌then◌else◌}
+use Rattle.std.specs.Prelude.{◌≡◌, Bool, true, false, List, ℕ, ◌+◌, ◌-◌, ◌*◌, ◌<◌, ◌≤◌, eqb, ltb, length, get_or, take, drop, Result, Ok, Err, if◌then◌else◌}
 use Rattle.std.proofs.Math.Option.{some}
 use Rattle.model.specs.Grammar.{Rule, Grammar, empty_word, rule_at}
 use Rattle.model.specs.Step.{word_fits}
@@ -14,8 +14,8 @@ use Rattle.ranks.specs.Prediction.{unpacked}
 use Rattle.ranks.specs.Held.{queue_in, Held}
 use Rattle.ranks.specs.Table.{Compiled, daughters_in, word_in}
 use Rattle.steps.specs.declared.Standing.{Standing}
-use Rattle.steps.specs.declared.Stepped.{Stepped}
-use Rattle.steps.specs.declared.Stepped.TheVariants.{Halts, Long, Leads}
+use Rattle.steps.specs.declared.Halt.{Halt}
+use Rattle.steps.specs.declared.Halt.TheVariants.{Refused, Long}
 
 -- the state where the recognizer stands: its queue, and the words not yet read
 abbrev pub state_in : Grammar → List ℕ → List ℕ → Standing → RankedState ℕ
@@ -96,13 +96,13 @@ pub record LeadsTo (g : Grammar) (t sentence w w' : List ℕ) (at : Standing) (r
   pub ready : Ready g t sentence w' next
 
 -- what an answer says of the step of rule r: the test that it halts by; that its queue is longer than the steps then left; or where it leads
-abbrev pub Says : Grammar → List ℕ → List ℕ → List ℕ → List ℕ → Standing → ℕ → Stepped → Type 0
-Says g t sentence w w' at r (Halts n) = step_ranked (number_at at.steps) g (state_in g sentence w at) r ≡ stops n
-Says g t sentence w w' at r Long = (s : RankedState ℕ) × (step_ranked (number_at at.steps) g (state_in g sentence w at) r ≡ goes s) × (at.left ≤ length s.queue)
-Says g t sentence w w' at r (Leads next) = LeadsTo g t sentence w w' at r next
+abbrev pub Says : Grammar → List ℕ → List ℕ → List ℕ → List ℕ → Standing → ℕ → Result Standing Halt → Type 0
+Says g t sentence w w' at r (Err (Refused n)) = step_ranked (number_at at.steps) g (state_in g sentence w at) r ≡ stops n
+Says g t sentence w w' at r (Err Long) = (s : RankedState ℕ) × (step_ranked (number_at at.steps) g (state_in g sentence w at) r ≡ goes s) × (at.left ≤ length s.queue)
+Says g t sentence w w' at r (Ok next) = LeadsTo g t sentence w w' at r next
 
 -- the answer is right, and the queues up to this one are as they were
-pub record StepSays (g : Grammar) (t sentence w w' : List ℕ) (at : Standing) (r : ℕ) (answer : Stepped) : Type 0 where
+pub record StepSays (g : Grammar) (t sentence w w' : List ℕ) (at : Standing) (r : ℕ) (answer : Result Standing Halt) : Type 0 where
   pub kept : length w' ≡ length w
   pub below : take at.to w' ≡ take at.to w
   pub says : Says g t sentence w w' at r answer
@@ -114,7 +114,7 @@ pub record Applies (t sentence w : List ℕ) (at : Standing) (r : ℕ) : Type 0 
   pub fronted : Fronted grammar w at r
 
 -- what is so for every such grammar
-pub record Applied (t sentence w w' : List ℕ) (at : Standing) (r : ℕ) (answer : Stepped) : Type 0 where
+pub record Applied (t sentence w w' : List ℕ) (at : Standing) (r : ℕ) (answer : Result Standing Halt) : Type 0 where
   pub of_grammar : (g : Grammar) → Ready g t sentence w at → Fronted g w at r → StepSays g t sentence w w' at r answer
 
 -- the table is that of some grammar for which the recognizer stands there before some sentence, and rule r is one of the front's category that leads on
@@ -127,4 +127,4 @@ pub record Opening (t w : List ℕ) (at : Standing) (r : ℕ) : Type 0 where
 
 -- its step leads to `next`, for every such grammar and sentence
 pub record Makes (t w w' : List ℕ) (at : Standing) (r : ℕ) (next : Standing) : Type 0 where
-  pub of_grammar : (g : Grammar) (sentence : List ℕ) → Ready g t sentence w at → Fronted g w at r → opens t sentence at r ≡ true → StepSays g t sentence w w' at r (Leads next)
+  pub of_grammar : (g : Grammar) (sentence : List ℕ) → Ready g t sentence w at → Fronted g w at r → opens t sentence at r ≡ true → StepSays g t sentence w w' at r (Ok next)

@@ -28,12 +28,11 @@ pub struct Standing {
     pub left: usize,
 }
 
-// What a step does: it halts by refusal 13, 14, 15 or 16; or its queue is longer than the steps then left; or it leads to the next queue.
-#[derive(Clone, Copy)]
-pub enum Stepped {
-    Halts(u8),
+// Why a step does not lead on: a test refuses it, 13, 14, 15 or 16; or its queue is longer than the steps then left.
+#[derive(Clone, Copy, PartialEq, Eq)]
+pub enum Halt {
+    Refused(u8),
     Long,
-    Leads(Standing),
 }
 
 // The start: the queue is the start category alone, and n steps may be made.
@@ -62,27 +61,19 @@ fn read_by(t: &[u64; TABLE], r: RuleNumber) -> usize
     requires { r.0 < 256 }
     ensures { (result ≡ read_by t.now r.0) × (result ≤ 1) }
 {
-    let cell = place_of(RuleNumber(r.0));
-    if daughters(t, cell) == 0 {
-        if word(t, cell).0 == EMPTY_WORD {
-            return 0;
-        }
-        return 1;
+    let cell = place_of(r);
+    if daughters(t, cell) == 0 && word(t, cell).0 != EMPTY_WORD {
+        1
+    } else {
+        0
     }
-    0
 }
 
 // Whether the step of a lexical rule with this word leads on: it is the empty word, which takes no place, or it fits the next place.
 fn hears(word: Word, sentence: &[u32], read: usize) -> bool
     ensures { result ≡ hears word.0 sentence.now read }
 {
-    if word.0 == EMPTY_WORD {
-        return true;
-    }
-    if read < sentence.len() {
-        return fits(word, sentence[read]);
-    }
-    false
+    word.0 == EMPTY_WORD || (read < sentence.len() && fits(word, sentence[read]))
 }
 
 // Whether the step of rule r, which is of the front's category, leads on: a lexical one by its word; another where the queue that it leads to is no longer
@@ -96,10 +87,7 @@ pub fn opens(t: &[u64; TABLE], sentence: &[u32], at: Standing, r: RuleNumber) ->
     if d == 0 {
         return hears(word(t, cell), sentence, at.read);
     }
-    if at.left < at.to - at.from + d {
-        return false;
-    }
-    true
+    at.to - at.from + d <= at.left
 }
 
 // Where the step of rule r leads.
@@ -107,7 +95,7 @@ fn ahead(t: &[u64; TABLE], at: Standing, r: RuleNumber) -> Standing
     requires { (r.0 < 256) × Advances at }
     ensures { result ≡ ahead t.now at r.0 }
 {
-    let d = daughters(t, place_of(RuleNumber(r.0)));
+    let d = daughters(t, place_of(r));
     let n = read_by(t, r);
     Standing {
         from: at.to,
@@ -124,7 +112,7 @@ pub fn make(t: &[u64; TABLE], w: &mut [u64; ROOM], at: Standing, r: RuleNumber) 
     requires { Opening t.now w.old at r.0 }
     ensures { Makes t.now w.old w.new at r.0 result }
 {
-    let d = daughters(t, place_of(RuleNumber(r.0)));
+    let d = daughters(t, place_of(r));
     if d == 0 {
         scan(w, at.from, at.to);
         return ahead(t, at, r);
@@ -132,10 +120,10 @@ pub fn make(t: &[u64; TABLE], w: &mut [u64; ROOM], at: Standing, r: RuleNumber) 
     let k = at.steps;
     let mark = first_daughter(k) as u64;
     if d == 1 {
-        expand(t, w, at.from, at.to, RuleNumber(r.0), mark);
+        expand(t, w, at.from, at.to, r, mark);
         return ahead(t, at, r);
     }
-    expand(t, w, at.from, at.to, RuleNumber(r.0), mark);
+    expand(t, w, at.from, at.to, r, mark);
     ahead(t, at, r)
 }
 
@@ -146,17 +134,17 @@ fn apply(
     w: &mut [u64; ROOM],
     at: Standing,
     r: RuleNumber,
-) -> Stepped
+) -> Result<Standing, Halt>
     requires { Applies t.now sentence.now w.old at r.0 }
     ensures { Applied t.now sentence.now w.old w.new at r.0 result }
 {
-    if opens(t, sentence, at, RuleNumber(r.0)) {
-        return Stepped::Leads(make(t, w, at, r));
+    if opens(t, sentence, at, r) {
+        return Ok(make(t, w, at, r));
     }
     if daughters(t, place_of(r)) == 0 {
-        return Stepped::Halts(16);
+        return Err(Halt::Refused(16));
     }
-    Stepped::Long
+    Err(Halt::Long)
 }
 
 // The step of rule number r: refusals 13, 14 and 15, and what the step of a rule of the front's category does.
@@ -167,19 +155,19 @@ pub fn step(
     w: &mut [u64; ROOM],
     at: Standing,
     r: RuleNumber,
-) -> Stepped
+) -> Result<Standing, Halt>
     requires { Ready (grammar_of file.now) t.now sentence.now w.old at }
     ensures { StepSays (grammar_of file.now) t.now sentence.now w.old w.new at r.0 result }
 {
     if rules(file) <= r.0 {
-        return Stepped::Halts(13);
+        return Err(Halt::Refused(13));
     }
     let from = at.from;
     if at.to <= from {
-        return Stepped::Halts(14);
+        return Err(Halt::Refused(14));
     }
-    if category_in(t, place_of(RuleNumber(r.0))).0 != category(w[from]).0 {
-        return Stepped::Halts(15);
+    if category_in(t, place_of(r)) != category(w[from]) {
+        return Err(Halt::Refused(15));
     }
     apply(t, sentence, w, at, r)
 }

@@ -1,6 +1,6 @@
 -- Where the walk goes on when no rule leads on from where it stands.
 -- Assumes nothing.
-use Rattle.std.specs.Prelude.{if◌then◌else◌, Option}
+use Rattle.std.specs.Prelude.{Ok, if◌then◌else◌, Option}
 use mathlib.Core.Path.{◌≡◌, refl, sym, ap, subst, ◌∙◌}
 use mathlib.Core.Logic.{◌⊎◌, inl, inr}
 use mathlib.Core.Bool.{Bool}
@@ -15,7 +15,6 @@ use Rattle.model.specs.Grammar.{Grammar}
 use Rattle.model.specs.declared.RuleNumber.{RuleNumber}
 use Rattle.steps.specs.declared.Standing.{Standing}
 use Rattle.steps.specs.Steps.{Ready, Fronted, behind, StepSays}
-use Rattle.steps.specs.declared.Stepped.TheVariants.{Leads}
 use Rattle.steps.proofs.Applying.{rule_small}
 use Rattle.walk.specs.Chain.{no_rule}
 use Rattle.walk.specs.Named.{Names, number_of}
@@ -76,7 +75,7 @@ module _ (g : Grammar) (t chain sentence w path turns : List ℕ) (at : Standing
     abbrev turns' : List ℕ
     turns' = set turns (at.steps + 1) turn
 
-    module _ (w' : List ℕ) (next : Standing) (says : StepSays g t sentence w w' at r (Leads next)) where
+    module _ (w' : List ℕ) (next : Standing) (says : StepSays g t sentence w w' at r (Ok next)) where
       abbrev trailed : Trailed g t chain sentence w path at
       trailed = walking.trailed
 

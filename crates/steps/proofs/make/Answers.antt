@@ -6,7 +6,7 @@ use native.Mathlib.Omega.{arith}
 use Rattle.ranks.specs.Table.{daughters_in}
 use Rattle.ranks.specs.Step.{Expands, Expanded}
 use Rattle.steps.specs.declared.Standing.{Standing}
-use Rattle.steps.specs.declared.Stepped.TheVariants.{Leads}
+use Rattle.std.specs.Prelude.{Ok}
 use Rattle.steps.specs.Steps.{StepSays}
 use Rattle.steps.proofs.Applying.{rule_small, advances, scan_roomy, scan_short, scan_behind, scan_says, open_fits, step_left, expands, expand_says}
 use Rattle.steps.proofs.make.Goals as goal
@@ -36,7 +36,7 @@ returns-then-d-eq0 c =
     let e = sym (c.daughters-d.ensures.0 ∙ ap (daughters_in a.t.now) c.place_of.ensures) ∙ c.if-d-eq0.true in
     record {
       of_grammar = λ g sentence ready front on.
-          subst (λ (n : Standing). StepSays g a.t.now sentence a.w.now c.scan.new.w a.at a.r.0 (Leads n)) (sym c.ahead.ensures)
+          subst (λ (n : Standing). StepSays g a.t.now sentence a.w.now c.scan.new.w a.at a.r.0 (Ok n)) (sym c.ahead.ensures)
           (scan_says g a.t.now sentence a.w.now a.at ready a.r.0 front e on c.scan.new.w c.scan.ensures);
     }
 
@@ -75,7 +75,7 @@ returns-then-d-eq1 c =
     record {
       of_grammar = λ g sentence ready front on.
           let fits = open_fits g a.t.now sentence a.w.now a.at ready a.r.0 front some on in
-          subst (λ (n : Standing). StepSays g a.t.now sentence a.w.now w' a.at a.r.0 (Leads n)) (sym c.ahead-then-d-eq1.ensures)
+          subst (λ (n : Standing). StepSays g a.t.now sentence a.w.now w' a.at a.r.0 (Ok n)) (sym c.ahead-then-d-eq1.ensures)
           (expand_says g a.t.now sentence a.w.now a.at ready a.r.0 front some fits w' (done.of_grammar g (expands g a.t.now sentence a.w.now a.at ready a.r.0 front some fits)));
     }
 
@@ -106,6 +106,6 @@ returns c =
     record {
       of_grammar = λ g sentence ready front on.
           let fits = open_fits g a.t.now sentence a.w.now a.at ready a.r.0 front some on in
-          subst (λ (n : Standing). StepSays g a.t.now sentence a.w.now w' a.at a.r.0 (Leads n)) (sym c.ahead-2.ensures)
+          subst (λ (n : Standing). StepSays g a.t.now sentence a.w.now w' a.at a.r.0 (Ok n)) (sym c.ahead-2.ensures)
           (expand_says g a.t.now sentence a.w.now a.at ready a.r.0 front some fits w' (done.of_grammar g (expands g a.t.now sentence a.w.now a.at ready a.r.0 front some fits)));
     }

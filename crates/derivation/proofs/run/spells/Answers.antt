@@ -1,19 +1,20 @@
 -- `derivation::run::spells` meets its contract.
 -- Assumes nothing.
 use mathlib.Core.Path.{◌≡◌, refl, ap, subst, ◌∙◌}
+use Rattle.std.specs.Prelude.{Err}
+use mathlib.Core.Bool.{false}
 use mathlib.Core.List.{[]}
-use Prim.Native.Nat.{ℕ, ◌*◌, ◌≤◌}
+use Prim.Native.Nat.{ℕ, ◌*◌}
 use native.Mathlib.Omega.{arith}
 use lib.ListN.{length, get_or, replicate}
 use Rattle.model.specs.GrammarFile.{grammar_of}
-use Rattle.ranking.specs.Recognizer.{goes}
-use Rattle.ranking.specs.Ranks.{RankedState, step_ranked}
-use Rattle.ranking.specs.Numbered.{number_at}
 use Rattle.ranks.specs.Table.{daughters_in}
-use Rattle.steps.specs.Steps.{state_in}
+use Rattle.steps.specs.declared.Halt.{Halt}
+use Rattle.steps.specs.declared.Halt.TheVariants.{Refused, Long}
+use Rattle.steps.specs.Steps.{Says}
 use Rattle.recognizer.proofs.Checked.{start_small}
 use Rattle.recognizer.proofs.Running.{from_small, left_falls}
-use Rattle.derivation.specs.TreeRun.{NamesGiven}
+use Rattle.derivation.specs.TreeRun.{NamesGiven, Spelled}
 use Rattle.derivation.proofs.Spelling.{first_looping}
 use Rattle.derivation.proofs.RunCode.{loop_ended, loop_empty, number_small, node_inside, loop_halted, loop_long, cells_room, sisters_inside, loop_next}
 use Rattle.derivation.proofs.run.spells.Goals as goal
@@ -44,17 +45,15 @@ pub bounds-list-i : goal.bounds-list-i
 bounds-list-i c =
     node_inside c.loop-at.invariant c.loop-at-test.true c.if-at-from.false c.front_node-i.result c.front_node-i.ensures
 
-pub returns-in-Halts : goal.returns-in-Halts
-returns-in-Halts c =
-    let l = c.loop-at in
-    loop_halted l.invariant c.loop-at-test.true c.if-at-from.false c.front_node-i.result c.front_node-i.ensures c.in-Halts.field-0 (rw c.in-Halts.is at c.step-s.ensures.says)
-
-pub returns-in-Long : goal.returns-in-Long
-returns-in-Long c =
+pub returns-in_default : goal.returns-in_default
+returns-in_default c =
     let a = c.args in
     let l = c.loop-at in
-    let s : (s : RankedState ℕ) × (step_ranked (number_at l.at.steps) (grammar_of a.file.now) (state_in (grammar_of a.file.now) a.sentence.now l.w l.at) (get_or a.list.now c.front_node-i.result 0) ≡ goes s) × (l.at.left ≤ length s.queue) = rw c.in-Long.is at c.step-s.ensures.says in
-    loop_long l.invariant c.loop-at-test.true c.if-at-from.false c.front_node-i.result c.front_node-i.ensures s
+    let i = c.front_node-i in
+    elim c.in_default.field-0 as (λ (h : Halt). Says (grammar_of a.file.now) c.compile-t.result a.sentence.now l.w c.step.new.w l.at (get_or a.list.now i.result 0) (Err h) → Spelled (grammar_of a.file.now) a.sentence.now a.list.now l.trace false) [
+      Refused n ↦ λ s. loop_halted l.invariant c.loop-at-test.true c.if-at-from.false i.result i.ensures n s
+      | Long ↦ λ s. loop_long l.invariant c.loop-at-test.true c.if-at-from.false i.result i.ensures s
+    ] c.in_default.ensures.says
 
 pub offset_bounds-trace-k : goal.offset_bounds-trace-k
 offset_bounds-trace-k c =
@@ -70,7 +69,7 @@ bounds-trace-k c =
 
 pub daughters-d-requires : goal.daughters-d-requires
 daughters-d-requires c =
-    let room = cells_room c.loop-at.invariant c.loop-at-test.true c.if-at-from.false c.front_node-i.result c.front_node-i.ensures c.in-Leads.ensures.says in
+    let room = cells_room c.loop-at.invariant c.loop-at-test.true c.if-at-from.false c.front_node-i.result c.front_node-i.ensures c.in-Ok.ensures.says in
     omega (arith, c.place_of.ensures)
 
 pub first_daughter-requires : goal.first_daughter-requires
@@ -89,12 +88,12 @@ name_daughters-requires c =
       l.invariant.stood.long,
       omega (arith, c.first_daughter.ensures, c.daughters-d.ensures.1, l.invariant.runs.whole, l.invariant.runs.ready.few),
       omega (arith, inside, c.requires.1),
-      λ j h. sisters_inside l.invariant here c.if-at-from.false i c.front_node-i.ensures c.in-Leads.ensures.says j (omega (arith, d)),
+      λ j h. sisters_inside l.invariant here c.if-at-from.false i c.front_node-i.ensures c.in-Ok.ensures.says j (omega (arith, d)),
     )
 
 pub loop-at-smaller : goal.loop-at-smaller
 loop-at-smaller c =
-    left_falls (length c.args.list.now) c.loop-at.invariant.runs c.loop-at-test.true _ c.in-Leads.ensures.says
+    left_falls (length c.args.list.now) c.loop-at.invariant.runs c.loop-at-test.true _ c.in-Ok.ensures.says
 
 pub loop-at-preserved : goal.loop-at-preserved
 loop-at-preserved c =
@@ -102,7 +101,7 @@ loop-at-preserved c =
     let i = c.front_node-i.result in
     let d : c.daughters-d.result ≡ daughters_in c.compile-t.result (8 * get_or a.list.now i 0) = c.daughters-d.ensures.0 ∙ ap (daughters_in c.compile-t.result) c.place_of.ensures in
     let given = subst (λ (m : ℕ). NamesGiven a.ends.now i m c.daughters-d.result c.loop-at.names c.name_daughters.new.names) c.first_daughter.ensures c.name_daughters.ensures in
-    loop_next c.loop-at.invariant c.loop-at-test.true c.if-at-from.false i c.front_node-i.ensures c.in-Leads.ensures.says c.daughters-d.result d c.name_daughters.new.names given
+    loop_next c.loop-at.invariant c.loop-at-test.true c.if-at-from.false i c.front_node-i.ensures c.in-Ok.ensures.says c.daughters-d.result d c.name_daughters.new.names given
 
 pub returns : goal.returns
 returns c = loop_ended c.loop-at.invariant c.loop-at-test.false

@@ -42,32 +42,32 @@ run-requires t c =
     let a = c.args in
     let p = c.requires in
     let more = c.if-trace-k.false in
-    let leads = c.in-Leads.ensures.says in (
+    let leads = c.in-Ok.ensures.says in (
       omega (arith, left_falls (length a.trace.now) p.0 more _ leads),
       (runs_further (length a.trace.now) p.0 more _ leads, p.1, length-set a.taken.now a.at.steps _ ∙ p.2),
     )
 
-pub returns-in-Halts : goal.returns-in-Halts
-returns-in-Halts t c =
+pub returns-in-Err-Refused : goal.returns-in-Err-Refused
+returns-in-Err-Refused t c =
     let a = c.args in
     let p = c.requires in
-    let e = halted a.trace.now p.0 c.if-trace-k.false c.in-Halts.n c.in-Halts.ensures.says in
-    record { answer = refused _ (length a.trace.now) (Refusal.Analysis c.in-Halts.n a.at.steps) e; taken = λ z. none_some (sym e ∙ z) }
+    let e = halted a.trace.now p.0 c.if-trace-k.false c.in-Err-Refused.n (rw c.in-Err-Refused.field-0-is at c.in-Err-Refused.ensures.says) in
+    record { answer = refused _ (length a.trace.now) (Refusal.Analysis c.in-Err-Refused.n a.at.steps) e; taken = λ z. none_some (sym e ∙ z) }
 
-pub returns-in-Long : goal.returns-in-Long
-returns-in-Long t c =
+pub returns-in-Err-Long : goal.returns-in-Err-Long
+returns-in-Err-Long t c =
     let a = c.args in
     let p = c.requires in
-    let l : (s : RankedState ℕ) × (step_ranked (number_at a.at.steps) (grammar_of a.file.now) (state_in (grammar_of a.file.now) a.sentence.now a.w.now a.at) (get_or a.trace.now a.at.steps 0) ≡ goes s) × (a.at.left ≤ length s.queue) = c.in-Long.ensures.says in
+    let l : (s : RankedState ℕ) × (step_ranked (number_at a.at.steps) (grammar_of a.file.now) (state_in (grammar_of a.file.now) a.sentence.now a.w.now a.at) (get_or a.trace.now a.at.steps 0) ≡ goes s) × (a.at.left ≤ length s.queue) = rw c.in-Err-Long.field-0-is at c.in-Err-Long.ensures.says in
     let e = longer a.trace.now p.0 c.if-trace-k.false l.0 l.1 l.2 in
     record { answer = refused _ (length a.trace.now) (Refusal.Analysis 17 (a.at.steps + 1)) e; taken = λ z. none_some (sym e ∙ z) }
 
-pub returns-in-Leads : goal.returns-in-Leads
-returns-in-Leads t c =
+pub returns-in-Ok : goal.returns-in-Ok
+returns-in-Ok t c =
     let a = c.args in
     let p = c.requires in
     let more = c.if-trace-k.false in
-    let leads = c.in-Leads.ensures.says in
+    let leads = c.in-Ok.ensures.says in
     record {
       answer = verdict_further a.trace.now p.0 more leads c.run.result c.run.ensures.answer;
       taken = taken_further a.trace.now p.0 more leads a.taken.now c.run.new.taken _ c.run.ensures.taken c.number-front.ensures;
