@@ -1,12 +1,12 @@
 -- The words of a sentence file, two bytes each.
 -- Assumes nothing.
-use mathlib.Core.Path.{◌≡◌, refl, sym, ap, ap₂, ◌∙◌}
-use mathlib.Core.List.{List, [], ◌∷◌, ◌++◌, append_assoc, append-nil}
+use mathlib.Core.Path.{◌≡◌, refl, sym, ap, ◌∙◌}
+use mathlib.Core.List.{List, [], ◌∷◌, ◌++◌, append-nil}
 use Prim.Native.Nat.{ℕ, suc, ◌+◌, ◌-◌, ◌*◌, ◌/◌, ◌<◌, ◌≤◌, min}
 use native.Mathlib.Decide.{dec_le}
 use native.Mathlib.Omega.{arith}
-use lib.ListN.{length, get_or, take, drop, set, length-drop}
-use lib.Seq.{drop-cons, take-suc-set, take_at, length-take-le, take_all}
+use lib.ListN.{length, get_or, take, drop, length-drop}
+use lib.Seq.{drop-cons, take_at, length-take-le, take_all}
 use Rattle.model.specs.Step.{single}
 use Rattle.model.specs.Program.{pairs, sentence_in}
 
@@ -25,27 +25,6 @@ pub record WordsTo (bytes words : List ℕ) (k : ℕ) : Type 0 where
   pub few : k ≤ 97
   pub room : length words ≡ 97
   pub so_far : sentence_in bytes ≡ take k words ++ pairs (drop (2 * k + 1) bytes)
-
-pub words_none : (bytes words : List ℕ) → length words ≡ 97 → WordsTo bytes words 0
-words_none bytes words l = record { few = omega arith; room = l; so_far = refl }
-
-pub words_more : (bytes words : List ℕ) (k x : ℕ) → WordsTo bytes words k → k < 97 → 2 * k + 2 < length bytes
-    → x ≡ single (get_or bytes (2 * k + 1) 0 + 256 * get_or bytes (2 * k + 1 + 1) 0) → WordsTo bytes (set words k x) (k + 1)
-words_more bytes words k x w h l e =
-    let a : suc (2 * k + 1) ≡ 2 * k + 1 + 1 = omega arith in
-    let b : suc (suc (2 * k + 1)) ≡ 2 * (k + 1) + 1 = omega arith in
-    let s : suc k ≡ k + 1 = omega arith in
-    let y : pairs (drop (2 * k + 1) bytes) ≡ x ∷ pairs (drop (2 * (k + 1) + 1) bytes)
-    = pairs_cons bytes (2 * k + 1) (omega arith) ∙ ap₂ (λ (u : ℕ) (v : List ℕ). u ∷ pairs v) (ap (λ (i : ℕ). single (get_or bytes (2 * k + 1) 0 + 256 * get_or bytes i 0)) a ∙ sym e) (ap (λ (i : ℕ). drop i bytes) b) in
-    let t : take (k + 1) (set words k x) ≡ take k words ++ (x ∷ []) = ap (λ (i : ℕ). take i (set words k x)) (sym s) ∙ take-suc-set words k x (omega (arith, w.room)) in
-    record {
-      few = omega arith;
-      room = lib.ListN.length-set words k x ∙ w.room;
-      so_far =
-          w.so_far ∙ ap (λ (v : List ℕ). take k words ++ v) y
-          ∙ sym (append_assoc (take k words) (x ∷ []) (pairs (drop (2 * (k + 1) + 1) bytes)))
-          ∙ ap (λ (u : List ℕ). u ++ pairs (drop (2 * (k + 1) + 1) bytes)) (sym t);
-    }
 
 -- the bytes end, or 97 words are read
 pub words_end : (bytes words : List ℕ) (k : ℕ) → WordsTo bytes words k → length bytes ≤ 2 * k + 2 → take k words ≡ take 97 (sentence_in bytes)

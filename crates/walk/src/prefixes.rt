@@ -41,6 +41,7 @@ fn find(
     ensures { Names result (found tables.now.rules tables.now.chain sentence.now at (number_of r)) }
 {
     let mut next = r;
+    // By the chain: what ends this loop is that each next rule has a higher number, and not the end of a list.
     while let Some(x) = next {
         if opens(&tables.rules, sentence, at, x) {
             return next;
