@@ -32,7 +32,7 @@ fn months_before(year: u16, month: u8) -> u64
     total
 }
 
-// The number of a date of the span.
+// The number of a date of the span. That it is one is a requires, here and in opening.rt, and no invariant of a type: docs/ARCHITECTURE.md names these functions.
 pub fn number_of(d: Date) -> u64
     requires { is_date d ≡ true }
     ensures { result ≡ day_number d }

@@ -1,11 +1,11 @@
 // The tree checker and both conversions on the copy grammar: K4, K9, and 22.
-use crate::show::{print_verdict, print_written};
-use crate::words::{WORD_0, WORD_1};
+use crate::show::{print, print_written};
+use crate::words::{SENTENCE, TRACE, TREE, WORD_0, WORD_1};
 use std::io;
 
 // The tree checker's verdict.
 pub fn check(rt: &impl Print, file: &[u8], sentence: &[u32], tree: &[u16]) -> io::Result<()> {
-    print_verdict(rt, derivation::check_tree(file, sentence, tree))
+    print(rt, derivation::check_tree(file, sentence, tree))
 }
 
 // The trace that belongs to a tree.
@@ -24,30 +24,10 @@ pub fn tree_of(rt: &impl Print, file: &[u8], sentence: &[u32], trace: &[u16]) ->
 
 // K4.
 fn both_ways(rt: &impl Print, copy: &[u8]) -> io::Result<()> {
-    check(
-        rt,
-        copy,
-        &[WORD_0, WORD_1, WORD_0, WORD_1],
-        &[0, 1, 5, 4, 6, 6, 5],
-    )?;
-    trace_of(
-        rt,
-        copy,
-        &[WORD_0, WORD_1, WORD_0, WORD_1],
-        &[0, 1, 5, 4, 6, 6, 5],
-    )?;
-    tree_of(
-        rt,
-        copy,
-        &[WORD_0, WORD_1, WORD_0, WORD_1],
-        &[0, 1, 5, 4, 6, 5, 6],
-    )?;
-    tree_of(
-        rt,
-        copy,
-        &[WORD_0, WORD_1, WORD_0, WORD_1],
-        &[0, 1, 5, 4, 6, 6, 5],
-    )
+    check(rt, copy, &SENTENCE, &TREE)?;
+    trace_of(rt, copy, &SENTENCE, &TREE)?;
+    tree_of(rt, copy, &SENTENCE, &TRACE)?;
+    tree_of(rt, copy, &SENTENCE, &TREE)
 }
 
 // K9.

@@ -1,7 +1,19 @@
 // Counts and entries: K5, K6 and K10.
-use crate::show::{print_refusal, print_written};
-use crate::words::{WORD_0, WORD_1};
-use std::io;
+use crate::show::{print, print_written};
+use crate::words::{SENTENCE, WORD_0};
+use model::Counts;
+use std::fmt::Display;
+use std::{fmt, io};
+
+// Count and effort, parted by a blank.
+#[derive(Clone, Copy)]
+struct Figures(Counts);
+
+impl Display for Figures {
+    fn fmt<W: fmt::Write>(&self, f: &mut fmt::Formatter<W>) -> fmt::Result {
+        write!(f, "{} {}", self.0.count, self.0.effort)
+    }
+}
 
 pub fn show_count(
     rt: &impl Print,
@@ -10,11 +22,7 @@ pub fn show_count(
     n: u64,
     limit: u64,
 ) -> io::Result<()> {
-    let v = analyses::count(file, sentence, n, limit);
-    match v {
-        Ok(c) => println!(rt; "{} {}", c.count, c.effort),
-        Err(r) => print_refusal(rt, r),
-    }
+    print(rt, analyses::count(file, sentence, n, limit).map(Figures))
 }
 
 pub fn show_entry(
@@ -31,9 +39,9 @@ pub fn show_entry(
 
 // K5 and K6
 fn copy_cases(rt: &impl Print, file: &[u8]) -> io::Result<()> {
-    show_count(rt, file, &[WORD_0, WORD_1, WORD_0, WORD_1], 7, 1000000)?;
-    show_count(rt, file, &[WORD_0, WORD_1, WORD_0, WORD_1], 7, 12)?;
-    show_count(rt, file, &[WORD_0, WORD_1, WORD_0, WORD_1], 6, 1000000)
+    show_count(rt, file, &SENTENCE, 7, 1000000)?;
+    show_count(rt, file, &SENTENCE, 7, 12)?;
+    show_count(rt, file, &SENTENCE, 6, 1000000)
 }
 
 // K10's figures

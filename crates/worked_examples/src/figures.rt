@@ -6,13 +6,15 @@ use std::rt::Files;
 // The figures on a line, one a category; or the refusal.
 fn show(rt: &(impl Files + Print), path: &str) -> io::Result<()> {
     let mut file = [0u8; 7169];
-    let n = load(rt, path, &mut file);
+    let grammar = load(rt, path, &mut file);
     let mut figures = [0u16; 96];
-    let v = survey::survey(&file[0..n], &mut figures);
+    let v = survey::survey(grammar, &mut figures);
     print_written(rt, v, &figures)
 }
 
 pub fn run(rt: &(impl Files + Print)) -> io::Result<()> {
-    show(rt, "copy")?;
-    show(rt, "barren")
+    for path in ["copy", "barren"] {
+        show(rt, path)?;
+    }
+    Ok(())
 }

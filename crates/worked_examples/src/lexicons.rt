@@ -1,29 +1,28 @@
 // Lexicons of features (document 02, paper 6): the grammar of example 2 of W11-0605, made and counted by, and refusals 30, 10, 31 and 23. The numbering of
 // a made grammar is free, so that of it only what every numbering has is printed: the file's length, and counts.
-use crate::show::{load, print_refusal, print_verdict};
+use crate::show::{load, print};
 use model::Word;
 use sentences::{place_with, single_word};
 use std::io;
 use std::rt::Files;
 
 // The words of the example, as places of a sentence.
-const LIKES: u32 = 0;
+const LIKES: u32 = 0x0000_0000;
 
-const KNOWS: u32 = 65537;
+const KNOWS: u32 = 0x0001_0001;
 
-const MARY: u32 = 131074;
+const MARY: u32 = 0x0002_0002;
 
-const JOHN: u32 = 196611;
+const JOHN: u32 = 0x0003_0003;
 
-const WHO: u32 = 262148;
+const WHO: u32 = 0x0004_0004;
 
 // How many analyses there are, on a line; or the refusal.
 fn how_many(rt: &impl Print, file: &[u8], sentence: &[u32], n: u64) -> io::Result<()> {
-    let v = analyses::count(file, sentence, n, 1000000);
-    match v {
-        Ok(c) => println!(rt; "{}", c.count),
-        Err(r) => print_refusal(rt, r),
-    }
+    print(
+        rt,
+        analyses::count(file, sentence, n, 1000000).map(|counts| counts.count),
+    )
 }
 
 // Mary knows who John likes: its derivation has 14 nodes, fewer than 15 and not fewer than 14. John likes Mary, with 7. Mary knows who John: none. One of Mary
@@ -42,7 +41,7 @@ fn counts(rt: &impl Print, file: &[u8]) -> io::Result<()> {
 fn made(rt: &impl Print, lexicon: &[u8]) -> io::Result<()> {
     let mut out = [0u8; 7168];
     let v = make_grammar::make_grammar(lexicon, 5, 3, &mut out);
-    print_verdict(rt, v)?;
+    print(rt, v)?;
     let Ok(n) = v else {
         return Ok(());
     };
@@ -53,28 +52,28 @@ fn made(rt: &impl Print, lexicon: &[u8]) -> io::Result<()> {
 // after 31.
 fn refused(rt: &impl Print, lexicon: &[u8]) -> io::Result<()> {
     let mut out = [0u8; 1023];
-    print_verdict(
+    print(
         rt,
         make_grammar::make_grammar(grammar::fields(lexicon, 0, 55), 5, 3, &mut out),
     )?;
-    print_verdict(rt, make_grammar::make_grammar(lexicon, 4, 3, &mut out))?;
-    print_verdict(rt, make_grammar::make_grammar(lexicon, 5, 16, &mut out))?;
-    print_verdict(rt, make_grammar::make_grammar(lexicon, 5, 4, &mut out))?;
-    print_verdict(rt, make_grammar::make_grammar(lexicon, 5, 3, &mut out))
+    print(rt, make_grammar::make_grammar(lexicon, 4, 3, &mut out))?;
+    print(rt, make_grammar::make_grammar(lexicon, 5, 16, &mut out))?;
+    print(rt, make_grammar::make_grammar(lexicon, 5, 4, &mut out))?;
+    print(rt, make_grammar::make_grammar(lexicon, 5, 3, &mut out))
 }
 
 // 10 at the number of the later entry, before 31.
 fn repeated(rt: &(impl Files + Print)) -> io::Result<()> {
     let mut bytes = [0u8; 256];
-    let n = load(rt, "repeated_entry", &mut bytes);
+    let lexicon = load(rt, "repeated_entry", &mut bytes);
     let mut out = [0u8; 7168];
-    print_verdict(rt, make_grammar::make_grammar(&bytes[0..n], 5, 4, &mut out))
+    print(rt, make_grammar::make_grammar(lexicon, 5, 4, &mut out))
 }
 
 pub fn run(rt: &(impl Files + Print)) -> io::Result<()> {
     let mut bytes = [0u8; 256];
-    let n = load(rt, "example_2", &mut bytes);
-    made(rt, &bytes[0..n])?;
-    refused(rt, &bytes[0..n])?;
+    let lexicon = load(rt, "example_2", &mut bytes);
+    made(rt, lexicon)?;
+    refused(rt, lexicon)?;
     repeated(rt)
 }

@@ -19,41 +19,39 @@ use crate::show::{load, title};
 use std::io;
 
 fn main(rt: HostRuntime) -> io::Result<()> {
-    title(&rt, b"reader")?;
+    title(&rt, "reader")?;
     reading::run(&rt)?;
     let mut copy_file = [0u8; 1024];
-    let n = load(&rt, "copy", &mut copy_file);
-    let copy = &copy_file[0..n];
-    title(&rt, b"the copy grammar written again")?;
+    let copy = load(&rt, "copy", &mut copy_file);
+    title(&rt, "the copy grammar written again")?;
     writing::run(&rt, copy)?;
     let mut weighted_file = [0u8; 1024];
-    let w = load(&rt, "weighted", &mut weighted_file);
-    let weighted = &weighted_file[0..w];
-    title(&rt, b"the copy grammar with weights written again")?;
+    let weighted = load(&rt, "weighted", &mut weighted_file);
+    title(&rt, "the copy grammar with weights written again")?;
     writing::run(&rt, weighted)?;
     let mut shuffled_file = [0u8; 1024];
-    let s = load(&rt, "shuffled_rule", &mut shuffled_file);
+    let shuffled = load(&rt, "shuffled_rule", &mut shuffled_file);
     title(
         &rt,
-        b"the copy grammar with a rule twice, in two orders of its daughters, written again",
+        "the copy grammar with a rule twice, in two orders of its daughters, written again",
     )?;
-    writing::run(&rt, &shuffled_file[0..s])?;
-    title(&rt, b"trace checker")?;
+    writing::run(&rt, shuffled)?;
+    title(&rt, "trace checker")?;
     traces::run(&rt, copy)?;
-    title(&rt, b"trees")?;
+    title(&rt, "trees")?;
     conversions::run(&rt, copy)?;
-    title(&rt, b"survey")?;
+    title(&rt, "survey")?;
     figures::run(&rt)?;
     let mut pair_file = [0u8; 1024];
-    let k = load(&rt, "pair", &mut pair_file);
-    title(&rt, b"counts and entries")?;
-    counts::run(&rt, copy, &pair_file[0..k])?;
-    title(&rt, b"sums of weights")?;
+    let pair = load(&rt, "pair", &mut pair_file);
+    title(&rt, "counts and entries")?;
+    counts::run(&rt, copy, pair)?;
+    title(&rt, "sums of weights")?;
     sums::run(&rt, copy, weighted)?;
-    title(&rt, b"words heard unclearly")?;
+    title(&rt, "words heard unclearly")?;
     unclear::run(&rt, copy, weighted)?;
-    title(&rt, b"dates and opening days")?;
+    title(&rt, "dates and opening days")?;
     opening_days::run(&rt)?;
-    title(&rt, b"lexicons")?;
+    title(&rt, "lexicons")?;
     lexicons::run(&rt)
 }

@@ -1,96 +1,72 @@
 // Dates and opening days (document 02, paper 3): both ends of the span, leap years, the paper's own example, and refusals 27 and 28.
-use crate::show::{print_refusal, print_verdict};
+use crate::show::print;
 use calendar::Date;
-use dates::DateVerdict;
 use std::io;
 
 fn date(year: u16, month: u8, day: u8) -> Date {
     Date { year, month, day }
 }
 
-// A date on a line: year, month and day.
-fn print_date(rt: &impl Print, d: Date) -> io::Result<()> {
-    println!(rt; "{} {} {}", d.year, d.month, d.day)
-}
-
-// A number's date on a line, or the refusal.
-fn date_of(rt: &impl Print, number: u64) -> io::Result<()> {
-    match dates::date_of(number) {
-        DateVerdict::Dated(d) => print_date(rt, d),
-        DateVerdict::NotDated(r) => print_refusal(rt, r),
-    }
-}
-
-fn number_of(rt: &impl Print, year: u16, month: u8, day: u8) -> io::Result<()> {
-    print_verdict(rt, dates::day_number(date(year, month, day)))
-}
-
 // The opening day's number and its date, or the refusal.
-fn opening(rt: &impl Print, year: u16, month: u8, day: u8, term: u64) -> io::Result<()> {
-    let v = dates::opening_day(date(year, month, day), term);
-    print_verdict(rt, v)?;
-    if let Ok(n) = v {
-        date_of(rt, n)?;
+fn opening(rt: &impl Print, deposited: Date, term: u64) -> io::Result<()> {
+    let day = dates::opening_day(deposited, term);
+    print(rt, day)?;
+    if let Ok(number) = day {
+        print(rt, dates::date_of(number))?;
     }
     Ok(())
 }
 
-fn open_on(
-    rt: &impl Print,
-    year: u16,
-    month: u8,
-    day: u8,
-    term: u64,
-    asked: u64,
-) -> io::Result<()> {
-    print_verdict(rt, dates::is_open(date(year, month, day), term, asked))
-}
-
-// The first and the last day, the ends of February 2000 and 2100, and what is no date of the span.
+// The numbers of the first and the last day, of the ends of February 2000 and 2100, and of what is no date of the span.
 fn numbers(rt: &impl Print) -> io::Result<()> {
-    number_of(rt, 2000, 1, 1)?;
-    number_of(rt, 2000, 2, 29)?;
-    number_of(rt, 2100, 2, 28)?;
-    number_of(rt, 2100, 3, 1)?;
-    number_of(rt, 2399, 12, 31)?;
-    number_of(rt, 2100, 2, 29)?;
-    number_of(rt, 2001, 4, 31)?;
-    number_of(rt, 2001, 13, 1)?;
-    number_of(rt, 2001, 1, 0)?;
-    number_of(rt, 1999, 12, 31)?;
-    number_of(rt, 2400, 1, 1)
+    let asked = [
+        date(2000, 1, 1),
+        date(2000, 2, 29),
+        date(2100, 2, 28),
+        date(2100, 3, 1),
+        date(2399, 12, 31),
+        date(2100, 2, 29),
+        date(2001, 4, 31),
+        date(2001, 13, 1),
+        date(2001, 1, 0),
+        date(1999, 12, 31),
+        date(2400, 1, 1),
+    ];
+    for d in asked {
+        print(rt, dates::day_number(d))?;
+    }
+    Ok(())
 }
 
 // The dates of these numbers, and a number past the last.
 fn dates_of(rt: &impl Print) -> io::Result<()> {
-    date_of(rt, 0)?;
-    date_of(rt, 59)?;
-    date_of(rt, 36583)?;
-    date_of(rt, 36584)?;
-    date_of(rt, 146096)?;
-    date_of(rt, 146097)
+    for number in [0, 59, 36583, 36584, 146096, 146097] {
+        print(rt, dates::date_of(number))?;
+    }
+    Ok(())
 }
 
 // "31 January 2001 plus 1 month is 28 February 2001"; 29 February after one year and after four; no term, the longest, and what is refused.
 fn openings(rt: &impl Print) -> io::Result<()> {
-    opening(rt, 2001, 1, 31, 1)?;
-    opening(rt, 2000, 2, 29, 12)?;
-    opening(rt, 2000, 2, 29, 48)?;
-    opening(rt, 2000, 12, 31, 0)?;
-    opening(rt, 2000, 12, 31, 600)?;
-    opening(rt, 2000, 12, 31, 601)?;
-    opening(rt, 2399, 12, 1, 1)?;
-    opening(rt, 2100, 2, 29, 601)
+    opening(rt, date(2001, 1, 31), 1)?;
+    opening(rt, date(2000, 2, 29), 12)?;
+    opening(rt, date(2000, 2, 29), 48)?;
+    opening(rt, date(2000, 12, 31), 0)?;
+    opening(rt, date(2000, 12, 31), 600)?;
+    opening(rt, date(2000, 12, 31), 601)?;
+    opening(rt, date(2399, 12, 1), 1)?;
+    opening(rt, date(2100, 2, 29), 601)
 }
 
 // The day before the opening day, that day and the last; a term that is too long, a day that is none and a date that is none, which are tested before.
 fn open_or_not(rt: &impl Print) -> io::Result<()> {
-    open_on(rt, 2001, 1, 31, 1, 423)?;
-    open_on(rt, 2001, 1, 31, 1, 424)?;
-    open_on(rt, 2001, 1, 31, 1, 146096)?;
-    open_on(rt, 2001, 1, 31, 601, 424)?;
-    open_on(rt, 2001, 1, 31, 601, 146097)?;
-    open_on(rt, 2001, 2, 29, 601, 424)
+    let deposited = date(2001, 1, 31);
+    print(rt, dates::is_open(deposited, 1, 423))?;
+    print(rt, dates::is_open(deposited, 1, 424))?;
+    print(rt, dates::is_open(deposited, 1, 146096))?;
+    print(rt, dates::is_open(deposited, 601, 424))?;
+    print(rt, dates::is_open(deposited, 601, 146097))?;
+    print(rt, dates::is_open(date(2001, 2, 29), 601, 424))
 }
 
 pub fn run(rt: &impl Print) -> io::Result<()> {

@@ -1,5 +1,5 @@
 // The reader's verdict of four files that it accepts, and of one for each refusal 1 to 10 (of 9 two, of 10 four).
-use crate::show::{load, print_verdict};
+use crate::show::{load, print};
 use std::io;
 use std::rt::Files;
 
@@ -7,39 +7,36 @@ use std::rt::Files;
 fn show(rt: &(impl Files + Print), path: &str) -> io::Result<()> {
     print!(rt; "{path}: ")?;
     let mut file = [0u8; 7169];
-    let n = load(rt, path, &mut file);
-    print_verdict(rt, reader::read_grammar(&file[0..n]))
+    print(rt, reader::read_grammar(load(rt, path, &mut file)))
 }
 
-// Blocks and heading: refusals 1 to 5.
-fn wrong_blocks(rt: &(impl Files + Print)) -> io::Result<()> {
-    show(rt, "wrong_length")?;
-    show(rt, "wrong_check")?;
-    show(rt, "wrong_kind")?;
-    show(rt, "wrong_start")?;
-    show(rt, "wrong_blocks")?;
-    show(rt, "wrong_count")
-}
-
-// Rules: refusals 6 to 10.
-fn wrong_rules(rt: &(impl Files + Print)) -> io::Result<()> {
-    show(rt, "wrong_daughter")?;
-    show(rt, "wrong_word")?;
-    show(rt, "variable_twice")?;
-    show(rt, "unused_byte")?;
-    show(rt, "rest_of_block")?;
-    show(rt, "repeated_rule")?;
-    show(rt, "repeated_but_for_weight")?;
-    show(rt, "shuffled_rule")?;
-    show(rt, "exchanged_daughters")
-}
+// Four files that are accepted; blocks and heading, refusals 1 to 5; rules, refusals 6 to 10; no file.
+const PATHS: [&str; 20] = [
+    "copy",
+    "weighted",
+    "pair",
+    "other_orders",
+    "wrong_length",
+    "wrong_check",
+    "wrong_kind",
+    "wrong_start",
+    "wrong_blocks",
+    "wrong_count",
+    "wrong_daughter",
+    "wrong_word",
+    "variable_twice",
+    "unused_byte",
+    "rest_of_block",
+    "repeated_rule",
+    "repeated_but_for_weight",
+    "shuffled_rule",
+    "exchanged_daughters",
+    "no_such_file",
+];
 
 pub fn run(rt: &(impl Files + Print)) -> io::Result<()> {
-    show(rt, "copy")?;
-    show(rt, "weighted")?;
-    show(rt, "pair")?;
-    show(rt, "other_orders")?;
-    wrong_blocks(rt)?;
-    wrong_rules(rt)?;
-    show(rt, "no_such_file")
+    for path in PATHS {
+        show(rt, path)?;
+    }
+    Ok(())
 }

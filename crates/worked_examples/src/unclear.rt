@@ -1,6 +1,6 @@
 // Words heard unclearly, on the copy grammar, whose words are 0 and 1 (document 02, paper 5).
 use crate::counts::{show_count, show_entry};
-use crate::words::{WORD_0, WORD_1};
+use crate::words::{TRACE, TREE, WORD_0, WORD_1};
 use crate::{conversions, sums, traces};
 use model::Word;
 use sentences::{place_with, single_word};
@@ -10,24 +10,14 @@ use std::io;
 fn analyses_that_fit(rt: &impl Print, file: &[u8], weighted: &[u8]) -> io::Result<()> {
     let either = place_with(Word(0), Word(1));
     let heard = [WORD_0, either, WORD_0, single_word(Word(1))];
-    traces::check(rt, file, &heard, &[0, 1, 5, 4, 6, 5, 6])?;
-    conversions::check(rt, file, &heard, &[0, 1, 5, 4, 6, 6, 5])?;
-    conversions::trace_of(rt, file, &heard, &[0, 1, 5, 4, 6, 6, 5])?;
-    conversions::tree_of(rt, file, &heard, &[0, 1, 5, 4, 6, 5, 6])?;
-    sums::along_trace(rt, weighted, &heard, &[0, 1, 5, 4, 6, 5, 6])?;
-    sums::along_tree(rt, weighted, &heard, &[0, 1, 5, 4, 6, 6, 5])?;
-    traces::check(
-        rt,
-        file,
-        &[either, WORD_0, either, either],
-        &[0, 1, 5, 4, 6, 5, 6],
-    )?;
-    conversions::check(
-        rt,
-        file,
-        &[either, WORD_0, either, either],
-        &[0, 1, 5, 4, 6, 6, 5],
-    )
+    traces::check(rt, file, &heard, &TRACE)?;
+    conversions::check(rt, file, &heard, &TREE)?;
+    conversions::trace_of(rt, file, &heard, &TREE)?;
+    conversions::tree_of(rt, file, &heard, &TRACE)?;
+    sums::along_trace(rt, weighted, &heard, &TRACE)?;
+    sums::along_tree(rt, weighted, &heard, &TREE)?;
+    traces::check(rt, file, &[either, WORD_0, either, either], &TRACE)?;
+    conversions::check(rt, file, &[either, WORD_0, either, either], &TREE)
 }
 
 // Four words of which nothing is clear: the four sentences that the grammar has among them, an analysis each. Of three words there is none.
@@ -40,7 +30,7 @@ fn counts_of_all(rt: &impl Print, file: &[u8]) -> io::Result<()> {
     show_entry(rt, file, &heard, 7, 2)?;
     show_entry(rt, file, &heard, 7, 3)?;
     show_entry(rt, file, &heard, 7, 4)?;
-    show_count(rt, file, &heard[0..3], 7, 1000000)
+    show_count(rt, file, &heard[..3], 7, 1000000)
 }
 
 // 29 at its place; 11 for either end, also where the lowest is above the highest; 29 at a place before 11 at the next; both before 12 and after 24; and over 96 places

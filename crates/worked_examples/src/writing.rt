@@ -1,7 +1,7 @@
 // A grammar, written again from its fields: says whether the file comes out the same, or the refusal.
 ghost use Rattle.std.specs.Prelude.{◌<◌, length};
 
-use crate::show::{print_verdict, title};
+use crate::show::{print, title};
 use model::{Refusal, RuleNumber};
 use std::io;
 
@@ -9,11 +9,8 @@ use std::io;
 fn gather(file: &[u8], records: &mut [u8])
     requires { length records.old < 1000000 }
 {
-    let n = records.len();
-    let mut i: usize = 0;
-    while i < n {
-        records[i] = grammar::record_byte(file, RuleNumber((i / 24) as u16), 0, i % 24);
-        i += 1;
+    for (i, byte) in records.iter_mut().enumerate() {
+        *byte = grammar::record_byte(file, RuleNumber((i / 24) as u16), 0, i % 24);
     }
 }
 
@@ -37,14 +34,10 @@ fn is_same(file: &[u8], out: &[u8], n: u64) -> bool {
 
 fn show(rt: &impl Print, file: &[u8], records: &[u8]) -> io::Result<()> {
     let mut out = [0u8; 7168];
-    let v = write(file, records, &mut out);
-    let Ok(n) = v else {
-        return print_verdict(rt, v);
-    };
-    if is_same(file, &out, n) {
-        title(rt, b"same")
-    } else {
-        title(rt, b"other")
+    match write(file, records, &mut out) {
+        Ok(n) if is_same(file, &out, n) => title(rt, "same"),
+        Ok(_) => title(rt, "other"),
+        refused => print(rt, refused),
     }
 }
 
@@ -54,6 +47,6 @@ pub fn run(rt: &impl Print, file: &[u8]) -> io::Result<()> {
     show(
         rt,
         file,
-        grammar::fields(&records, 0, 24 * (grammar::rules(file) as usize)),
+        grammar::fields(&records, 0, 24 * usize::from(grammar::rules(file))),
     )
 }

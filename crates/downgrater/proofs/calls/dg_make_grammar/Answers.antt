@@ -1,5 +1,6 @@
 -- `downgrater::calls::dg_make_grammar` meets its contract.
 -- Assumes nothing.
+use Rattle.packing.specs.Packing.{ValueFits, Says}
 use Rattle.downgrater.proofs.Ranges.{make_fits}
 use Rattle.downgrater.proofs.Answers.{fitting, said, made}
 use Rattle.downgrater.proofs.calls.dg_make_grammar.Goals as goal
@@ -7,9 +8,9 @@ use Rattle.downgrater.proofs.calls.dg_make_grammar.Goals as goal
 pub verdict_bits-requires : goal.verdict_bits-requires
 verdict_bits-requires c =
     let a = c.args in
-    fitting _ _ c.make_grammar.ensures.verdict_is (make_fits a.lexicon.now a.words a.start a.out.now)
+    fitting ValueFits c.make_grammar.ensures.verdict_is (make_fits a.lexicon.now a.words a.start a.out.now)
 
 pub returns : goal.returns
 returns c =
     let k = c.make_grammar.ensures in
-    (said _ _ k.verdict_is _ c.verdict_bits.ensures, made _ _ _ _ _ _ k)
+    (said Says k.verdict_is _ c.verdict_bits.ensures, made _ _ _ _ _ _ k)
