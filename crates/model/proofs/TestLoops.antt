@@ -10,6 +10,7 @@ use Rattle.model.specs.declared.Refusal.{Refusal}
 use Rattle.model.specs.Base.{first_from}
 use Rattle.model.specs.Verdict.{refuse_if, tested, Tested}
 use Rattle.std.specs.Prelude.{Ok, Err}
+
 -- one test
 module _ (b : Bool) (r : Refusal) where
   pub refuse_on : b ≡ true → refuse_if b r ≡ some r
