@@ -11,7 +11,7 @@ ghost use Rattle.analyses.specs.Tests.{before_search, before_entry, after_search
 
 use buffers::room_refusal;
 use grammar::start;
-use model::{Counts, MOST_STEPS, Refusal};
+use model::{Counts, MOST_STEPS, Refusal, Verdict};
 use reader::grammar_refusal;
 use rule_table::compile;
 use sentences::sentence_refusal;
@@ -78,7 +78,7 @@ fn found_entry(
     limit: u64,
     m: u64,
     out: &mut [u16],
-) -> Result<u64, Refusal>
+) -> Verdict
     requires { (grammar_refusal file.now ≡ none) × (limits_refusal n limit ≡ none) × (96 ≤ length out.old) }
     ensures { (result ≡ verdict (after_search file.now sentence.now n limit m) (length (entry (grammar_of file.now) sentence.now n m))) × (out.new ≡ written (after_search file.now sentence.now n limit m) (entry (grammar_of file.now) sentence.now n m) out.old) }
 {
@@ -86,14 +86,7 @@ fn found_entry(
 }
 
 // Entry m of the listing under node limit n: refusals 1 to 10, 23, 24, 11 and 29, 25, 26; else its steps, at the front of the output. One walk.
-pub fn entry(
-    file: &[u8],
-    sentence: &[u32],
-    n: u64,
-    limit: u64,
-    m: u64,
-    out: &mut [u16],
-) -> Result<u64, Refusal>
+pub fn entry(file: &[u8], sentence: &[u32], n: u64, limit: u64, m: u64, out: &mut [u16]) -> Verdict
     ensures { (result ≡ entry_verdict file.now sentence.now n limit m out.old) × (out.new ≡ entry_output file.now sentence.now n limit m out.old) }
 {
     entry_tests(file, sentence, n, limit, out)?;

@@ -5,7 +5,7 @@ ghost use Rattle.dates.specs.Dates.{number_verdict, date_call};
 
 use crate::NO_DATE;
 use calendar::{DAYS, Date, FIRST_YEAR, LAST_YEAR, first_day, is_leap, month_length, year_length};
-use model::Refusal;
+use model::{Refusal, Verdict};
 
 // The most days that a year has.
 const LONGEST_YEAR: u64 = 366;
@@ -41,7 +41,7 @@ pub fn number_of(d: Date) -> u64
 }
 
 // A date's number.
-pub fn day_number(d: Date) -> Result<u64, Refusal>
+pub fn day_number(d: Date) -> Verdict
     ensures { result ≡ number_verdict d }
 {
     if is_date(d) {

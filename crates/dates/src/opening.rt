@@ -7,7 +7,7 @@ ghost use Rattle.dates.specs.Dates.{longest_term, opening, term_refusal, opening
 use crate::numbers::{is_date, number_of};
 use crate::{NO_DATE, TOO_LATE};
 use calendar::{DAYS, Date, LAST_YEAR, is_leap, month_length};
-use model::Refusal;
+use model::Verdict;
 
 // The longest term, in months.
 const LONGEST_TERM: u64 = 600;
@@ -29,7 +29,7 @@ fn opening_date(d: Date, term: u64) -> Date
 }
 
 // The number of the opening day, from a deposit's date, which is one of the span, and its term; or 28.
-fn opening_number(d: Date, term: u64) -> Result<u64, Refusal>
+fn opening_number(d: Date, term: u64) -> Verdict
     requires { is_date d ≡ true }
     ensures { result ≡ verdict (term_refusal d term) (day_number (opening d term)) }
 {
@@ -44,7 +44,7 @@ fn opening_number(d: Date, term: u64) -> Result<u64, Refusal>
 }
 
 // The number of a deposit's opening day.
-pub fn opening_day(d: Date, term: u64) -> Result<u64, Refusal>
+pub fn opening_day(d: Date, term: u64) -> Verdict
     ensures { result ≡ opening_verdict d term }
 {
     if is_date(d) {
@@ -55,7 +55,7 @@ pub fn opening_day(d: Date, term: u64) -> Result<u64, Refusal>
 }
 
 // 1 or 0, for open or not on the day asked: a number, as the paper has it and C gets it.
-pub fn is_open(d: Date, term: u64, asked: u64) -> Result<u64, Refusal>
+pub fn is_open(d: Date, term: u64, asked: u64) -> Verdict
     ensures { result ≡ open_verdict d term asked }
 {
     if !is_date(d) || DAYS <= asked {

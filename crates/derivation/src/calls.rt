@@ -10,7 +10,7 @@ ghost use Rattle.derivation.specs.TreeRun.{TreeSays, before_input};
 
 use crate::run::spells;
 use buffers::{room_refusal, write_front};
-use model::{MOST_STEPS, Refusal};
+use model::{MOST_STEPS, Refusal, Verdict};
 use reader::grammar_refusal;
 use sentences::sentence_refusal;
 use trees::read_tree;
@@ -21,7 +21,7 @@ pub fn trace_tree(
     sentence: &[u32],
     list: &[u16],
     trace: &mut [u16; MOST_STEPS],
-) -> Result<u64, Refusal>
+) -> Verdict
     requires { grammar_refusal file.now ≡ none }
     ensures { TreeSays (grammar_of file.now) sentence.now list.now trace.new result }
 {
@@ -38,7 +38,7 @@ pub fn trace_tree(
 }
 
 // The tree checker: refusals 1 to 10, 11 and 29, 12, 19, 13 and 20 node by node, 21, 22; else the number of nodes.
-pub fn check_tree(file: &[u8], sentence: &[u32], tree: &[u16]) -> Result<u64, Refusal>
+pub fn check_tree(file: &[u8], sentence: &[u32], tree: &[u16]) -> Verdict
     ensures { result ≡ check_tree_verdict file.now sentence.now tree.now }
 {
     grammar_refusal(file)?;
@@ -57,7 +57,7 @@ pub fn conversion_tests(file: &[u8], sentence: &[u32], out: &[u16]) -> Result<()
 }
 
 // The trace of a tree at the front of the output, for a grammar file and a sentence that are accepted; or the tree's refusal.
-fn write_trace(file: &[u8], sentence: &[u32], tree: &[u16], out: &mut [u16]) -> Result<u64, Refusal>
+fn write_trace(file: &[u8], sentence: &[u32], tree: &[u16], out: &mut [u16]) -> Verdict
     requires { (grammar_refusal file.now ≡ none) × (96 ≤ length out.old) }
     ensures { (result ≡ verdict (tree_refusal (grammar_of file.now) sentence.now tree.now) (length tree.now)) × (out.new ≡ written (tree_refusal (grammar_of file.now) sentence.now tree.now) (trace_of (grammar_of file.now) sentence.now tree.now) out.old) }
 {
@@ -68,12 +68,7 @@ fn write_trace(file: &[u8], sentence: &[u32], tree: &[u16], out: &mut [u16]) -> 
 }
 
 // The trace that belongs to a tree: refusals 1 to 10, 23, 11 and 29, and those of the tree checker; else the trace is written at the front of the output.
-pub fn tree_to_trace(
-    file: &[u8],
-    sentence: &[u32],
-    tree: &[u16],
-    out: &mut [u16],
-) -> Result<u64, Refusal>
+pub fn tree_to_trace(file: &[u8], sentence: &[u32], tree: &[u16], out: &mut [u16]) -> Verdict
     ensures { (result ≡ tree_to_trace_verdict file.now sentence.now tree.now out.old) × (out.new ≡ tree_to_trace_output file.now sentence.now tree.now out.old) }
 {
     conversion_tests(file, sentence, out)?;

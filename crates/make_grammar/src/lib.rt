@@ -12,7 +12,7 @@ use forms::Row;
 use lexicon::{ENTRY, entries_refusal};
 use made_records::{RECORD, Records};
 use made_rules::{add_entry_rules, add_scheme_rules, add_starts, dimensions};
-use model::Refusal;
+use model::{Refusal, Verdict};
 use reader::blocks_for;
 use writer::put_file;
 
@@ -41,13 +41,7 @@ fn put_rules(forms: &[Row], lexicon: &[u8], count: u16, start: u8) -> Option<Rec
 }
 
 // Writes the file of forms and of the rules' records, if there is room: 23, or the file's length.
-fn write_made(
-    forms: &[Row],
-    words: u16,
-    rules: u16,
-    records: &[u8],
-    out: &mut [u8],
-) -> Result<u64, Refusal>
+fn write_made(forms: &[Row], words: u16, rules: u16, records: &[u8], out: &mut [u8]) -> Verdict
     requires { (length forms.now ≤ 63) × (rules ≤ 256) }
     ensures { WritesMade forms.now words rules records.now out.old result out.new }
 {
@@ -68,7 +62,7 @@ fn write_made(
 }
 
 // Makes the grammar of a lexicon: refusals 30, 10, 31, 23; else the file's length, with the file at the front of the output.
-pub fn make_grammar(lexicon: &[u8], words: u32, start: u32, out: &mut [u8]) -> Result<u64, Refusal>
+pub fn make_grammar(lexicon: &[u8], words: u32, start: u32, out: &mut [u8]) -> Verdict
     ensures { MakeOutcome lexicon.now words start out.old result out.new }
 {
     let _ = known_bytes(lexicon);

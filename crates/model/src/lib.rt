@@ -5,9 +5,7 @@
 ghost use Rattle.std.specs.Prelude.{◌≡◌};
 ghost use Rattle.model.specs.Verdict.{number, place};
 
-// A refusal says whose it is, the grammar's, the analysis's or the desk's, with its number and its place. It is the error of every call. A call answers a
-// number (a node count; of the reader R, of the survey C, of the writer and of the call that makes a grammar the file's length; of the weighing calls the sum of
-// weights; of the calls on dates a day's number, or 1 or 0), the count answers count and effort, and a row of tests answers nothing.
+// A refusal says whose it is, the grammar's, the analysis's or the desk's, with its number and its place.
 #[derive(Clone, Copy, PartialEq, Eq)]
 pub enum Refusal {
     Grammar(u8, u16),
@@ -39,7 +37,11 @@ impl Refusal {
     }
 }
 
-// Count and effort.
+// A node count (of the reader R, of the survey C, of the writer and of the call that makes a grammar the file's length; of the weighing calls the sum of
+// weights; of the calls on dates a day's number, or 1 or 0), or a refusal.
+pub type Verdict = Result<u64, Refusal>;
+
+// What the count answers: count and effort.
 #[derive(Clone, Copy, PartialEq, Eq)]
 pub struct Counts {
     pub count: u64,

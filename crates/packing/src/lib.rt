@@ -5,7 +5,7 @@ ghost use Rattle.std.specs.Prelude.{◌≡◌, ◌+◌, ◌*◌, ◌<◌};
 ghost use Rattle.packing.specs.Packing.{packed_refusal, Fits, ValueFits, CountsFit, Says, SaysCount, SaysDate};
 
 use calendar::Date;
-use model::{Counts, Refusal};
+use model::{Counts, Refusal, Verdict};
 
 // The bit of a refusal, and the lowest bits of whose it is and of its number.
 const REFUSED: u64 = 1 << 63;
@@ -41,7 +41,7 @@ fn refusal_bits(r: Refusal) -> u64
 }
 
 // A verdict: its value, or its refusal.
-pub fn verdict_bits(v: Result<u64, Refusal>) -> u64
+pub fn verdict_bits(v: Verdict) -> u64
     requires { ValueFits v }
     ensures { Says v result }
 {

@@ -9,7 +9,7 @@ use crate::blocks::{
 };
 use crate::heading::wrong_heading;
 use grammar::{dimensions, rules, words};
-use model::Refusal;
+use model::{Refusal, Verdict};
 use rule_tests::{Layout, Records, rules_refusal};
 
 // The tests of the rules, and of the rest of the last block.
@@ -65,7 +65,7 @@ pub fn grammar_refusal(file: &[u8]) -> Result<(), Refusal>
 }
 
 // Reads a grammar file: the number of its rules, or the first refusal of 1 to 10.
-pub fn read_grammar(file: &[u8]) -> Result<u64, Refusal>
+pub fn read_grammar(file: &[u8]) -> Verdict
     ensures { result ≡ verdict (grammar_refusal file.now) (rules_of file.now) }
 {
     grammar_refusal(file)?;

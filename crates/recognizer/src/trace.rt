@@ -7,7 +7,7 @@ ghost use Rattle.steps.specs.Steps.{state_in};
 ghost use Rattle.recognizer.specs.Traces.{Runs, RunSays, TraceSays};
 
 use grammar::start;
-use model::{MOST_STEPS, Refusal, RuleNumber};
+use model::{MOST_STEPS, Refusal, RuleNumber, Verdict};
 use ranks::prediction::number;
 use ranks::queue::{ROOM, first_queue};
 use ranks::table::TABLE;
@@ -26,7 +26,7 @@ fn run(
     w: &mut [u64; ROOM],
     at: Standing,
     taken: &mut [u16; MOST_STEPS],
-) -> Result<u64, Refusal>
+) -> Verdict
     requires { Runs (grammar_of file.now) t.now sentence.now w.old at (length trace.now) × (length sentence.now ≤ 96) × (length taken.old ≡ 96) }
     ensures { RunSays (grammar_of file.now) sentence.now trace.now at.steps (state_in (grammar_of file.now) sentence.now w.old at) taken.old taken.new result }
 {
@@ -56,7 +56,7 @@ pub fn run_trace(
     sentence: &[u32],
     trace: &[u16],
     taken: &mut [u16; MOST_STEPS],
-) -> Result<u64, Refusal>
+) -> Verdict
     requires { (grammar_refusal file.now ≡ none) × (length sentence.now ≤ 96) × (length taken.old ≡ 96) }
     ensures { TraceSays (grammar_of file.now) sentence.now trace.now taken.new result }
 {
@@ -73,7 +73,7 @@ pub fn run_trace(
 }
 
 // The trace checker.
-pub fn check_trace(file: &[u8], sentence: &[u32], trace: &[u16]) -> Result<u64, Refusal>
+pub fn check_trace(file: &[u8], sentence: &[u32], trace: &[u16]) -> Verdict
     ensures { result ≡ check_trace_verdict file.now sentence.now trace.now }
 {
     grammar_refusal(file)?;

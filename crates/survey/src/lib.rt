@@ -9,7 +9,7 @@ ghost use Rattle.model.specs.Survey.{ready, visit, survey_round, survey};
 
 use buffers::{number_at, room_refusal};
 use grammar::{categories, category_of, daughters_of, record_of, rules};
-use model::{Refusal, RuleNumber};
+use model::{RuleNumber, Verdict};
 use reader::grammar_refusal;
 
 // Every daughter of the rule has a figure, below that of the round.
@@ -62,7 +62,7 @@ fn fill(file: &[u8], figures: &mut [u16])
 }
 
 // The survey: refusals 1 to 10, 23; else C, with C figures at the front of the output. Costs at most C times R visits to a rule.
-pub fn survey(file: &[u8], out: &mut [u16]) -> Result<u64, Refusal>
+pub fn survey(file: &[u8], out: &mut [u16]) -> Verdict
     ensures { SurveyOutcome file.now out.old result out.new }
 {
     grammar_refusal(file)?;

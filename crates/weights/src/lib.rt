@@ -6,7 +6,7 @@ ghost use Rattle.weights.specs.Weights.{records_sum, largest_sum, TraceWeighed, 
 
 use derivation::check_tree;
 use grammar::weight_of;
-use model::{Refusal, RuleNumber};
+use model::{RuleNumber, Verdict};
 use recognizer::check_trace;
 
 // The sum of the weights of a list of rules.
@@ -20,7 +20,7 @@ fn sum_weights(file: &[u8], list: &[u16]) -> u64
 }
 
 // The sum of weights along a trace, which is refused as the trace checker refuses it.
-pub fn weigh_trace(file: &[u8], sentence: &[u32], trace: &[u16]) -> Result<u64, Refusal>
+pub fn weigh_trace(file: &[u8], sentence: &[u32], trace: &[u16]) -> Verdict
     ensures { TraceWeighed file.now sentence.now trace.now result }
 {
     check_trace(file, sentence, trace)?;
@@ -29,7 +29,7 @@ pub fn weigh_trace(file: &[u8], sentence: &[u32], trace: &[u16]) -> Result<u64, 
 
 // The sum of weights along a tree, which is refused as the tree checker refuses it. One function for both would be no plainer: each has two lines and its
 // own promise.
-pub fn weigh_tree(file: &[u8], sentence: &[u32], tree: &[u16]) -> Result<u64, Refusal>
+pub fn weigh_tree(file: &[u8], sentence: &[u32], tree: &[u16]) -> Verdict
     ensures { TreeWeighed file.now sentence.now tree.now result }
 {
     check_tree(file, sentence, tree)?;

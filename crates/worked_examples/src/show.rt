@@ -2,7 +2,7 @@
 ghost use Rattle.std.specs.Prelude.{◌≤◌, length};
 ghost use Rattle.worked_examples.specs.Counts.{IsPrefixLen};
 
-use model::Refusal;
+use model::{Refusal, Verdict};
 use std::fmt::Display;
 use std::fs::File;
 use std::io::{ErrorKind, Read};
@@ -74,6 +74,6 @@ fn first(list: &[u16], count: u64) -> Numbers<'_> {
 }
 
 // What a call that writes a list answers: the list on a line, or the refusal.
-pub fn print_written(rt: &impl Print, answer: Result<u64, Refusal>, out: &[u16]) -> io::Result<()> {
+pub fn print_written(rt: &impl Print, answer: Verdict, out: &[u16]) -> io::Result<()> {
     print(rt, answer.map(|n| first(out, n)))
 }

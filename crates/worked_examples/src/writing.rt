@@ -2,7 +2,7 @@
 ghost use Rattle.std.specs.Prelude.{◌<◌, length};
 
 use crate::show::{print, title};
-use model::{Refusal, RuleNumber};
+use model::{RuleNumber, Verdict};
 use std::io;
 
 // The records of the file one after the other, as many as there is room for.
@@ -15,7 +15,7 @@ fn gather(file: &[u8], records: &mut [u8])
 }
 
 // The writer's verdict for the file's heading and these records.
-fn write(file: &[u8], records: &[u8], out: &mut [u8]) -> Result<u64, Refusal> {
+fn write(file: &[u8], records: &[u8], out: &mut [u8]) -> Verdict {
     writer::write_grammar(
         grammar::categories(file),
         grammar::start(file).0,

@@ -9,7 +9,7 @@ use crate::blocks::put_file;
 use crate::given::Given;
 use crate::heading::wrong_numbers;
 use grammar::fields;
-use model::Refusal;
+use model::{Refusal, Verdict};
 use reader::blocks_for;
 use rule_tests::{Layout, Records, rules_refusal};
 
@@ -59,7 +59,7 @@ pub fn write_grammar(
     dimensions: &[u8],
     records: &[u8],
     out: &mut [u8],
-) -> Result<u64, Refusal>
+) -> Verdict
     ensures { (result ≡ write_verdict (heading categories start words rules dimensions.now) records.now out.old) × (out.new ≡ write_output (heading categories start words rules dimensions.now) records.now out.old) }
 {
     given_refusal(categories, start, words, rules, dimensions, records)?;

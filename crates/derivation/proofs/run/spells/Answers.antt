@@ -51,7 +51,7 @@ returns-in_default c =
     let l = c.loop-at in
     let i = c.front_node-i in
     elim c.in_default.field-0 as (λ (h : Halt). Says (grammar_of a.file.now) c.compile-t.result a.sentence.now l.w c.step.new.w l.at (get_or a.list.now i.result 0) (Err h) → Spelled (grammar_of a.file.now) a.sentence.now a.list.now l.trace false) [
-      Refused n ↦ λ s. loop_halted l.invariant c.loop-at-test.true c.if-at-from.false i.result i.ensures n s
+      | Refused n ↦ λ s. loop_halted l.invariant c.loop-at-test.true c.if-at-from.false i.result i.ensures n s
       | Long ↦ λ s. loop_long l.invariant c.loop-at-test.true c.if-at-from.false i.result i.ensures s
     ] c.in_default.ensures.says
 
