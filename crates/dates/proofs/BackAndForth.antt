@@ -31,7 +31,7 @@ no_date_by : (b : Bool) (d : Date) → b ≡ true → date_verdict (refuse_if b 
 no_date_by b d e = rw e
 
 -- an accepted answer has one value, and is no refused one
-same_value : {A : Type 0} {x y : A} → ◌≡◌ {A = Result A Refusal} (Ok x) (Ok y) → x ≡ y
+pub same_value : {A : Type 0} {x y : A} → ◌≡◌ {A = Result A Refusal} (Ok x) (Ok y) → x ≡ y
 same_value e = cc
 
 accepted_refused : {A : Type 0} {x : A} {r : Refusal} → ◌≡◌ {A = Result A Refusal} (Err r) (Ok x) → ⊥

@@ -1,6 +1,7 @@
 pub mod Months
 pub mod OneDate
 pub mod BackAndForth
+pub mod OpenOrNot
 pub mod OpeningMonth
 pub mod YearsAndMonths
 pub mod WideDates
