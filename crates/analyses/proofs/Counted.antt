@@ -5,15 +5,15 @@ use mathlib.Core.Option.{Option, none, some}
 use mathlib.Core.List.{List}
 use Prim.Native.Nat.{ℕ}
 use Rattle.model.specs.declared.Refusal.{Refusal}
-use Rattle.model.specs.declared.CountVerdict.{CountVerdict}
 use Rattle.model.specs.Base.{◌or_else◌}
-use Rattle.model.specs.Verdict.{count_verdict}
+use Rattle.model.specs.Verdict.{count_verdict, CountVerdict}
 use Rattle.model.specs.GrammarFile.{grammar_refusal, grammar_of}
 use Rattle.model.specs.Trace.{sentence_refusal}
 use Rattle.model.specs.Counting.{limits_refusal, effort_refusal, count, effort}
 use Rattle.model.specs.Calls.{count_call}
 use Rattle.model.proofs.Tests.{first_of, rest_of, last_apart}
 use Rattle.analyses.specs.Tests.{before_search}
+use Rattle.std.specs.Prelude.{Err}
 
 -- the tests before the walk
 module _ (file sentence : List ℕ) (n limit : ℕ) where
@@ -42,5 +42,5 @@ module _ (file sentence : List ℕ) (n limit : ℕ) where
   searched_call e v f =
       f ∙ sym (call_is ∙ ap (λ (o : Option Refusal). count_verdict (o or_else E) (count (grammar_of file) sentence n) (effort (grammar_of file) sentence n)) e)
 
-  pub refused_call : (x : Refusal) → before_search file sentence n limit ≡ some x → CountVerdict.NotCounted x ≡ count_call file sentence n limit
+  pub refused_call : (x : Refusal) → before_search file sentence n limit ≡ some x → Err x ≡ count_call file sentence n limit
   refused_call x e = sym (call_is ∙ ap (λ (o : Option Refusal). count_verdict (o or_else E) (count (grammar_of file) sentence n) (effort (grammar_of file) sentence n)) e)

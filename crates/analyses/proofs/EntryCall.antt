@@ -6,9 +6,8 @@ use mathlib.Core.List.{List}
 use Prim.Native.Nat.{ℕ, ◌≤◌}
 use lib.ListN.{length}
 use Rattle.model.specs.declared.Refusal.{Refusal}
-use Rattle.model.specs.declared.Verdict.{Verdict}
 use Rattle.model.specs.Base.{◌or_else◌}
-use Rattle.model.specs.Verdict.{verdict}
+use Rattle.model.specs.Verdict.{verdict, Verdict}
 use Rattle.model.specs.GrammarFile.{grammar_refusal, grammar_of}
 use Rattle.model.specs.Trace.{sentence_refusal}
 use Rattle.model.specs.Counting.{limits_refusal, entry}
@@ -16,6 +15,7 @@ use Rattle.model.specs.Calls.{written, room_refusal, entry_call_refusal, entry_v
 use Rattle.model.proofs.Tests.{first_of, rest_of}
 use Rattle.model.proofs.Verdicts.{refused_first, room_long}
 use Rattle.analyses.specs.Tests.{before_entry, after_search}
+use Rattle.std.specs.Prelude.{Err}
 
 module _ (file sentence : List ℕ) (n limit m : ℕ) (out : List ℕ) where
   abbrev G : Option Refusal
@@ -61,7 +61,7 @@ module _ (file sentence : List ℕ) (n limit m : ℕ) (out : List ℕ) where
       (f.0 ∙ ap (λ (o : Option Refusal). verdict o (length p)) a, f.1 ∙ ap (λ (o : Option Refusal). written o p out) a)
 
   pub refused_call : {x : Refusal} → B ≡ some x
-      → (Verdict.Refused x ≡ entry_verdict file sentence n limit m out) × (out ≡ entry_output file sentence n limit m out)
+      → (Err x ≡ entry_verdict file sentence n limit m out) × (out ≡ entry_output file sentence n limit m out)
   refused_call {x} e =
       let b : (B or_else A) ≡ some x = ap (λ (o : Option Refusal). o or_else A) e in
       (refused_first B A (length p) e ∙ ap (λ (o : Option Refusal). verdict o (length p)) (sym call_is), sym (ap (λ (o : Option Refusal). written o p out) (call_is ∙ b)))

@@ -7,29 +7,29 @@ use Prim.Native.Nat.{ℕ, ◌<◌, ◌≤◌}
 use borrow.Author.Tests.{le-leb, lt-leb, leb-true}
 use lib.Dec.{leb}
 use Rattle.model.specs.declared.Refusal.{Refusal}
-use Rattle.model.specs.declared.Tested.{Tested}
-use Rattle.model.specs.Verdict.{refuse_if, tested}
+use Rattle.model.specs.Verdict.{refuse_if, tested, Tested}
 use Rattle.model.specs.Counting.{limits_refusal}
 use Rattle.model.proofs.Tests.{passes, no_refusal, not_off, and_l, and_r}
+use Rattle.std.specs.Prelude.{Ok, Err}
 
 module _ (n limit : ℕ) where
   by : (a b c d : Bool) → leb 1 n ≡ a → leb n 96 ≡ b → leb 1 limit ≡ c → leb limit 1000000000 ≡ d
       → tested (limits_refusal n limit) ≡ tested (refuse_if (not (a && b && c && d)) (Refusal.Desk 24 0))
   by a b c d e f h k = rw (e, f, h, k)
 
-  pub few_nodes : n < 1 → Tested.Met (Refusal.Desk 24 0) ≡ tested (limits_refusal n limit)
+  pub few_nodes : n < 1 → Err (Refusal.Desk 24 0) ≡ tested (limits_refusal n limit)
   few_nodes h = sym (by false (leb n 96) (leb 1 limit) (leb limit 1000000000) (lt-leb 1 n h) refl refl refl)
 
-  pub many_nodes : 1 ≤ n → 96 < n → Tested.Met (Refusal.Desk 24 0) ≡ tested (limits_refusal n limit)
+  pub many_nodes : 1 ≤ n → 96 < n → Err (Refusal.Desk 24 0) ≡ tested (limits_refusal n limit)
   many_nodes h k = sym (by true false (leb 1 limit) (leb limit 1000000000) (le-leb 1 n h) (lt-leb n 96 k) refl refl)
 
-  pub no_effort : 1 ≤ n → n ≤ 96 → limit < 1 → Tested.Met (Refusal.Desk 24 0) ≡ tested (limits_refusal n limit)
+  pub no_effort : 1 ≤ n → n ≤ 96 → limit < 1 → Err (Refusal.Desk 24 0) ≡ tested (limits_refusal n limit)
   no_effort h k l = sym (by true true false (leb limit 1000000000) (le-leb 1 n h) (le-leb n 96 k) (lt-leb 1 limit l) refl)
 
-  pub much_effort : 1 ≤ n → n ≤ 96 → 1 ≤ limit → 1000000000 < limit → Tested.Met (Refusal.Desk 24 0) ≡ tested (limits_refusal n limit)
+  pub much_effort : 1 ≤ n → n ≤ 96 → 1 ≤ limit → 1000000000 < limit → Err (Refusal.Desk 24 0) ≡ tested (limits_refusal n limit)
   much_effort h k l m = sym (by true true true false (le-leb 1 n h) (le-leb n 96 k) (le-leb 1 limit l) (lt-leb limit 1000000000 m))
 
-  pub in_range : 1 ≤ n → n ≤ 96 → 1 ≤ limit → limit ≤ 1000000000 → Tested.Passed ≡ tested (limits_refusal n limit)
+  pub in_range : 1 ≤ n → n ≤ 96 → 1 ≤ limit → limit ≤ 1000000000 → Ok tt ≡ tested (limits_refusal n limit)
   in_range h k l m = sym (by true true true true (le-leb 1 n h) (le-leb n 96 k) (le-leb 1 limit l) (le-leb limit 1000000000 m))
 
   pub record Ranges : Type 0 where

@@ -1,12 +1,10 @@
 -- Demand 3 as a claim about what the calls answer: the count and the call for entry m, together, whatever program gives the answers, as long as each is the
 -- one that the call promises.
 -- Assumes nothing.
-use Rattle.std.specs.Prelude.{◌≡◌, ℕ, ◌<◌, ◌≤◌, length, get_or, drop}
+use Rattle.std.specs.Prelude.{◌≡◌, ℕ, ◌<◌, ◌≤◌, length, get_or, drop, Ok, Err}
 use mathlib.Core.List.{List, [], ◌++◌, map, Memᴰ}
 use Rattle.std.proofs.Math.Option.{none}
 use Rattle.model.specs.declared.Refusal.{Refusal}
-use Rattle.model.specs.declared.Verdict.{Verdict}
-use Rattle.model.specs.declared.CountVerdict.{CountVerdict}
 use Rattle.model.specs.GrammarFile.{grammar_refusal, grammar_of}
 use Rattle.model.specs.Trace.{sentence_refusal}
 use Rattle.model.specs.Tree.{Tree, preorder}
@@ -14,7 +12,7 @@ use Rattle.model.specs.Counting.{limits_refusal}
 use Rattle.model.specs.LivePrefixes.{Live, InOrder, Different}
 use Rattle.model.specs.Calls.{count_call, entry_verdict, entry_output}
 use Rattle.model.specs.Demands.{◌⇔◌, Analysis, Belongs, trace_of_tree}
-
+use Rattle.model.specs.Verdict.{Verdict, CountVerdict, counts}
 module _ (file sentence : List ℕ) (n limit : ℕ) where
   -- The answers of the two calls for a grammar file, a sentence and limits: of the count; and for entry m, verdict and output after, by the output lent. They
   -- are as `count` and `entry` promise.
@@ -26,7 +24,7 @@ module _ (file sentence : List ℕ) (n limit : ℕ) where
 
   -- an answer that writes a trace at the front of the output
   abbrev pub Writes : List ℕ → List ℕ → Verdict × List ℕ → Type 0
-  Writes trace out answer = (answer.0 ≡ Verdict.Accepted (length trace)) × (answer.1 ≡ trace ++ drop (length trace) out)
+  Writes trace out answer = (answer.0 ≡ Ok (length trace)) × (answer.1 ≡ trace ++ drop (length trace) out)
 
   -- Demand 3, "one claim about the count and the whole listing", for one grammar file, sentence, node limit and effort limit; for which ones is said in
   -- `Demand3Answered`
@@ -45,15 +43,15 @@ module _ (file sentence : List ℕ) (n limit : ℕ) where
     pub traces_differ : Different traces
     pub ordered : InOrder traces
     -- the count is refused for effort exactly when there are more live prefixes than the limit; else it says how many trees and live prefixes there are
-    pub too_much : (answers.count ≡ CountVerdict.NotCounted (Refusal.Desk 25 0)) ⇔ limit < length prefixes
-    pub counted : length prefixes ≤ limit → answers.count ≡ CountVerdict.Counted (length trees) (length prefixes)
+    pub too_much : (answers.count ≡ Err (Refusal.Desk 25 0)) ⇔ limit < length prefixes
+    pub counted : length prefixes ≤ limit → answers.count ≡ Ok (counts (length trees) (length prefixes))
     -- so is the call for an entry, with room in the output, and the output is then as it was
-    pub entry_too_much : (out : List ℕ) → 96 ≤ length out → (m : ℕ) → ((answers.entry m out).0 ≡ Verdict.Refused (Refusal.Desk 25 0)) ⇔ limit < length prefixes
+    pub entry_too_much : (out : List ℕ) → 96 ≤ length out → (m : ℕ) → ((answers.entry m out).0 ≡ Err (Refusal.Desk 25 0)) ⇔ limit < length prefixes
     pub entry_unwritten : limit < length prefixes → (out : List ℕ) → 96 ≤ length out → (m : ℕ) → (answers.entry m out).1 ≡ out
     -- where the limit suffices, entry m is the m-th of the traces, and there is none after the last: 26, and the output is as it was
     pub entries : length prefixes ≤ limit → (out : List ℕ) → 96 ≤ length out → (m : ℕ) → m < length trees → Writes (get_or traces m []) out (answers.entry m out)
     pub no_entry : length prefixes ≤ limit → (out : List ℕ) → 96 ≤ length out → (m : ℕ) → length trees ≤ m
-        → ((answers.entry m out).0 ≡ Verdict.Refused (Refusal.Desk 26 0)) × ((answers.entry m out).1 ≡ out)
+        → ((answers.entry m out).0 ≡ Err (Refusal.Desk 26 0)) × ((answers.entry m out).1 ≡ out)
 
 -- Demand 3 of the calls' answers, whole: "All of this demand holds for every accepted grammar, every sentence of at most 96 of its words, every node limit N
 -- from 1 to 96 and every effort limit from 1 to 1,000,000,000", since paper 5 of document 02 "for every sentence that meets neither 11 nor 29"; and for all

@@ -9,7 +9,7 @@ ghost use Rattle.analyses.specs.Tests.{before_search, before_entry, after_search
 
 use buffers::room_refusal;
 use grammar::start;
-use model::{CountVerdict, MOST_STEPS, Refusal, Tested, Verdict};
+use model::{MOST_STEPS, Counts, Refusal};
 use ranks::queue::first_queue;
 use reader::grammar_refusal;
 use rule_table::compile;
@@ -23,26 +23,26 @@ const MOST_NODES: u64 = MOST_STEPS as u64;
 const MOST_EFFORT: u64 = 1000000000;
 
 // Refusal 24: the node limit is not 1 to 96, or the effort limit not 1 to 1,000,000,000.
-pub fn limits_refusal(n: u64, limit: u64) -> Tested
+pub fn limits_refusal(n: u64, limit: u64) -> Result<(), Refusal>
     ensures { result ≡ tested (limits_refusal n limit) }
 {
     if n < 1 {
-        return Tested::Met(Refusal::Desk(24, 0));
+        return Err(Refusal::Desk(24, 0));
     }
     if MOST_NODES < n {
-        return Tested::Met(Refusal::Desk(24, 0));
+        return Err(Refusal::Desk(24, 0));
     }
     if limit < 1 {
-        return Tested::Met(Refusal::Desk(24, 0));
+        return Err(Refusal::Desk(24, 0));
     }
     if MOST_EFFORT < limit {
-        return Tested::Met(Refusal::Desk(24, 0));
+        return Err(Refusal::Desk(24, 0));
     }
-    Tested::Passed
+    Ok(())
 }
 
 // Count and effort of an accepted file and sentence, with limits in range: refusal 25, or both.
-fn counted(file: &[u8], sentence: &[u32], n: u64, limit: u64) -> CountVerdict
+fn counted(file: &[u8], sentence: &[u32], n: u64, limit: u64) -> Result<Counts, Refusal>
     requires { (grammar_refusal file.now ≡ none) × (limits_refusal n limit ≡ none) }
     ensures { result ≡ count_verdict (effort_refusal (grammar_of file.now) sentence.now n limit) (count (grammar_of file.now) sentence.now n) (effort (grammar_of file.now) sentence.now n) }
 {
@@ -53,29 +53,20 @@ fn counted(file: &[u8], sentence: &[u32], n: u64, limit: u64) -> CountVerdict
 }
 
 // What the count tests before the walk: the grammar, 24, 11 and 29.
-fn count_tests(file: &[u8], sentence: &[u32], n: u64, limit: u64) -> Tested
+fn count_tests(file: &[u8], sentence: &[u32], n: u64, limit: u64) -> Result<(), Refusal>
     ensures { result ≡ tested (before_search file.now sentence.now n limit) }
 {
-    let grammar = grammar_refusal(file);
-    let Tested::Passed = grammar else {
-        return grammar;
-    };
-    let limits = limits_refusal(n, limit);
-    let Tested::Passed = limits else {
-        return limits;
-    };
+    grammar_refusal(file)?;
+    limits_refusal(n, limit)?;
     sentence_refusal(file, sentence)
 }
 
 // The count under node limit n: refusals 1 to 10, 24, 11 and 29, 25; else count and effort.
-pub fn count(file: &[u8], sentence: &[u32], n: u64, limit: u64) -> CountVerdict
+pub fn count(file: &[u8], sentence: &[u32], n: u64, limit: u64) -> Result<Counts, Refusal>
     ensures { result ≡ count_call file.now sentence.now n limit }
 {
-    let tests = count_tests(file, sentence, n, limit);
-    match tests {
-        Tested::Passed => counted(file, sentence, n, limit),
-        Tested::Met(r) => CountVerdict::NotCounted(r),
-    }
+    count_tests(file, sentence, n, limit)?;
+    counted(file, sentence, n, limit)
 }
 
 // Entry m of an accepted file and sentence, with limits in range and room in the output: refusals 25 and 26, or its steps.
@@ -86,7 +77,7 @@ fn found_entry(
     limit: u64,
     m: u64,
     out: &mut [u16],
-) -> Verdict
+) -> Result<u64, Refusal>
     requires { (grammar_refusal file.now ≡ none) × (limits_refusal n limit ≡ none) × (96 ≤ length out.old) }
     ensures { (result ≡ verdict (after_search file.now sentence.now n limit m) (length (entry (grammar_of file.now) sentence.now n m))) × (out.new ≡ written (after_search file.now sentence.now n limit m) (entry (grammar_of file.now) sentence.now n m) out.old) }
 {
@@ -97,31 +88,19 @@ fn found_entry(
 }
 
 // Entry m of the listing under node limit n: refusals 1 to 10, 23, 24, 11 and 29, 25, 26; else its steps, at the front of the output. One walk.
-pub fn entry(file: &[u8], sentence: &[u32], n: u64, limit: u64, m: u64, out: &mut [u16]) -> Verdict
+pub fn entry(file: &[u8], sentence: &[u32], n: u64, limit: u64, m: u64, out: &mut [u16]) -> Result<u64, Refusal>
     ensures { (result ≡ entry_verdict file.now sentence.now n limit m out.old) × (out.new ≡ entry_output file.now sentence.now n limit m out.old) }
 {
-    let tests = entry_tests(file, sentence, n, limit, out);
-    match tests {
-        Tested::Passed => found_entry(file, sentence, n, limit, m, out),
-        Tested::Met(r) => Verdict::Refused(r),
-    }
+    entry_tests(file, sentence, n, limit, out)?;
+    found_entry(file, sentence, n, limit, m, out)
 }
 
 // What the call for an entry tests before the walk: the grammar, 23, 24, 11 and 29.
-fn entry_tests(file: &[u8], sentence: &[u32], n: u64, limit: u64, out: &[u16]) -> Tested
+fn entry_tests(file: &[u8], sentence: &[u32], n: u64, limit: u64, out: &[u16]) -> Result<(), Refusal>
     ensures { result ≡ tested (before_entry file.now sentence.now n limit out.now) }
 {
-    let grammar = grammar_refusal(file);
-    let Tested::Passed = grammar else {
-        return grammar;
-    };
-    let room = room_refusal(out);
-    let Tested::Passed = room else {
-        return room;
-    };
-    let limits = limits_refusal(n, limit);
-    let Tested::Passed = limits else {
-        return limits;
-    };
+    grammar_refusal(file)?;
+    room_refusal(out)?;
+    limits_refusal(n, limit)?;
     sentence_refusal(file, sentence)
 }

@@ -5,7 +5,7 @@ ghost use Rattle.std.specs.Prelude.{◌≡◌, ◌++◌, ◌<◌, ◌≤◌, get
 ghost use Rattle.model.specs.Verdict.{tested};
 ghost use Rattle.model.specs.Calls.{room_refusal};
 
-use model::{MOST_STEPS, Refusal, Tested};
+use model::{MOST_STEPS, Refusal};
 
 // The same number, of which it is known that it has 16 bits.
 pub fn wide(x: u16) -> usize
@@ -22,13 +22,13 @@ pub fn number_at(list: &[u16], i: usize) -> u16
 }
 
 // Refusal 23: an output of fewer than 96 numbers.
-pub fn room_refusal(out: &[u16]) -> Tested
+pub fn room_refusal(out: &[u16]) -> Result<(), Refusal>
     ensures { result ≡ tested (room_refusal out.now) }
 {
     if out.len() < MOST_STEPS {
-        Tested::Met(Refusal::Desk(23, 0))
+        Err(Refusal::Desk(23, 0))
     } else {
-        Tested::Passed
+        Ok(())
     }
 }
 

@@ -8,8 +8,7 @@ use native.Mathlib.Decide.{dec_lt}
 use borrow.Author.Tests.{le-leb, lt-leb}
 use lib.Dec.{leb}
 use Rattle.model.specs.declared.Refusal.{Refusal}
-use Rattle.model.specs.declared.Verdict.{Verdict}
-use Rattle.model.specs.Verdict.{refuse_if, verdict}
+use Rattle.model.specs.Verdict.{refuse_if, verdict, Verdict}
 use Rattle.model.specs.Demands.{◌⇔◌}
 use Rattle.model.proofs.Tests.{not_both}
 use Rattle.calendar.specs.declared.Date.{Date}
@@ -17,12 +16,13 @@ use Rattle.calendar.specs.Calendar.{days, is_date, day_number, date_of}
 use Rattle.dates.specs.declared.DateVerdict.{DateVerdict}
 use Rattle.dates.specs.Dates.{date_verdict, DateAnswers, BackAndForth}
 use Rattle.dates.proofs.OneDate.{one_date}
+use Rattle.std.specs.Prelude.{Ok, Err}
 
 -- an answer by its test
-number_by : (b : Bool) (n : ℕ) → b ≡ true → verdict (refuse_if (not b) (Refusal.Desk 27 0)) n ≡ Verdict.Accepted n
+number_by : (b : Bool) (n : ℕ) → b ≡ true → verdict (refuse_if (not b) (Refusal.Desk 27 0)) n ≡ Ok n
 number_by b n e = rw e
 
-no_number_by : (b : Bool) (n : ℕ) → b ≡ false → verdict (refuse_if (not b) (Refusal.Desk 27 0)) n ≡ Verdict.Refused (Refusal.Desk 27 0)
+no_number_by : (b : Bool) (n : ℕ) → b ≡ false → verdict (refuse_if (not b) (Refusal.Desk 27 0)) n ≡ Err (Refusal.Desk 27 0)
 no_number_by b n e = rw e
 
 date_by : (b : Bool) (d : Date) → b ≡ false → date_verdict (refuse_if b (Refusal.Desk 27 0)) d ≡ DateVerdict.Dated d
@@ -32,23 +32,23 @@ no_date_by : (b : Bool) (d : Date) → b ≡ true → date_verdict (refuse_if b 
 no_date_by b d e = rw e
 
 -- one value of an enum is no other
-same_number : {m n : ℕ} → Verdict.Accepted m ≡ Verdict.Accepted n → m ≡ n
+same_number : {m n : ℕ} → ◌≡◌ {A = Verdict} (Ok m) (Ok n) → m ≡ n
 same_number e = cc
 
 same_date : {d f : Date} → DateVerdict.Dated d ≡ DateVerdict.Dated f → d ≡ f
 same_date e = cc
 
-accepted_refused : {n : ℕ} {r : Refusal} → Verdict.Refused r ≡ Verdict.Accepted n → ⊥
+accepted_refused : {n : ℕ} {r : Refusal} → ◌≡◌ {A = Verdict} (Err r) (Ok n) → ⊥
 accepted_refused e = let z : ◌≡◌ {A = ℕ} 0 1 = cc in omega arith
 
 dated_refused : {d : Date} {r : Refusal} → DateVerdict.NotDated r ≡ DateVerdict.Dated d → ⊥
 dated_refused e = let z : ◌≡◌ {A = ℕ} 0 1 = cc in omega arith
 
 module _ (answers : DateAnswers) where
-  numbered : (d : Date) → is_date d ≡ true → answers.number_of d ≡ Verdict.Accepted (day_number d)
+  numbered : (d : Date) → is_date d ≡ true → answers.number_of d ≡ Ok (day_number d)
   numbered d e = answers.number_promised d ∙ number_by (is_date d) (day_number d) e
 
-  not_numbered : (d : Date) → is_date d ≡ false → answers.number_of d ≡ Verdict.Refused (Refusal.Desk 27 0)
+  not_numbered : (d : Date) → is_date d ≡ false → answers.number_of d ≡ Err (Refusal.Desk 27 0)
   not_numbered d e = answers.number_promised d ∙ no_number_by (is_date d) (day_number d) e
 
   dated : (n : ℕ) → n < days → answers.its_date n ≡ DateVerdict.Dated (date_of n)
@@ -58,7 +58,7 @@ module _ (answers : DateAnswers) where
   not_dated n h = answers.date_promised n ∙ no_date_by (leb days n) (date_of n) (le-leb days n h)
 
   -- the date of a number, and the number of a date, where the other call gives them
-  number_given : (d : Date) (n : ℕ) → answers.number_of d ≡ Verdict.Accepted n → (is_date d ≡ true) × (day_number d ≡ n)
+  number_given : (d : Date) (n : ℕ) → answers.number_of d ≡ Ok n → (is_date d ≡ true) × (day_number d ≡ n)
   number_given d n e = go (is_date d) refl
     where
       go : (b : Bool) → is_date d ≡ b → (is_date d ≡ true) × (day_number d ≡ n)
@@ -75,13 +75,13 @@ module _ (answers : DateAnswers) where
   date_back : (d : Date) → is_date d ≡ true → answers.its_date (day_number d) ≡ DateVerdict.Dated d
   date_back d t = let r = one_date.both_ways.date_back d t in dated (day_number d) r.0 ∙ ap DateVerdict.Dated r.1
 
-  number_back : (n : ℕ) → n < days → answers.number_of (date_of n) ≡ Verdict.Accepted n
-  number_back n h = let r = one_date.both_ways.number_back n h in numbered (date_of n) r.0 ∙ ap Verdict.Accepted r.1
+  number_back : (n : ℕ) → n < days → answers.number_of (date_of n) ≡ Ok n
+  number_back n h = let r = one_date.both_ways.number_back n h in numbered (date_of n) r.0 ∙ ap Ok r.1
 
-  one : (d : Date) (n : ℕ) → (answers.number_of d ≡ Verdict.Accepted n) ⇔ (answers.its_date n ≡ DateVerdict.Dated d)
+  one : (d : Date) (n : ℕ) → (answers.number_of d ≡ Ok n) ⇔ (answers.its_date n ≡ DateVerdict.Dated d)
   one d n = (
     λ e. let (t, q) = number_given d n e in subst (λ (m : ℕ). answers.its_date m ≡ DateVerdict.Dated d) q (date_back d t),
-    λ e. let (h, q) = date_given d n e in subst (λ (f : Date). answers.number_of f ≡ Verdict.Accepted n) q (number_back n h),
+    λ e. let (h, q) = date_given d n e in subst (λ (f : Date). answers.number_of f ≡ Ok n) q (number_back n h),
   )
 
 pub back_and_forth : BackAndForth

@@ -6,17 +6,18 @@ use Prim.Native.Nat.{ℕ, min, ◌≤◌}
 use native.Mathlib.Omega.{arith}
 use lib.Dec.{T}
 use Rattle.model.specs.declared.Refusal.{Refusal}
-use Rattle.model.specs.declared.Verdict.{Verdict}
 use Rattle.model.proofs.Tests.{passes, same_test}
 use Rattle.calendar.specs.declared.Date.{Date}
 use Rattle.calendar.specs.Calendar.{date, is_date}
 use Rattle.calendar.proofs.Calendar.{is_date_lem, length_most}
 use Rattle.dates.specs.Dates.{number_verdict, opening_verdict, open_verdict}
 use Rattle.dates.specs.WideDates.{StandsFor}
+use Rattle.model.specs.Verdict.{Verdict}
+use Rattle.std.specs.Prelude.{Err}
 
 module _ {given kept : Date} (s : StandsFor given kept) where
   -- a verdict that is 27 for whatever is no date
-  alike : (F : Date → Verdict) → ((d : Date) → is_date d ≡ false → F d ≡ Verdict.Refused (Refusal.Desk 27 0)) → F kept ≡ F given
+  alike : (F : Date → Verdict) → ((d : Date) → is_date d ≡ false → F d ≡ Err (Refusal.Desk 27 0)) → F kept ≡ F given
   alike F refuses = go (is_date given) refl
     where
       go : (b : Bool) → is_date given ≡ b → F kept ≡ F given

@@ -1,11 +1,10 @@
 -- The day a deposit opens (document 02, paper 3): the opening day, the refusals in their order, the outcome of each call, and what is proved of them.
 -- Assumes nothing.
-use Rattle.std.specs.Prelude.{◌≡◌, ℕ, zero, suc, min, ◌<◌, ◌≤◌, Bool, true, false, not, List, [], ◌∷◌, ltb, leb, if◌then◌else◌}
+use Rattle.std.specs.Prelude.{◌≡◌, ℕ, zero, suc, min, ◌<◌, ◌≤◌, Bool, true, false, not, List, [], ◌∷◌, ltb, leb, if◌then◌else◌, Ok, Err}
 use Rattle.std.proofs.Math.Option.{Option, none, some}
 use Rattle.model.specs.declared.Refusal.{Refusal}
-use Rattle.model.specs.declared.Verdict.{Verdict}
 use Rattle.model.specs.Base.{◌or_else◌}
-use Rattle.model.specs.Verdict.{refuse_if, verdict, Answer, values, refusal_answer, verdict_answer}
+use Rattle.model.specs.Verdict.{refuse_if, verdict, Answer, values, refusal_answer, verdict_answer, Verdict}
 use Rattle.model.specs.Refusals.{Test, of_desk, ◌and_then◌}
 use Rattle.model.specs.Demands.{◌⇔◌, Decided}
 use Rattle.calendar.specs.declared.Date.{Date}
@@ -137,13 +136,13 @@ pub record DateAnswers : Type 0 where
 -- "The calls give a date's number, a number's one date": the two calls one after the other, for all answers that are as they promise
 pub record BackAndForth : Type 0 where
   -- a day number of the span has a date, and that date has that number
-  pub number_back : (answers : DateAnswers) (n : ℕ) → n < days → (d : Date) × (answers.its_date n ≡ Dated d) × (answers.number_of d ≡ Verdict.Accepted n)
+  pub number_back : (answers : DateAnswers) (n : ℕ) → n < days → (d : Date) × (answers.its_date n ≡ Dated d) × (answers.number_of d ≡ Ok n)
   -- a date of the span has a number, and that number has that date
-  pub date_back : (answers : DateAnswers) (d : Date) → is_date d ≡ true → (n : ℕ) × (answers.number_of d ≡ Verdict.Accepted n) × (answers.its_date n ≡ Dated d)
+  pub date_back : (answers : DateAnswers) (d : Date) → is_date d ≡ true → (n : ℕ) × (answers.number_of d ≡ Ok n) × (answers.its_date n ≡ Dated d)
   -- it is the number's one date: no other date has that number, and no other number has that date
-  pub one : (answers : DateAnswers) (d : Date) (n : ℕ) → (answers.number_of d ≡ Verdict.Accepted n) ⇔ (answers.its_date n ≡ Dated d)
+  pub one : (answers : DateAnswers) (d : Date) (n : ℕ) → (answers.number_of d ≡ Ok n) ⇔ (answers.its_date n ≡ Dated d)
   -- all else is 27 in the one call and not given by the other: "no such date, or a date or day number outside that span"
   pub no_date_of : (answers : DateAnswers) (d : Date) → is_date d ≡ false
-      → (answers.number_of d ≡ Verdict.Refused (Refusal.Desk 27 0)) × ((n : ℕ) → answers.its_date n ≡ Dated d → ⊥)
+      → (answers.number_of d ≡ Err (Refusal.Desk 27 0)) × ((n : ℕ) → answers.its_date n ≡ Dated d → ⊥)
   pub no_day_of : (answers : DateAnswers) (n : ℕ) → days ≤ n
-      → (answers.its_date n ≡ NotDated (Refusal.Desk 27 0)) × ((d : Date) → answers.number_of d ≡ Verdict.Accepted n → ⊥)
+      → (answers.its_date n ≡ NotDated (Refusal.Desk 27 0)) × ((d : Date) → answers.number_of d ≡ Ok n → ⊥)

@@ -5,7 +5,7 @@ ghost use Rattle.dates.specs.Dates.{number_verdict, date_call};
 
 use crate::DateVerdict;
 use calendar::{DAYS, Date, FIRST_YEAR, LAST_YEAR, first_day, is_leap, month_length, year_length};
-use model::{Refusal, Verdict};
+use model::Refusal;
 
 // The most days that a year has.
 const LONGEST_YEAR: u64 = 366;
@@ -71,13 +71,13 @@ pub fn number_of(d: Date) -> u64
 }
 
 // A date's number.
-pub fn day_number(d: Date) -> Verdict
+pub fn day_number(d: Date) -> Result<u64, Refusal>
     ensures { result ≡ number_verdict d }
 {
     if is_date(d) {
-        Verdict::Accepted(number_of(d))
+        Ok(number_of(d))
     } else {
-        Verdict::Refused(Refusal::Desk(27, 0))
+        Err(Refusal::Desk(27, 0))
     }
 }
 

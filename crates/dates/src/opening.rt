@@ -6,7 +6,7 @@ ghost use Rattle.dates.specs.Dates.{open_from, longest_term, opening, term_refus
 
 use crate::numbers::{is_date, number_of};
 use calendar::{DAYS, Date, LAST_YEAR, is_leap, month_length};
-use model::{Refusal, Verdict};
+use model::Refusal;
 
 // The longest term, in months.
 const LONGEST_TERM: u64 = 600;
@@ -34,29 +34,29 @@ fn opening_date(d: Date, term: u64) -> Date
 }
 
 // The number of the opening day, from a deposit's date, which is one of the span, and its term; or 28.
-fn opening_number(d: Date, term: u64) -> Verdict
+fn opening_number(d: Date, term: u64) -> Result<u64, Refusal>
     requires { is_date d ≡ true }
     ensures { result ≡ verdict (term_refusal d term) (day_number (opening d term)) }
 {
     if LONGEST_TERM < term {
-        return Verdict::Refused(Refusal::Desk(28, 0));
+        return Err(Refusal::Desk(28, 0));
     }
     let o = opening_date(d, term);
     let year = o.year;
     if LAST_YEAR < year {
-        return Verdict::Refused(Refusal::Desk(28, 0));
+        return Err(Refusal::Desk(28, 0));
     }
-    Verdict::Accepted(number_of(o))
+    Ok(number_of(o))
 }
 
 // The number of a deposit's opening day.
-pub fn opening_day(d: Date, term: u64) -> Verdict
+pub fn opening_day(d: Date, term: u64) -> Result<u64, Refusal>
     ensures { result ≡ opening_verdict d term }
 {
     if is_date(d) {
         opening_number(d, term)
     } else {
-        Verdict::Refused(Refusal::Desk(27, 0))
+        Err(Refusal::Desk(27, 0))
     }
 }
 
@@ -68,17 +68,17 @@ fn open_from(day: u64, asked: u64) -> u64
 }
 
 // 1 or 0, for open or not on the day asked.
-pub fn is_open(d: Date, term: u64, asked: u64) -> Verdict
+pub fn is_open(d: Date, term: u64, asked: u64) -> Result<u64, Refusal>
     ensures { result ≡ open_verdict d term asked }
 {
     if !is_date(d) {
-        return Verdict::Refused(Refusal::Desk(27, 0));
+        return Err(Refusal::Desk(27, 0));
     }
     if DAYS <= asked {
-        return Verdict::Refused(Refusal::Desk(27, 0));
+        return Err(Refusal::Desk(27, 0));
     }
     match opening_number(d, term) {
-        Verdict::Refused(r) => Verdict::Refused(r),
-        Verdict::Accepted(day) => Verdict::Accepted(open_from(day, asked)),
+        Err(r) => Err(r),
+        Ok(day) => Ok(open_from(day, asked)),
     }
 }

@@ -6,15 +6,15 @@ use mathlib.Core.List.{List}
 use Prim.Native.Nat.{ℕ, ◌≤◌}
 use lib.ListN.{length}
 use Rattle.model.specs.declared.Refusal.{Refusal}
-use Rattle.model.specs.declared.Verdict.{Verdict}
 use Rattle.model.specs.Base.{◌or_else◌}
-use Rattle.model.specs.Verdict.{verdict}
+use Rattle.model.specs.Verdict.{verdict, Verdict}
 use Rattle.model.specs.GrammarFile.{grammar_refusal, grammar_of}
 use Rattle.model.specs.Trace.{sentence_refusal}
 use Rattle.model.specs.Calls.{written, room_refusal}
 use Rattle.model.proofs.Tests.{first_of, rest_of, last_apart}
 use Rattle.model.proofs.Verdicts.{refused, sentence_short, room_long}
 use Rattle.derivation.specs.TreeRun.{before_input}
+use Rattle.std.specs.Prelude.{Err}
 
 module _ (file sentence out : List ℕ) where
   abbrev G : Option Refusal
@@ -48,7 +48,7 @@ module _ (file sentence out : List ℕ) where
         let a : own ≡ call = sym (call_is ∙ ap (λ (o : Option Refusal). o or_else own) e) in
         (f.0 ∙ ap (λ (o : Option Refusal). verdict o n) a, f.1 ∙ ap (λ (o : Option Refusal). written o list out) a)
 
-    pub refused_call : (x : Refusal) → B ≡ some x → (Verdict.Refused x ≡ verdict call n) × (out ≡ written call list out)
+    pub refused_call : (x : Refusal) → B ≡ some x → (Err x ≡ verdict call n) × (out ≡ written call list out)
     refused_call x e =
         let met : call ≡ some x = call_is ∙ ap (λ (o : Option Refusal). o or_else own) e in
         (refused call n x met, sym (ap (λ (o : Option Refusal). written o list out) met))

@@ -10,7 +10,7 @@ ghost use Rattle.derivation.specs.TreeRun.{TreeSays, before_input};
 
 use crate::run::spells;
 use buffers::{room_refusal, write_front};
-use model::{MOST_STEPS, Refusal, Tested, Verdict};
+use model::{MOST_STEPS, Refusal};
 use reader::grammar_refusal;
 use sentences::sentence_refusal;
 use trees::read_tree;
@@ -21,79 +21,56 @@ pub fn trace_tree(
     sentence: &[u32],
     list: &[u16],
     trace: &mut [u16; MOST_STEPS],
-) -> Verdict
+) -> Result<u64, Refusal>
     requires { (grammar_refusal file.now ≡ none) × (length trace.old ≡ 96) }
     ensures { TreeSays (grammar_of file.now) sentence.now list.now trace.new result }
 {
     if MOST_STEPS < list.len() {
-        return Verdict::Refused(Refusal::Analysis(12, 0));
+        return Err(Refusal::Analysis(12, 0));
     }
     let mut ends = [0u16; MOST_STEPS];
-    let nodes = read_tree(file, list, &mut ends);
-    if let Tested::Met(r) = nodes {
-        return Verdict::Refused(r);
-    }
+    read_tree(file, list, &mut ends)?;
     if spells(file, sentence, list, &ends, trace) {
-        Verdict::Accepted(list.len() as u64)
+        Ok(list.len() as u64)
     } else {
-        Verdict::Refused(Refusal::Analysis(22, 0))
+        Err(Refusal::Analysis(22, 0))
     }
 }
 
 // The tree checker: refusals 1 to 10, 11 and 29, 12, 19, 13 and 20 node by node, 21, 22; else the number of nodes.
-pub fn check_tree(file: &[u8], sentence: &[u32], tree: &[u16]) -> Verdict
+pub fn check_tree(file: &[u8], sentence: &[u32], tree: &[u16]) -> Result<u64, Refusal>
     ensures { result ≡ check_tree_verdict file.now sentence.now tree.now }
 {
-    let grammar = grammar_refusal(file);
-    if let Tested::Met(r) = grammar {
-        return Verdict::Refused(r);
-    }
-    let words = sentence_refusal(file, sentence);
-    if let Tested::Met(r) = words {
-        return Verdict::Refused(r);
-    }
+    grammar_refusal(file)?;
+    sentence_refusal(file, sentence)?;
     let mut trace = [0u16; MOST_STEPS];
     trace_tree(file, sentence, tree, &mut trace)
 }
 
 // What a conversion tests before its input: the grammar, 23, 11 and 29.
-pub fn conversion_tests(file: &[u8], sentence: &[u32], out: &[u16]) -> Tested
+pub fn conversion_tests(file: &[u8], sentence: &[u32], out: &[u16]) -> Result<(), Refusal>
     ensures { result ≡ tested (before_input file.now sentence.now out.now) }
 {
-    let grammar = grammar_refusal(file);
-    let Tested::Passed = grammar else {
-        return grammar;
-    };
-    let room = room_refusal(out);
-    let Tested::Passed = room else {
-        return room;
-    };
+    grammar_refusal(file)?;
+    room_refusal(out)?;
     sentence_refusal(file, sentence)
 }
 
 // The trace of a tree at the front of the output, for a grammar file and a sentence that are accepted; or the tree's refusal.
-fn write_trace(file: &[u8], sentence: &[u32], tree: &[u16], out: &mut [u16]) -> Verdict
+fn write_trace(file: &[u8], sentence: &[u32], tree: &[u16], out: &mut [u16]) -> Result<u64, Refusal>
     requires { (grammar_refusal file.now ≡ none) × (96 ≤ length out.old) }
     ensures { (result ≡ verdict (tree_refusal (grammar_of file.now) sentence.now tree.now) (length tree.now)) × (out.new ≡ written (tree_refusal (grammar_of file.now) sentence.now tree.now) (trace_of (grammar_of file.now) sentence.now tree.now) out.old) }
 {
     let mut trace = [0u16; MOST_STEPS];
-    let v = trace_tree(file, sentence, tree, &mut trace);
-    match v {
-        Verdict::Accepted(_) => {
-            write_front(&trace, tree.len(), out);
-            v
-        }
-        Verdict::Refused(_) => v,
-    }
+    let n = trace_tree(file, sentence, tree, &mut trace)?;
+    write_front(&trace, tree.len(), out);
+    Ok(n)
 }
 
 // The trace that belongs to a tree: refusals 1 to 10, 23, 11 and 29, and those of the tree checker; else the trace is written at the front of the output.
-pub fn tree_to_trace(file: &[u8], sentence: &[u32], tree: &[u16], out: &mut [u16]) -> Verdict
+pub fn tree_to_trace(file: &[u8], sentence: &[u32], tree: &[u16], out: &mut [u16]) -> Result<u64, Refusal>
     ensures { (result ≡ tree_to_trace_verdict file.now sentence.now tree.now out.old) × (out.new ≡ tree_to_trace_output file.now sentence.now tree.now out.old) }
 {
-    let tests = conversion_tests(file, sentence, out);
-    match tests {
-        Tested::Passed => write_trace(file, sentence, tree, out),
-        Tested::Met(r) => Verdict::Refused(r),
-    }
+    conversion_tests(file, sentence, out)?;
+    write_trace(file, sentence, tree, out)
 }

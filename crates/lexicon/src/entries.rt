@@ -6,7 +6,7 @@ ghost use Rattle.minimalist.specs.Lexicon.{is_feature, before_zero, entry_bytes,
 
 use crate::features::is_feature;
 use grammar::{few_zeros, fields, same_bytes, two_bytes};
-use model::{EMPTY_WORD, Refusal, Tested, Word};
+use model::{EMPTY_WORD, Refusal, Word};
 
 // The bytes of an entry.
 pub const ENTRY: usize = 8;
@@ -146,19 +146,19 @@ fn repeated_entry(bytes: &[u8], i: u16) -> bool
 }
 
 // Refusals 30 and 10.
-pub fn entries_refusal(bytes: &[u8], words: u32, start: u32) -> Tested
+pub fn entries_refusal(bytes: &[u8], words: u32, start: u32) -> Result<(), Refusal>
     ensures { result ≡ tested (entries_refusal bytes.now words start) }
 {
     if lexicon_wrong(bytes, words, start) {
-        return Tested::Met(Refusal::Grammar(30, 0));
+        return Err(Refusal::Grammar(30, 0));
     }
     let n = (bytes.len() / ENTRY) as u16;
     let mut i: u16 = 0;
     while i < n {
         if repeated_entry(bytes, i) {
-            return Tested::Met(Refusal::Grammar(10, i));
+            return Err(Refusal::Grammar(10, i));
         }
         i += 1;
     }
-    Tested::Passed
+    Ok(())
 }

@@ -12,12 +12,11 @@ use borrow.Author.Tests.{eqb-true, eqb-false}
 use lib.Dec.{eqb}
 use lib.ListN.{length, get_or, drop, set, length-set, length-append, length-drop}
 use lib.Seq.{sets, length-sets, drop-cons, drop-length}
-use Rattle.model.specs.declared.CountVerdict.{CountVerdict}
-use Rattle.model.specs.Verdict.{number, place}
+use Rattle.model.specs.Verdict.{number, place, CountVerdict}
 use Rattle.model.specs.Program.{decimal, line, blank, newline}
 use Rattle.lines.specs.Text.{Put, ending, verdict_line}
 use Rattle.lines.proofs.Digits.{word_digits, all_digits}
-
+use Rattle.std.specs.Prelude.{Err, Ok}
 sets_append : (l : List ℕ) (i : ℕ) (u v : List ℕ) → sets l i (u ++ v) ≡ sets (sets l i u) (i + length u) v
 sets_append l i [] v = let e : i ≡ i + 0 = omega arith in ap (λ (k : ℕ). sets l k v) e
 sets_append l i (x ∷ u) v =
@@ -80,8 +79,8 @@ count_line_short a b =
 
 -- the line of a verdict
 pub verdict_short : (v : CountVerdict) → length (verdict_line v) ≤ 44
-verdict_short (CountVerdict.Counted a b) = omega (arith, count_line_short a b)
-verdict_short (CountVerdict.NotCounted r) = omega (arith, count_line_short (number r) (place r))
+verdict_short (Ok c) = omega (arith, count_line_short c.count c.effort)
+verdict_short (Err r) = omega (arith, count_line_short (number r) (place r))
 
 -- two bytes and a line
 pub two_before : (before after : List ℕ) (at x y q : ℕ) (l : List ℕ) → Put (set (set before at x) (at + 1) y) after (at + 2) l q → Put before after at (x ∷ y ∷ l) q

@@ -1,11 +1,10 @@
 -- What code says of text that it writes into a buffer, and the first line of what the program prints.
 -- Assumes nothing.
-use Rattle.std.specs.Prelude.{◌≡◌, Bool, List, [], ◌∷◌, ℕ, ◌+◌, ◌≤◌, length, if◌then◌else◌}
+use Rattle.std.specs.Prelude.{◌≡◌, Bool, List, [], ◌∷◌, ℕ, ◌+◌, ◌≤◌, length, if◌then◌else◌, Err, Ok}
 use Rattle.std.proofs.Math.Option.{some}
 use Rattle.std.proofs.lemmas.List.Edits.{sets}
-use Rattle.model.specs.declared.CountVerdict.{CountVerdict}
-use Rattle.model.specs.declared.CountVerdict.TheVariants.{Counted, NotCounted}
 use Rattle.model.specs.Program.{blank, newline, line, printed}
+use Rattle.model.specs.Verdict.{CountVerdict}
 
 -- l is written at a place of the buffer and nothing else is; r is the place after it, and the buffer goes at least so far
 pub record Put (before after : List ℕ) (at : ℕ) (l : List ℕ) (r : ℕ) : Type 0 where
@@ -19,5 +18,5 @@ ending last = if last then newline else blank
 
 -- "prints count and effort, then one trace a line, numbers parted by one blank; or `R`, number, place": the line of the verdict
 abbrev pub verdict_line : CountVerdict → List ℕ
-verdict_line (Counted count effort) = line (count ∷ effort ∷ [])
-verdict_line (NotCounted r) = printed (some r) []
+verdict_line (Ok c) = line (c.count ∷ c.effort ∷ [])
+verdict_line (Err r) = printed (some r) []

@@ -6,7 +6,7 @@ ghost use Rattle.std.proofs.Math.Option.{some};
 ghost use Rattle.model.specs.Program.{decimal, line, printed, digit_zero};
 ghost use Rattle.lines.specs.Text.{Put, ending, verdict_line};
 
-use model::{CountVerdict, MOST_STEPS, Refusal};
+use model::{MOST_STEPS, Counts, Refusal};
 
 // The last decimal digit of n.
 fn digit(n: u64) -> u8
@@ -89,21 +89,21 @@ fn put_refusal(r: Refusal, out: &mut [u8], at: usize) -> usize
     requires { at + 44 ≤ length out.old }
     ensures { Put out.old out.new at (printed (some r) []) result }
 {
-    let number = model::number_of(r) as u64;
-    let place = model::place_of(r) as u64;
+    let number = r.number() as u64;
+    let place = r.place() as u64;
     out[at] = b'R';
     out[at + 1] = b' ';
     put_count(number, place, out, at + 2)
 }
 
 // Writes the first line of what is printed, at most 44 bytes: count and effort, or a refusal's.
-pub fn put_verdict(v: CountVerdict, out: &mut [u8], at: usize) -> usize
+pub fn put_verdict(v: Result<Counts, Refusal>, out: &mut [u8], at: usize) -> usize
     requires { at + 44 ≤ length out.old }
     ensures { Put out.old out.new at (verdict_line v) result }
 {
     match v {
-        CountVerdict::Counted(count, effort) => put_count(count, effort, out, at),
-        CountVerdict::NotCounted(r) => put_refusal(r, out, at),
+        Ok(c) => put_count(c.count, c.effort, out, at),
+        Err(r) => put_refusal(r, out, at),
     }
 }
 

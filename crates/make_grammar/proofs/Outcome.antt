@@ -1,6 +1,6 @@
 -- From what the parts of the call say to its outcome.
 -- Assumes nothing.
-use Rattle.std.specs.Prelude.{if◌then◌else◌}
+use Rattle.std.specs.Prelude.{if◌then◌else◌, Ok, Err}
 use mathlib.Core.Path.{◌≡◌, refl, ap, ap₂, sym, subst, ◌∙◌}
 use mathlib.Core.Bool.{Bool, true, false, ◌||◌}
 use mathlib.Core.Option.{none}
@@ -11,7 +11,6 @@ use lib.Dec.{T, ltb, eqb}
 use lib.ListN.{length, take, drop, length-map, length-append}
 use borrow.Author.Tests.{ltb-true, ltb-false, lt-ltb, le-ltb, eq-eqb}
 use Rattle.model.specs.declared.Refusal.{Refusal}
-use Rattle.model.specs.declared.Verdict.{Verdict}
 use Rattle.model.specs.Base.{each}
 use Rattle.model.specs.GrammarFile.{blocks_for}
 use Rattle.model.specs.Writer.{all_bytes, padded, file_of}
@@ -30,6 +29,7 @@ use Rattle.derivable.specs.Tables.{Holds}
 use Rattle.derivable.specs.Rounds.{Derived}
 use Rattle.derivable.proofs.Growing.{derived_holds}
 use Rattle.make_grammar.specs.Making.{told_rules, RulesPut, PutsRules, made_heading, Written, WritesMade}
+use Rattle.model.specs.Verdict.{Verdict}
 
 -- the tests of 31, one after another
 module _ (few many none : Bool) where
@@ -124,17 +124,17 @@ module _ (bytes : List ℕ) (words start : ℕ) (all : T (all_bytes bytes)) (pas
   long = ap (λ (f : List Form). 512 * blocks_for (length (made_rules l start f))) are
 
   -- 31 by the categories
-  pub many_forms : 63 < length forms → MakeOutcome bytes words start out (Verdict.Refused (Refusal.Grammar 31 0)) out
+  pub many_forms : 63 < length forms → MakeOutcome bytes words start out (Err (Refusal.Grammar 31 0)) out
   many_forms h = refused_large bytes words start all out passed (large true (over_first (ltb 63 (length forms)) (ltb 256 rules) (eqb starts 0) (lt-ltb 63 (length forms) h)))
 
   module _ (few : length forms ≤ 63) (r : ℕ) (records : List ℕ) (put : RulesPut l start forms r records) where
     -- 31 by the start, and by the rules
-    pub no_start : r ≡ 0 → MakeOutcome bytes words start out (Verdict.Refused (Refusal.Grammar 31 0)) out
+    pub no_start : r ≡ 0 → MakeOutcome bytes words start out (Err (Refusal.Grammar 31 0)) out
     no_start e =
         refused_large bytes words start all out passed
         (large true (over_third (ltb 63 (length forms)) (ltb 256 rules) (eqb starts 0) (told_none starts rules r (starts_among l words start forms) put.told e)))
 
-    pub many_rules : 256 < r → MakeOutcome bytes words start out (Verdict.Refused (Refusal.Grammar 31 0)) out
+    pub many_rules : 256 < r → MakeOutcome bytes words start out (Err (Refusal.Grammar 31 0)) out
     many_rules h =
         refused_large bytes words start all out passed
         (large true (over_second (ltb 63 (length forms)) (ltb 256 rules) (eqb starts 0) (told_over starts rules r (starts_among l words start forms) put.told h)))
@@ -166,7 +166,7 @@ module _ (bytes : List ℕ) (words start : ℕ) (all : T (all_bytes bytes)) (pas
           go true e =
               let w = written.no_room e in
               let h = refused_room bytes words start all out passed small (subst (λ (n : ℕ). length out < n) size (ltb-true (length out) (512 * blocks_for r) e)) in
-              subst (λ (v : Verdict). MakeOutcome bytes words start out v after) (sym w.0) (subst (MakeOutcome bytes words start out (Verdict.Refused (Refusal.Desk 23 0))) (sym w.1) h)
+              subst (λ (v : Verdict). MakeOutcome bytes words start out v after) (sym w.0) (subst (MakeOutcome bytes words start out (Err (Refusal.Desk 23 0))) (sym w.1) h)
           go false e =
               let w = written.room e in
               subst (λ (v : Verdict). MakeOutcome bytes words start out v after) (sym w.0)
@@ -175,14 +175,14 @@ module _ (bytes : List ℕ) (words start : ℕ) (all : T (all_bytes bytes)) (pas
 
 -- the file is not written, or it is
 module _ {n m : ℕ} {file out : List ℕ} (is : m ≡ n) where
-  pub no_room_left : length out < m → Written n file out (Verdict.Refused (Refusal.Desk 23 0)) out
+  pub no_room_left : length out < m → Written n file out (Err (Refusal.Desk 23 0)) out
   no_room_left h = record { no_room = λ e. (refl, refl); room = λ e. not_both (sym (lt-ltb (length out) n (subst (λ (k : ℕ). length out < k) is h)) ∙ e) }
 
-  pub room_left : m ≤ length out → (after : List ℕ) → after ≡ file ++ drop m out → Written n file out (Verdict.Accepted m) after
+  pub room_left : m ≤ length out → (after : List ℕ) → after ≡ file ++ drop m out → Written n file out (Ok m) after
   room_left h after w =
       record {
         no_room = λ e. not_both (sym e ∙ le-ltb (length out) n (subst (λ (k : ℕ). k ≤ length out) is h));
-        room = λ e. (ap Verdict.Accepted is, w ∙ ap (λ (k : ℕ). file ++ drop k out) is);
+        room = λ e. (ap Ok is, w ∙ ap (λ (k : ℕ). file ++ drop k out) is);
       }
 
 pub heading_made : (n words rules : ℕ) (dimensions : List ℕ) (forms : List Form) → n ≡ length forms → dimensions ≡ padded 64 (1 ∷ map form_dimension forms)
@@ -201,7 +201,7 @@ module _ (bytes : List ℕ) (words start : ℕ) (all : T (all_bytes bytes)) (pas
   held : Holds table n (forms_of (lexicon_of bytes))
   held = derived_holds bytes derived
 
-  pub over_forms : 63 < n → MakeOutcome bytes words start out (Verdict.Refused (Refusal.Grammar 31 0)) out
+  pub over_forms : 63 < n → MakeOutcome bytes words start out (Err (Refusal.Grammar 31 0)) out
   over_forms h = many_forms bytes words start all passed out (forms_of (lexicon_of bytes)) refl (subst (λ (k : ℕ). 63 < k) held.1 h)
 
   module _ (few : n ≤ 63) {r : ℕ} {records : List ℕ} (puts : PutsRules table n bytes start r records) where
@@ -211,10 +211,10 @@ module _ (bytes : List ℕ) (words start : ℕ) (all : T (all_bytes bytes)) (pas
     put : RulesPut (lexicon_of bytes) start (forms_of (lexicon_of bytes)) r records
     put = puts.puts (forms_of (lexicon_of bytes)) held (rounds_apart (lexicon_of bytes) 63)
 
-    pub not_started : r ≡ 0 → MakeOutcome bytes words start out (Verdict.Refused (Refusal.Grammar 31 0)) out
+    pub not_started : r ≡ 0 → MakeOutcome bytes words start out (Err (Refusal.Grammar 31 0)) out
     not_started e = no_start bytes words start all passed out (forms_of (lexicon_of bytes)) refl few_forms r records put e
 
-    pub over_rules : 256 < r → MakeOutcome bytes words start out (Verdict.Refused (Refusal.Grammar 31 0)) out
+    pub over_rules : 256 < r → MakeOutcome bytes words start out (Err (Refusal.Grammar 31 0)) out
     over_rules h = many_rules bytes words start all passed out (forms_of (lexicon_of bytes)) refl few_forms r records put h
 
     pub written_made : (r ≡ 0 → ⊥) → r ≤ 256 → {after : List ℕ} {answer : Verdict} → WritesMade table n words r (take (24 * r - 0) records) out answer after

@@ -1,8 +1,7 @@
 -- What the parts of the call that makes a grammar do, whatever forms the table holds.
 -- Assumes nothing.
-use Rattle.std.specs.Prelude.{◌≡◌, true, false, List, ◌∷◌, ◌++◌, map, ℕ, suc, ◌*◌, ◌≤◌, ltb, eqb, length, take, drop, if◌then◌else◌}
+use Rattle.std.specs.Prelude.{◌≡◌, true, false, List, ◌∷◌, ◌++◌, map, ℕ, suc, ◌*◌, ◌≤◌, ltb, eqb, length, take, drop, if◌then◌else◌, Ok, Err}
 use Rattle.model.specs.declared.Refusal.{Refusal}
-use Rattle.model.specs.declared.Verdict.{Verdict}
 use Rattle.model.specs.Base.{each}
 use Rattle.model.specs.GrammarFile.{blocks_for}
 use Rattle.model.specs.Writer.{Heading, padded, file_of}
@@ -13,6 +12,7 @@ use Rattle.minimalist.specs.Schemes.{Form, form_dimension}
 use Rattle.minimalist.specs.Closure.{start_rules, made_rules}
 use Rattle.minimalist.specs.Numbering.{numbered_rule}
 use Rattle.derivable.specs.Tables.{Holds}
+use Rattle.model.specs.Verdict.{Verdict}
 
 -- how many rules are told: 0 where the new start has none, 257 where there are more than 256
 abbrev pub told_rules : ℕ → ℕ → ℕ
@@ -33,8 +33,8 @@ made_heading words rules forms =
 
 -- a file of n bytes was written, if there was room
 pub record Written (n : ℕ) (file out : List ℕ) (answer : Verdict) (after : List ℕ) : Type 0 where
-  pub no_room : ltb (length out) n ≡ true → (answer ≡ Verdict.Refused (Refusal.Desk 23 0)) × (after ≡ out)
-  pub room : ltb (length out) n ≡ false → (answer ≡ Verdict.Accepted n) × (after ≡ file ++ drop n out)
+  pub no_room : ltb (length out) n ≡ true → (answer ≡ Err (Refusal.Desk 23 0)) × (after ≡ out)
+  pub room : ltb (length out) n ≡ false → (answer ≡ Ok n) × (after ≡ file ++ drop n out)
 
 pub record WritesMade (table : List ℕ) (n words rules : ℕ) (records out : List ℕ) (answer : Verdict) (after : List ℕ) : Type 0 where
   pub writes : (forms : List Form) → Holds table n forms → Written (512 * blocks_for rules) (file_of (made_heading words rules forms) records) out answer after

@@ -11,7 +11,7 @@ use derivable::{TABLE, derivable_forms};
 use lexicon::{ENTRY, entries_refusal};
 use made_records::{RECORD, RECORDS, RULES};
 use made_rules::{CATEGORIES, add_entry_rules, add_scheme_rules, add_starts, put_dimensions};
-use model::{Refusal, Tested, Verdict};
+use model::Refusal;
 use reader::blocks_for;
 use writer::put_file;
 
@@ -53,13 +53,13 @@ fn write_made(
     rules: u16,
     records: &[u8],
     out: &mut [u8],
-) -> Verdict
+) -> Result<u64, Refusal>
     requires { (forms ≤ 63) × (rules ≤ 256) }
     ensures { WritesMade table.now forms words rules records.now out.old result out.new }
 {
     let n = 512 * blocks_for(rules);
     if out.len() < n {
-        return Verdict::Refused(Refusal::Desk(23, 0));
+        return Err(Refusal::Desk(23, 0));
     }
     let mut dimensions = [0u8; CATEGORIES];
     put_dimensions(table, forms, &mut dimensions);
@@ -72,31 +72,28 @@ fn write_made(
         records,
         &mut out[0..n],
     );
-    Verdict::Accepted(n as u64)
+    Ok(n as u64)
 }
 
 // Makes the grammar of a lexicon: refusals 30, 10, 31, 23; else the file's length, with the file at the front of the output.
-pub fn make_grammar(lexicon: &[u8], words: u32, start: u32, out: &mut [u8]) -> Verdict
+pub fn make_grammar(lexicon: &[u8], words: u32, start: u32, out: &mut [u8]) -> Result<u64, Refusal>
     ensures { MakeOutcome lexicon.now words start out.old result out.new }
 {
     let _ = known_bytes(lexicon);
-    let given = entries_refusal(lexicon, words, start);
-    if let Tested::Met(r) = given {
-        return Verdict::Refused(r);
-    }
+    entries_refusal(lexicon, words, start)?;
     let count = (lexicon.len() / ENTRY) as u16;
     let mut table = [0u8; TABLE];
     let forms = derivable_forms(&mut table, lexicon, count);
     if FORMS < forms {
-        return Verdict::Refused(Refusal::Grammar(31, 0));
+        return Err(Refusal::Grammar(31, 0));
     }
     let mut records = [0u8; RECORDS];
     let rules = put_rules(&table, forms, lexicon, count, start as u8, &mut records);
     if rules == 0 {
-        return Verdict::Refused(Refusal::Grammar(31, 0));
+        return Err(Refusal::Grammar(31, 0));
     }
     if RULES < rules {
-        return Verdict::Refused(Refusal::Grammar(31, 0));
+        return Err(Refusal::Grammar(31, 0));
     }
     write_made(
         &table,

@@ -9,7 +9,6 @@ use native.Mathlib.Omega.{arith}
 use lib.Dec.{T, ltb}
 use lib.ListN.{length, get_or, length-append, length-map}
 use borrow.Author.Tests.{le-ltb}
-use Rattle.model.specs.declared.CountVerdict.{CountVerdict}
 use Rattle.model.specs.Grammar.{Rule, Grammar, rule_at}
 use Rattle.model.specs.WellFormed.{WellFormed}
 use Rattle.model.specs.GrammarFile.{grammar_refusal, grammar_of}
@@ -34,7 +33,8 @@ use Rattle.minimalist.specs.MakeGrammar.{CountsAgree}
 use Rattle.minimalist.proofs.Agree.{valued}
 use Rattle.minimalist.proofs.FromTrees.{not_start, form_one, nil_cons, from_tree, from_forest, ShapeOf, shape, OneName, one_name, one_tree, same_rule_lem, category_in, daughters_in, unique}
 use Rattle.minimalist.proofs.Derivations.{yield_nonlexical, Sound, sound, Grown, grow, rooted_at, moved_to}
-
+use Rattle.model.specs.Verdict.{CountVerdict, counts}
+use Rattle.std.specs.Prelude.{Ok}
 -- the derivation below the new start
 abbrev pub first_of : List Derivation → Derivation
 first_of [] = leaf (record { word = 0; features = [] })
@@ -220,7 +220,7 @@ counts_agree lexicon words start file made sentence spoken n limit ranges =
             subst (λ (y : Derivation). Memᴰ y (map (top_of g N₁) d.trees)) z.is (map_in (top_of g N₁) (d.whole z.tree z.analysis)),
       );
       derivations_differ = all_different lexicon words start g well made.made d.trees (λ t m. and_l (has_root g t g.start) (spells g sentence t) (d.sound t m).derived) d.different;
-      counted = λ h. called h ∙ ap (λ (c : ℕ). CountVerdict.Counted c (effort g sentence n)) (d.counted ∙ sym (length-map d.trees (top_of g N₁)));
+      counted = λ h. called h ∙ ap (λ (c : ℕ). Ok (counts c (effort g sentence n))) (d.counted ∙ sym (length-map d.trees (top_of g N₁)));
     }
   where
     g : Grammar
@@ -238,5 +238,5 @@ counts_agree lexicon words start file made sentence spoken n limit ranges =
     accepted : grammar_refusal file ≡ none
     accepted = made.accepted
 
-    called : effort g sentence n ≤ limit → count_call file sentence n limit ≡ CountVerdict.Counted (count g sentence n) (effort g sentence n)
+    called : effort g sentence n ≤ limit → count_call file sentence n limit ≡ Ok (counts (count g sentence n) (effort g sentence n))
     called h = let k : ltb limit (effort g sentence n) ≡ false = le-ltb limit (effort g sentence n) h in rw (accepted, ranges, spoken, k)

@@ -9,9 +9,8 @@ use lib.Dec.{T, ltb}
 use lib.ListN.{length, drop, length-map}
 use borrow.Author.Tests.{ltb-false, lt-ltb, le-ltb}
 use Rattle.model.specs.declared.Refusal.{Refusal}
-use Rattle.model.specs.declared.Verdict.{Verdict}
 use Rattle.model.specs.Base.{◌or_else◌}
-use Rattle.model.specs.Verdict.{refuse_if, verdict, verdict_answer}
+use Rattle.model.specs.Verdict.{refuse_if, verdict, verdict_answer, Verdict}
 use Rattle.model.specs.Grammar.{Grammar}
 use Rattle.model.specs.GrammarFile.{blocks_for}
 use Rattle.model.specs.WellFormed.{WellFormed}
@@ -31,6 +30,7 @@ use Rattle.minimalist.specs.Numbering.{numbered_rule, made_grammar}
 use Rattle.minimalist.specs.MakeGrammar.{made_too_large, lexicon_refusal, made_length, make_refusal, MakeOutcome, make_tests, Demand1Made, SizeTested}
 use Rattle.minimalist.proofs.Entries.{size_met, well_made_from}
 use Rattle.minimalist.proofs.MadeFiles.{made_stored, made_file_of}
+use Rattle.std.specs.Prelude.{Ok, Err}
 
 -- tests one after another, by which of them is met
 module _ (o : Option Refusal) (large room : Bool) where
@@ -75,7 +75,7 @@ module _ (bytes : List ℕ) (words start : ℕ) where
     abbrev room : Bool
     room = ltb (length out) (made_length bytes start)
 
-    refused : (r : Refusal) → make_refusal bytes words start out ≡ some r → MakeOutcome bytes words start out (Verdict.Refused r) out
+    refused : (r : Refusal) → make_refusal bytes words start out ≡ some r → MakeOutcome bytes words start out (Err r) out
     refused r e =
         record {
           file = file_for made;
@@ -86,23 +86,23 @@ module _ (bytes : List ℕ) (words start : ℕ) where
         }
 
     -- 30 or 10
-    pub refused_entries : (r : Refusal) → entries_refusal bytes words start ≡ some r → MakeOutcome bytes words start out (Verdict.Refused r) out
+    pub refused_entries : (r : Refusal) → entries_refusal bytes words start ≡ some r → MakeOutcome bytes words start out (Err r) out
     refused_entries r e = refused r (first_met_lem (entries_refusal bytes words start) (made_too_large bytes start) room r e)
 
     -- 31
     pub refused_large : entries_refusal bytes words start ≡ none → made_too_large bytes start ≡ true
-        → MakeOutcome bytes words start out (Verdict.Refused (Refusal.Grammar 31 0)) out
+        → MakeOutcome bytes words start out (Err (Refusal.Grammar 31 0)) out
     refused_large e f = refused (Refusal.Grammar 31 0) (second_met (entries_refusal bytes words start) (made_too_large bytes start) room e f)
 
     -- 23
     pub refused_room : entries_refusal bytes words start ≡ none → made_too_large bytes start ≡ false → length out < made_length bytes start
-        → MakeOutcome bytes words start out (Verdict.Refused (Refusal.Desk 23 0)) out
+        → MakeOutcome bytes words start out (Err (Refusal.Desk 23 0)) out
     refused_room e f h =
         refused (Refusal.Desk 23 0) (third_met (entries_refusal bytes words start) (made_too_large bytes start) room e f (lt-ltb (length out) (made_length bytes start) h))
 
     -- the file
     pub file_put : entries_refusal bytes words start ≡ none → made_too_large bytes start ≡ false → made_length bytes start ≤ length out
-        → (n : ℕ) → n ≡ made_length bytes start → (after : List ℕ) → after ≡ file_for made ++ drop n out → MakeOutcome bytes words start out (Verdict.Accepted n) after
+        → (n : ℕ) → n ≡ made_length bytes start → (after : List ℕ) → after ≡ file_for made ++ drop n out → MakeOutcome bytes words start out (Ok n) after
     file_put e f h n q after w =
         let k = none_met (entries_refusal bytes words start) (made_too_large bytes start) room e f (le-ltb (length out) (made_length bytes start) h) in
         let l = made_long all (first_of (lexicon_refusal bytes words start) (refuse_if room (Refusal.Desk 23 0)) k) in
@@ -110,7 +110,7 @@ module _ (bytes : List ℕ) (words start : ℕ) where
           file = file_for made;
           file_right = made_right all;
           file_length = made_long all;
-          verdict_is = ap Verdict.Accepted q ∙ sym (ap (λ (o : Option Refusal). verdict o (made_length bytes start)) k);
+          verdict_is = ap Ok q ∙ sym (ap (λ (o : Option Refusal). verdict o (made_length bytes start)) k);
           output_is = w ∙ ap (λ (m : ℕ). file_for made ++ drop m out) (q ∙ sym l) ∙ sym (ap (λ (o : Option Refusal). written o (file_for made) out) k);
         }
 

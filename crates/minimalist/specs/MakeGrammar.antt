@@ -1,14 +1,12 @@
 -- The call that makes a grammar file from a lexicon (document 02, paper 6): its refusals, its outcome, and what is promised of it.
 -- Assumes nothing.
-use Rattle.std.specs.Prelude.{◌≡◌, Bool, ℕ, ◌*◌, ◌≤◌, T, ltb, length}
+use Rattle.std.specs.Prelude.{◌≡◌, Bool, ℕ, ◌*◌, ◌≤◌, T, ltb, length, Ok}
 use Rattle.std.proofs.Math.Option.{Option, none}
 use mathlib.Core.List.{List, [], ◌∷◌, map, Memᴰ}
 use Rattle.model.specs.declared.Refusal.{Refusal}
-use Rattle.model.specs.declared.Verdict.{Verdict}
-use Rattle.model.specs.declared.CountVerdict.{CountVerdict}
 use Rattle.model.specs.Base.{◌or_else◌, numbers_from}
 use Rattle.model.specs.Writer.{all_bytes}
-use Rattle.model.specs.Verdict.{refuse_if, verdict, verdict_answer}
+use Rattle.model.specs.Verdict.{refuse_if, verdict, verdict_answer, Verdict, CountVerdict, counts}
 use Rattle.model.specs.GrammarFile.{grammar_of, blocks_for}
 use Rattle.model.specs.Trace.{sentence_refusal}
 use Rattle.model.specs.Counting.{limits_refusal, effort}
@@ -86,7 +84,7 @@ pub record CountsDerivations (lexicon : List Entry) (start : ℕ) (file sentence
   pub derivations_are : (d : Derivation) → Memᴰ d derivations ⇔ Counted lexicon start sentence n d
   pub derivations_differ : Once derivations
   pub counted : effort (grammar_of file) sentence n ≤ limit
-      → count_call file sentence n limit ≡ CountVerdict.Counted (length derivations) (effort (grammar_of file) sentence n)
+      → count_call file sentence n limit ≡ Ok (counts (length derivations) (effort (grammar_of file) sentence n))
 
 -- for every made file, and every sentence and limits that the count does not refuse
 abbrev pub CountsAgree : Type 0

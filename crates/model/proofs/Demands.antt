@@ -10,10 +10,8 @@ use borrow.Author.Tests.{lt-ltb, le-ltb, lt-leb, le-leb, ltb-false, ltb-true}
 use lib.Dec.{T, ltb, leb, eqb}
 use lib.ListN.{length}
 use Rattle.model.specs.declared.Refusal.{Refusal}
-use Rattle.model.specs.declared.Verdict.{Verdict}
-use Rattle.model.specs.declared.CountVerdict.{CountVerdict}
 use Rattle.model.specs.Base.{◌or_else◌}
-use Rattle.model.specs.Verdict.{refuse_if, verdict, count_verdict}
+use Rattle.model.specs.Verdict.{refuse_if, verdict, count_verdict, Verdict, CountVerdict, counts}
 use Rattle.model.specs.Grammar.{Grammar}
 use Rattle.model.specs.WellFormed.{Right}
 use Rattle.model.specs.GrammarFile.{grammar_refusal, grammar_of}
@@ -32,6 +30,7 @@ use Rattle.model.proofs.Checker.{accepted_trace, tree_accepted}
 use Rattle.model.proofs.Analyses.{at, at_good, analyses, derived_trace, trace_derives, trace_of_lem, trace_size, rooted_of, traces_end, of_tree}
 use Rattle.model.proofs.Addresses.{tree_of_lem}
 use Rattle.model.proofs.FromFile.{accepted_right}
+use Rattle.std.specs.Prelude.{Ok, Err}
 
 -- what passes refusal 12 has at most 96 numbers
 short_of : (l : List ℕ) (b : Option Refusal) → length_refusal l or_else b ≡ none → length l ≤ 96
@@ -102,23 +101,23 @@ module _ (file : List ℕ) (accepted : grammar_refusal file ≡ none) (sentence 
   past : (o : Option Refusal) (n : ℕ) → verdict (grammar_refusal file or_else sentence_refusal g sentence or_else o) n ≡ verdict o n
   past o n = rw (accepted, spoken)
 
-  accepted_none : (o : Option Refusal) (n : ℕ) → verdict o n ≡ Verdict.Accepted n → o ≡ none
+  accepted_none : (o : Option Refusal) (n : ℕ) → verdict o n ≡ Ok n → o ≡ none
   accepted_none none n e = refl
   accepted_none (some r) n e = let z : ◌≡◌ {A = ℕ} 0 1 = cc in absurd (omega arith)
 
-  trace_passed : (p : List ℕ) → check_trace_verdict file sentence p ≡ Verdict.Accepted (length p) → trace_refusal g sentence p ≡ none
+  trace_passed : (p : List ℕ) → check_trace_verdict file sentence p ≡ Ok (length p) → trace_refusal g sentence p ≡ none
   trace_passed p e = accepted_none (trace_refusal g sentence p) (length p) (sym (past (trace_refusal g sentence p) (length p)) ∙ e)
 
-  trace_passes : (p : List ℕ) → trace_refusal g sentence p ≡ none → check_trace_verdict file sentence p ≡ Verdict.Accepted (length p)
+  trace_passes : (p : List ℕ) → trace_refusal g sentence p ≡ none → check_trace_verdict file sentence p ≡ Ok (length p)
   trace_passes p e = past (trace_refusal g sentence p) (length p) ∙ none_accepted (length p) e
 
-  tree_passed : (l : List ℕ) → check_tree_verdict file sentence l ≡ Verdict.Accepted (length l) → tree_refusal g sentence l ≡ none
+  tree_passed : (l : List ℕ) → check_tree_verdict file sentence l ≡ Ok (length l) → tree_refusal g sentence l ≡ none
   tree_passed l e = accepted_none (tree_refusal g sentence l) (length l) (sym (past (tree_refusal g sentence l) (length l)) ∙ e)
 
-  tree_passes : (l : List ℕ) → tree_refusal g sentence l ≡ none → check_tree_verdict file sentence l ≡ Verdict.Accepted (length l)
+  tree_passes : (l : List ℕ) → tree_refusal g sentence l ≡ none → check_tree_verdict file sentence l ≡ Ok (length l)
   tree_passes l e = past (tree_refusal g sentence l) (length l) ∙ none_accepted (length l) e
 
-  to_tree : (p : List ℕ) → check_trace_verdict file sentence p ≡ Verdict.Accepted (length p) → ToTree file sentence p
+  to_tree : (p : List ℕ) → check_trace_verdict file sentence p ≡ Ok (length p) → ToTree file sentence p
   to_tree p e =
       let f = trace_passed p e in
       let a = accepted_trace g right sentence p f in
@@ -130,11 +129,11 @@ module _ (file : List ℕ) (accepted : grammar_refusal file ≡ none) (sentence 
         tree = a.tree;
         converted = l;
         belongs = subst (λ (x : List ℕ). BelongsTo g sentence x a.tree) a.trace b.traces;
-        accepted = ap (check_tree_verdict file sentence) l ∙ tree_passes (preorder a.tree) c ∙ ap Verdict.Accepted s;
+        accepted = ap (check_tree_verdict file sentence) l ∙ tree_passes (preorder a.tree) c ∙ ap Ok s;
         back = ap (trace_of g sentence) l ∙ a.trace;
       }
 
-  to_trace : (l : List ℕ) → check_tree_verdict file sentence l ≡ Verdict.Accepted (length l) → ToTrace file sentence l
+  to_trace : (l : List ℕ) → check_tree_verdict file sentence l ≡ Ok (length l) → ToTrace file sentence l
   to_trace l e =
       let f = tree_passed l e in
       let d = accepted_derives g sentence l f in
@@ -146,7 +145,7 @@ module _ (file : List ℕ) (accepted : grammar_refusal file ≡ none) (sentence 
         tree = d.tree;
         listed = d.listed;
         belongs = subst (λ (x : List ℕ). BelongsTo g sentence x d.tree) h b.traces;
-        accepted = ap (check_trace_verdict file sentence) (sym h) ∙ trace_passes (trace_of_tree g sentence d.tree) c ∙ ap Verdict.Accepted (b.size ∙ ap length d.listed);
+        accepted = ap (check_trace_verdict file sentence) (sym h) ∙ trace_passes (trace_of_tree g sentence d.tree) c ∙ ap Ok (b.size ∙ ap length d.listed);
         back = ap (tree_of g sentence) (sym h) ∙ tree_back g right sentence d.tree d.derived ∙ d.listed;
       }
 
@@ -166,10 +165,10 @@ module _ (file : List ℕ) (accepted : grammar_refusal file ≡ none) (sentence 
         → count_call file sentence n limit ≡ count_verdict (refuse_if b (Refusal.Desk 25 0)) (count g sentence n) (effort g sentence n)
     count_by b e = rw (accepted, ranges, spoken, e)
 
-    too_much : (count_call file sentence n limit ≡ CountVerdict.NotCounted (Refusal.Desk 25 0)) ⇔ limit < effort g sentence n
+    too_much : (count_call file sentence n limit ≡ Err (Refusal.Desk 25 0)) ⇔ limit < effort g sentence n
     too_much = (λ e. over (ltb limit (effort g sentence n)) refl e, λ h. count_by true (lt-ltb limit (effort g sentence n) h))
       where
-        over : (b : Bool) → ltb limit (effort g sentence n) ≡ b → count_call file sentence n limit ≡ CountVerdict.NotCounted (Refusal.Desk 25 0)
+        over : (b : Bool) → ltb limit (effort g sentence n) ≡ b → count_call file sentence n limit ≡ Err (Refusal.Desk 25 0)
             → limit < effort g sentence n
         over true e f = ltb-true limit (effort g sentence n) e
         over false e f = let k = count_by false e in let z : ◌≡◌ {A = ℕ} 0 1 = cc in absurd (omega arith)
@@ -191,18 +190,18 @@ module _ (file : List ℕ) (accepted : grammar_refusal file ≡ none) (sentence 
         let r : ltb (length out) 96 ≡ false = le-ltb (length out) 96 room in
         rw (accepted, r, ranges, spoken, e, f)
 
-    no_effort : (d : Bool) (k : ℕ) → verdict (refuse_if d (Refusal.Desk 26 0)) k ≡ Verdict.Refused (Refusal.Desk 25 0) → ⊥
+    no_effort : (d : Bool) (k : ℕ) → verdict (refuse_if d (Refusal.Desk 26 0)) k ≡ Err (Refusal.Desk 25 0) → ⊥
     no_effort true k h = let z : ◌≡◌ {A = ℕ} 26 25 = cc in absurd (omega arith)
     no_effort false k h = let z : ◌≡◌ {A = ℕ} 0 1 = cc in absurd (omega arith)
 
     entry_too_much : (out : List ℕ) → 96 ≤ length out → (m : ℕ)
-        → (entry_verdict file sentence n limit m out ≡ Verdict.Refused (Refusal.Desk 25 0)) ⇔ limit < effort g sentence n
+        → (entry_verdict file sentence n limit m out ≡ Err (Refusal.Desk 25 0)) ⇔ limit < effort g sentence n
     entry_too_much out room m = (
       λ e. over (ltb limit (effort g sentence n)) refl e,
       λ h. entry_tests out room m true (leb (count g sentence n) m) (lt-ltb limit (effort g sentence n) h) refl,
     )
       where
-        over : (b : Bool) → ltb limit (effort g sentence n) ≡ b → entry_verdict file sentence n limit m out ≡ Verdict.Refused (Refusal.Desk 25 0)
+        over : (b : Bool) → ltb limit (effort g sentence n) ≡ b → entry_verdict file sentence n limit m out ≡ Err (Refusal.Desk 25 0)
             → limit < effort g sentence n
         over true e f = ltb-true limit (effort g sentence n) e
         over false e f =
@@ -233,7 +232,7 @@ module _ (file : List ℕ) (accepted : grammar_refusal file ≡ none) (sentence 
           listing_differs = order_different (listing g sentence n) o;
           listing_counts = a.counted;
           too_much = too_much;
-          counted = λ h. count_by false (le-ltb limit (effort g sentence n) h) ∙ ap (λ (c : ℕ). CountVerdict.Counted c (effort g sentence n)) a.counted;
+          counted = λ h. count_by false (le-ltb limit (effort g sentence n) h) ∙ ap (λ (c : ℕ). Ok (counts c (effort g sentence n))) a.counted;
           entry_too_much = entry_too_much;
           entry_unwritten = entry_unwritten;
           entry_is = λ h out room m k. entry_by h out room m false (lt-leb (count g sentence n) m (omega (arith, a.counted)));

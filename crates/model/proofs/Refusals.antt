@@ -13,9 +13,8 @@ use lib.Dec.{ltb, leb, eqb}
 use lib.ListN.{length}
 use Rattle.model.specs.declared.Refusal.{Refusal}
 use Rattle.model.specs.declared.Refusal.TheVariants.{Grammar as OfGrammar, Analysis as OfAnalysis, Desk as OfDesk}
-use Rattle.model.specs.declared.Verdict.{Verdict}
 use Rattle.model.specs.Base.{◌or_else◌, first_from, each, numbers_from}
-use Rattle.model.specs.Verdict.{Author, grammar_author, analysis_author, desk, Answer, values, refusal, refusal_answer, verdict_answer, count_answer, refuse_if, verdict, count_verdict}
+use Rattle.model.specs.Verdict.{Author, grammar_author, analysis_author, desk, Answer, values, refusal, refusal_answer, verdict_answer, count_answer, refuse_if, verdict, count_verdict, Verdict}
 use Rattle.model.specs.Grammar.{Rule, Grammar, empty_word, rule_at, is_lexical, daughters_by}
 use Rattle.model.specs.GrammarFile.{grammar_of, categories_of, grammar_refusal, rule_refusal, blocks, rules_of, dimensions_of, words_of, record_of, wrong_category, wrong_word, wrong_variables, unused_set, repeated, wrong_length, wrong_check, wrong_block, wrong_heading, wrong_blocks, wrong_count, wrong_rest}
 use Rattle.model.specs.Writer.{Heading, file_of, heading_block}

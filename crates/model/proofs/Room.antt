@@ -10,9 +10,8 @@ use borrow.Author.Tests.{ltb-false, leb-false}
 use lib.Dec.{ltb, leb, leb→le}
 use lib.ListN.{length}
 use Rattle.model.specs.declared.Refusal.{Refusal}
-use Rattle.model.specs.declared.Verdict.{Verdict}
 use Rattle.model.specs.Base.{◌or_else◌}
-use Rattle.model.specs.Verdict.{refuse_if, verdict}
+use Rattle.model.specs.Verdict.{refuse_if, verdict, Verdict}
 use Rattle.model.specs.Grammar.{Grammar}
 use Rattle.model.specs.GrammarFile.{grammar_refusal, grammar_of}
 use Rattle.model.specs.Writer.{Heading, file_of, writer_refusal}
@@ -28,6 +27,7 @@ use Rattle.model.proofs.Lists.{mem_get_d, map_out}
 use Rattle.model.proofs.Verdicts.{none_accepted, room_long}
 use Rattle.model.proofs.FromFile.{accepted_right, categories_few}
 use Rattle.model.proofs.Demands.{trace_short, tree_short, demand_2, demand_3}
+use Rattle.std.specs.Prelude.{Ok}
 
 pub file_fits : (h : Heading) (records out : List ℕ) → write_refusal h records out ≡ none → length (file_of h records) ≤ length out
 file_fits h records out e =
@@ -36,7 +36,7 @@ file_fits h records out e =
     (rest_of (writer_refusal h records) (refuse_if (ltb (length out) (length (file_of h records))) (Refusal.Desk 23 0)) e))
 
 -- the number of an accepted verdict
-value_is : (o : Option Refusal) {n m : ℕ} → verdict o n ≡ Verdict.Accepted m → n ≡ m
+value_is : (o : Option Refusal) {n m : ℕ} → verdict o n ≡ Ok m → n ≡ m
 value_is none e = cc
 value_is (some r) e = let z : ◌≡◌ {A = ℕ} 0 1 = cc in absurd (omega arith)
 

@@ -7,11 +7,9 @@ use Prim.Native.Nat.{ℕ, suc, ◌+◌, ◌-◌, ◌<◌, ◌≤◌}
 use native.Mathlib.Omega.{arith}
 use native.Mathlib.Numerals.{add-one}
 use Rattle.model.specs.declared.Refusal.{Refusal}
-use Rattle.model.specs.declared.Tested.{Tested}
-use Rattle.model.specs.declared.Tested.TheVariants.{Passed, Met}
 use Rattle.model.specs.Base.{first_from}
-use Rattle.model.specs.Verdict.{refuse_if, tested}
-
+use Rattle.model.specs.Verdict.{refuse_if, tested, Tested}
+use Rattle.std.specs.Prelude.{Ok, Err}
 -- one test
 module _ (b : Bool) (r : Refusal) where
   pub refuse_on : b ≡ true → refuse_if b r ≡ some r
@@ -32,8 +30,8 @@ module _ (test : ℕ → Option Refusal) where
   pub left_pass : (k n : ℕ) → k < n → test k ≡ none → left k n ≡ left (k + 1) n
   left_pass k n h e = let s : n - k ≡ suc (n - (k + 1)) = omega arith in rw (s, add-one k) (rw e)
 
-  pub left_stop : (k n : ℕ) {r : Refusal} → k < n → test k ≡ some r → left k n ≡ Met r
+  pub left_stop : (k n : ℕ) {r : Refusal} → k < n → test k ≡ some r → left k n ≡ Err r
   left_stop k n h e = let s : n - k ≡ suc (n - (k + 1)) = omega arith in rw s (rw e)
 
-  pub left_end : (k n : ℕ) → n ≤ k → left k n ≡ Passed
+  pub left_end : (k n : ℕ) → n ≤ k → left k n ≡ Ok tt
   left_end k n h = let e : n - k ≡ 0 = omega arith in rw e

@@ -13,7 +13,7 @@ use lib.Dec.{T, ltb, eqb}
 use lib.ListN.{length, get_or}
 use Rattle.model.specs.declared.Refusal.{Refusal}
 use Rattle.model.specs.Base.{◌or_else◌, first_from, every}
-use Rattle.model.specs.Verdict.{refuse_if}
+use Rattle.model.specs.Verdict.{refuse_if, counts}
 use Rattle.model.specs.GrammarFile.{within, all_zero, fields, blocks, byte_of, two_bytes, four_bytes, check_of, categories_of, start_of, words_of, rules_of, dimensions_of, dimension_in, blocks_for, records_in, record_of, wrong_category, wrong_word, wrong_variables, unused_set, same_rule, record_refusal, rule_refusal, wrong_length, wrong_check, wrong_block, wrong_heading, wrong_blocks, wrong_count, wrong_rest, grammar_refusal}
 use Rattle.model.specs.Writer.{Heading, all_bytes, fits_fields, heading_block, file_of}
 use Rattle.model.proofs.Tests.{any_same, first_same, no_first, skip, on_not, or_none}

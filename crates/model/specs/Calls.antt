@@ -4,10 +4,8 @@
 use Rattle.std.specs.Prelude.{◌≡◌, ℕ, List, ◌++◌, ltb, length, drop}
 use Rattle.std.proofs.Math.Option.{Option, none, some}
 use Rattle.model.specs.declared.Refusal.{Refusal}
-use Rattle.model.specs.declared.Verdict.{Verdict}
-use Rattle.model.specs.declared.CountVerdict.{CountVerdict}
 use Rattle.model.specs.Base.{◌or_else◌}
-use Rattle.model.specs.Verdict.{refuse_if, verdict, count_verdict}
+use Rattle.model.specs.Verdict.{refuse_if, verdict, count_verdict, Verdict, CountVerdict}
 use Rattle.model.specs.GrammarFile.{grammar_refusal, grammar_of, rules_of, categories_of}
 use Rattle.model.specs.Writer.{Heading, file_of, writer_refusal}
 use Rattle.model.specs.Trace.{sentence_refusal, trace_refusal}

@@ -1,12 +1,10 @@
 -- The three demands, as statements about the calls: `Demand1` (proved in proofs/Refusals.antt), `Demand2` and `Demand3` (in proofs/Demands.antt). Each is
 -- quoted before its record.
 -- Assumes nothing.
-use Rattle.std.specs.Prelude.{◌≡◌, ℕ, ◌<◌, ◌≤◌, true, false, T, length, get_or, drop}
+use Rattle.std.specs.Prelude.{◌≡◌, ℕ, ◌<◌, ◌≤◌, true, false, T, length, get_or, drop, Ok, Err}
 use Rattle.std.proofs.Math.Option.{none, some}
 use mathlib.Core.List.{List, [], ◌∷◌, ◌++◌, map, Memᴰ}
 use Rattle.model.specs.declared.Refusal.{Refusal}
-use Rattle.model.specs.declared.Verdict.{Verdict}
-use Rattle.model.specs.declared.CountVerdict.{CountVerdict}
 use Rattle.model.specs.Grammar.{Grammar}
 use Rattle.model.specs.GrammarFile.{grammar_refusal, grammar_of, rules_of, categories_of}
 use Rattle.model.specs.Step.{State}
@@ -15,7 +13,7 @@ use Rattle.model.specs.Tree.{Tree, preorder, derives}
 use Rattle.model.specs.Conversions.{BelongsTo, tree_of, trace_of}
 use Rattle.model.specs.Counting.{start, listing, count, effort, entry, limits_refusal}
 use Rattle.model.specs.LivePrefixes.{Live, InOrder, Different}
-use Rattle.model.specs.Verdict.{Author, Answer, values, refusal, verdict_answer, count_answer}
+use Rattle.model.specs.Verdict.{Author, Answer, values, refusal, verdict_answer, count_answer, Verdict, CountVerdict, counts}
 use Rattle.model.specs.Writer.{Heading, file_of}
 use Rattle.model.specs.Survey.{Surveyed}
 use Rattle.model.specs.Calls.{read_verdict, write_verdict, write_output, check_trace_verdict, check_tree_verdict, trace_to_tree_verdict, trace_to_tree_output, tree_to_trace_verdict, tree_to_trace_output, count_call, entry_verdict, entry_output, SurveyOutcome}
@@ -110,7 +108,7 @@ module _ (file sentence : List ℕ) where
     pub tree : Tree
     pub converted : tree_of (grammar_of file) sentence trace ≡ preorder tree
     pub belongs : BelongsTo (grammar_of file) sentence trace tree
-    pub accepted : check_tree_verdict file sentence (tree_of (grammar_of file) sentence trace) ≡ Verdict.Accepted (length trace)
+    pub accepted : check_tree_verdict file sentence (tree_of (grammar_of file) sentence trace) ≡ Ok (length trace)
     pub back : trace_of (grammar_of file) sentence (tree_of (grammar_of file) sentence trace) ≡ trace
 
   -- an accepted tree: the trace that belongs to it is accepted with as many steps as the tree has nodes, and its tree is that tree again
@@ -118,7 +116,7 @@ module _ (file sentence : List ℕ) where
     pub tree : Tree
     pub listed : preorder tree ≡ list
     pub belongs : BelongsTo (grammar_of file) sentence (trace_of (grammar_of file) sentence list) tree
-    pub accepted : check_trace_verdict file sentence (trace_of (grammar_of file) sentence list) ≡ Verdict.Accepted (length list)
+    pub accepted : check_trace_verdict file sentence (trace_of (grammar_of file) sentence list) ≡ Ok (length list)
     pub back : tree_of (grammar_of file) sentence (trace_of (grammar_of file) sentence list) ≡ list
 
   -- Demand 2: "Verdicts agree with the normal form for multiple context-free grammars and the top-down recognizer in Stabler's W11-0605. A trace of at most
@@ -128,11 +126,11 @@ module _ (file sentence : List ℕ) where
   -- For one grammar file and one sentence; for which ones is said in `Demand2`.
   pub record Demand2For : Type 0 where
     pub traces : (trace : List ℕ) → length trace ≤ 96
-        → (check_trace_verdict file sentence trace ≡ Verdict.Accepted (length trace)) ⇔ Recognized (grammar_of file) sentence trace
+        → (check_trace_verdict file sentence trace ≡ Ok (length trace)) ⇔ Recognized (grammar_of file) sentence trace
     pub trees : (list : List ℕ) → length list ≤ 96
-        → (check_tree_verdict file sentence list ≡ Verdict.Accepted (length list)) ⇔ Derivation (grammar_of file) sentence list
-    pub to_tree : (trace : List ℕ) → check_trace_verdict file sentence trace ≡ Verdict.Accepted (length trace) → ToTree trace
-    pub to_trace : (list : List ℕ) → check_tree_verdict file sentence list ≡ Verdict.Accepted (length list) → ToTrace list
+        → (check_tree_verdict file sentence list ≡ Ok (length list)) ⇔ Derivation (grammar_of file) sentence list
+    pub to_tree : (trace : List ℕ) → check_trace_verdict file sentence trace ≡ Ok (length trace) → ToTree trace
+    pub to_trace : (list : List ℕ) → check_tree_verdict file sentence list ≡ Ok (length list) → ToTrace list
 
 -- Demand 2 whole: for every grammar file that the reader accepts and, "a fitting yield standing for an equal one, for every sentence that meets neither 11 nor
 -- 29" (document 02, paper 5)
@@ -175,19 +173,19 @@ pub record Demand3For (file sentence : List ℕ) (n limit : ℕ) : Type 0 where
   pub listing_differs : Different (listing (grammar_of file) sentence n)
   pub listing_counts : length (listing (grammar_of file) sentence n) ≡ length trees
   -- the count call: refused for effort exactly when there are more live prefixes than the limit, else count and effort
-  pub too_much : (count_call file sentence n limit ≡ CountVerdict.NotCounted (Refusal.Desk 25 0)) ⇔ limit < length prefixes
-  pub counted : length prefixes ≤ limit → count_call file sentence n limit ≡ CountVerdict.Counted (length trees) (length prefixes)
+  pub too_much : (count_call file sentence n limit ≡ Err (Refusal.Desk 25 0)) ⇔ limit < length prefixes
+  pub counted : length prefixes ≤ limit → count_call file sentence n limit ≡ Ok (counts (length trees) (length prefixes))
   -- the call for an entry, with room in the output: refused for effort exactly when the count is, and the output is then as it was
   pub entry_too_much : (out : List ℕ) → 96 ≤ length out → (m : ℕ)
-      → (entry_verdict file sentence n limit m out ≡ Verdict.Refused (Refusal.Desk 25 0)) ⇔ limit < length prefixes
+      → (entry_verdict file sentence n limit m out ≡ Err (Refusal.Desk 25 0)) ⇔ limit < length prefixes
   pub entry_unwritten : limit < length prefixes → (out : List ℕ) → 96 ≤ length out → (m : ℕ) → entry_output file sentence n limit m out ≡ out
   -- the call for entry m: the m-th of the listing, or 26 and the output is as it was
   pub entry_is : length prefixes ≤ limit → (out : List ℕ) → 96 ≤ length out → (m : ℕ) → m < length trees
-      → (entry_verdict file sentence n limit m out ≡ Verdict.Accepted (length (get_or (listing (grammar_of file) sentence n) m [])))
+      → (entry_verdict file sentence n limit m out ≡ Ok (length (get_or (listing (grammar_of file) sentence n) m [])))
       × (entry_output file sentence n limit m out
       ≡ get_or (listing (grammar_of file) sentence n) m [] ++ drop (length (get_or (listing (grammar_of file) sentence n) m [])) out)
   pub no_entry : length prefixes ≤ limit → (out : List ℕ) → 96 ≤ length out → (m : ℕ) → length trees ≤ m
-      → (entry_verdict file sentence n limit m out ≡ Verdict.Refused (Refusal.Desk 26 0)) × (entry_output file sentence n limit m out ≡ out)
+      → (entry_verdict file sentence n limit m out ≡ Err (Refusal.Desk 26 0)) × (entry_output file sentence n limit m out ≡ out)
 
 -- Demand 3 whole: "All of this demand holds for every accepted grammar, every sentence of at most 96 of its words, every node limit N from 1 to 96 and every
 -- effort limit from 1 to 1,000,000,000"; since paper 5 of document 02 "for every sentence that meets neither 11 nor 29". What is asked is that no test of the

@@ -1,15 +1,10 @@
--- Verdicts and refusals (document 01, "Who can cause a refusal"): what the enums of src/lib.rt say in the paper's terms, and how tests are joined.
+-- Verdicts and refusals (document 01, "Who can cause a refusal"): what refusals and answers of src/lib.rt say in the paper's terms, and how tests are joined.
 -- Assumes nothing.
-use Rattle.std.specs.Prelude.{ℕ, Bool, true, false, List, [], ◌∷◌}
+use Rattle.std.specs.Prelude.{ℕ, Bool, true, false, List, [], ◌∷◌, Result, Ok, Err}
 use Rattle.std.proofs.Math.Option.{Option, none, some}
 use Rattle.model.specs.declared.Refusal.{Refusal}
 use Rattle.model.specs.declared.Refusal.TheVariants.{Grammar, Analysis, Desk}
-use Rattle.model.specs.declared.Verdict.{Verdict}
-use Rattle.model.specs.declared.Verdict.TheVariants.{Accepted, Refused}
-use Rattle.model.specs.declared.Tested.{Tested}
-use Rattle.model.specs.declared.Tested.TheVariants.{Passed, Met}
-use Rattle.model.specs.declared.CountVerdict.{CountVerdict}
-use Rattle.model.specs.declared.CountVerdict.TheVariants.{Counted, NotCounted}
+use Rattle.model.specs.declared.Counts.{Counts}
 
 -- "a refusal says whose it is: the grammar's, the analysis's or the desk's"
 pub data Author : Type 0 where
@@ -40,31 +35,48 @@ pub data Answer : Type 0 where
 abbrev pub refusal_answer : Refusal → Answer
 refusal_answer r = refusal (author r) (number r) (place r)
 
+-- what a row of tests answers: all pass, or the refusal of the first that does not
+abbrev pub Tested : Type 0
+Tested = Result Unit Refusal
+
+-- a number, or a refusal
+abbrev pub Verdict : Type 0
+Verdict = Result ℕ Refusal
+
+-- count and effort, or a refusal
+abbrev pub CountVerdict : Type 0
+CountVerdict = Result Counts Refusal
+
+abbrev pub counts : ℕ → ℕ → Counts
+counts count effort = record { count = count; effort = effort }
+
 abbrev pub verdict_answer : Verdict → Answer
-verdict_answer (Accepted n) = values (n ∷ [])
-verdict_answer (Refused r) = refusal_answer r
+verdict_answer (Ok n) = values (n ∷ [])
+verdict_answer (Err r) = refusal_answer r
 
 abbrev pub count_answer : CountVerdict → Answer
-count_answer (Counted count effort) = values (count ∷ effort ∷ [])
-count_answer (NotCounted r) = refusal_answer r
+count_answer (Ok c) = values (c.count ∷ c.effort ∷ [])
+count_answer (Err r) = refusal_answer r
 
 -- r, if the test passes
 abbrev pub refuse_if : Bool → Refusal → Option Refusal
 refuse_if true r = some r
 refuse_if false r = none
 
+-- the answer of a call: the first refusal of its tests, or else its value
+abbrev pub answered : {A : Type 0} → Option Refusal → A → Result A Refusal
+answered none a = Ok a
+answered (some r) a = Err r
+
 -- the answer of tests joined: they pass, or the first refusal there is
 abbrev pub tested : Option Refusal → Tested
-tested none = Passed
-tested (some r) = Met r
+tested tests = answered tests tt
 
 -- a verdict is a refusal, the first there is, or else a number: a node count, "of the reader R", "of the survey C", "of the writer the file's length", a sum of
 -- weights (document 02, paper 1), or a day's number, or 1 or 0 for open or not (paper 3)
 abbrev pub verdict : Option Refusal → ℕ → Verdict
-verdict none n = Accepted n
-verdict (some r) n = Refused r
+verdict tests n = answered tests n
 
 -- "of the count, count and effort"
 abbrev pub count_verdict : Option Refusal → ℕ → ℕ → CountVerdict
-count_verdict none count effort = Counted count effort
-count_verdict (some r) count effort = NotCounted r
+count_verdict tests count effort = answered tests (counts count effort)

@@ -5,14 +5,11 @@
 -- between papers 1 and 4 `grammar_refusal_between` and the grammar of today, `grammar_of`. Sentences are those of paper 5 here; specs/OwnAnswers.antt is about
 -- sentences of words, as they were then.
 -- Assumes nothing.
-use Rattle.std.specs.Prelude.{◌≡◌, ◌⊎◌, ℕ, ◌+◌, ◌-◌, ◌*◌, ◌%◌, ◌<◌, Bool, not, List, [], ◌∷◌, ◌++◌, map, T, ltb, eqb, length, if◌then◌else◌}
+use Rattle.std.specs.Prelude.{◌≡◌, ◌⊎◌, ℕ, ◌+◌, ◌-◌, ◌*◌, ◌%◌, ◌<◌, Bool, not, List, [], ◌∷◌, ◌++◌, map, T, ltb, eqb, length, if◌then◌else◌, Err}
 use Rattle.std.proofs.Math.Option.{Option, none, some}
 use Rattle.model.specs.declared.Refusal.{Refusal}
-use Rattle.model.specs.declared.Verdict.{Verdict}
-use Rattle.model.specs.declared.Verdict.TheVariants.{Refused}
-use Rattle.model.specs.declared.CountVerdict.TheVariants.{NotCounted}
 use Rattle.model.specs.Base.{◌or_else◌, first_from, numbers_from, same_list, any_below}
-use Rattle.model.specs.Verdict.{refuse_if, verdict, count_verdict}
+use Rattle.model.specs.Verdict.{refuse_if, verdict, count_verdict, Verdict}
 use Rattle.model.specs.Grammar.{Rule, Grammar, rule_at}
 use Rattle.model.specs.GrammarFile.{all_zero, fields, field, daughters_of, has_daughters, word_of, lengths_of, sequences, dimension_in, variables, blocks, categories_of, start_of, rules_of, words_of, dimensions_of, record_of, same_record, wrong_category, wrong_word, wrong_variables, unused_set, wrong_length, wrong_check, wrong_block, wrong_heading, wrong_blocks, wrong_count, wrong_rest, grammar_refusal, grammar_of}
 use Rattle.model.specs.Writer.{Heading, all_bytes, padded, heading_block, file_of}
@@ -177,22 +174,22 @@ module _ (file : List ℕ) where
   -- 10 at rule i
   pub record Lost (i : ℕ) : Type 0 where
     pub refused_now : grammar_refusal file ≡ some (Refusal.Grammar 10 i)
-    pub reader : read_verdict file ≡ Refused (Refusal.Grammar 10 i)
+    pub reader : read_verdict file ≡ Err (Refusal.Grammar 10 i)
     pub writer : (h : Heading) (records out : List ℕ) → file_of h records ≡ file
         → (write_verdict h records out ≡ verdict (writer_tests h records (some (Refusal.Grammar 10 i))) 0) × (write_output h records out ≡ out)
-    pub trace_checker : (sentence trace : List ℕ) → check_trace_verdict file sentence trace ≡ Refused (Refusal.Grammar 10 i)
-    pub tree_checker : (sentence tree : List ℕ) → check_tree_verdict file sentence tree ≡ Refused (Refusal.Grammar 10 i)
+    pub trace_checker : (sentence trace : List ℕ) → check_trace_verdict file sentence trace ≡ Err (Refusal.Grammar 10 i)
+    pub tree_checker : (sentence tree : List ℕ) → check_tree_verdict file sentence tree ≡ Err (Refusal.Grammar 10 i)
     pub trace_to_tree : (sentence trace out : List ℕ)
-        → (trace_to_tree_verdict file sentence trace out ≡ Refused (Refusal.Grammar 10 i)) × (trace_to_tree_output file sentence trace out ≡ out)
+        → (trace_to_tree_verdict file sentence trace out ≡ Err (Refusal.Grammar 10 i)) × (trace_to_tree_output file sentence trace out ≡ out)
     pub tree_to_trace : (sentence tree out : List ℕ)
-        → (tree_to_trace_verdict file sentence tree out ≡ Refused (Refusal.Grammar 10 i)) × (tree_to_trace_output file sentence tree out ≡ out)
-    pub counted : (sentence : List ℕ) (n limit : ℕ) → count_call file sentence n limit ≡ NotCounted (Refusal.Grammar 10 i)
+        → (tree_to_trace_verdict file sentence tree out ≡ Err (Refusal.Grammar 10 i)) × (tree_to_trace_output file sentence tree out ≡ out)
+    pub counted : (sentence : List ℕ) (n limit : ℕ) → count_call file sentence n limit ≡ Err (Refusal.Grammar 10 i)
     pub entered : (sentence : List ℕ) (n limit m : ℕ) (out : List ℕ)
-        → (entry_verdict file sentence n limit m out ≡ Refused (Refusal.Grammar 10 i)) × (entry_output file sentence n limit m out ≡ out)
+        → (entry_verdict file sentence n limit m out ≡ Err (Refusal.Grammar 10 i)) × (entry_output file sentence n limit m out ≡ out)
     pub surveyed : (out : List ℕ) (answer : Verdict) (after : List ℕ)
-        → SurveyOutcome file out answer after → (answer ≡ Refused (Refusal.Grammar 10 i)) × (after ≡ out)
-    pub trace_weighed : (sentence trace : List ℕ) → weigh_trace_verdict file sentence trace ≡ Refused (Refusal.Grammar 10 i)
-    pub tree_weighed : (sentence tree : List ℕ) → weigh_tree_verdict file sentence tree ≡ Refused (Refusal.Grammar 10 i)
+        → SurveyOutcome file out answer after → (answer ≡ Err (Refusal.Grammar 10 i)) × (after ≡ out)
+    pub trace_weighed : (sentence trace : List ℕ) → weigh_trace_verdict file sentence trace ≡ Err (Refusal.Grammar 10 i)
+    pub tree_weighed : (sentence tree : List ℕ) → weigh_tree_verdict file sentence tree ≡ Err (Refusal.Grammar 10 i)
     pub program_prints : (sentence_file : List ℕ) → program file sentence_file ≡ printed (some (Refusal.Grammar 10 i)) []
 
 module _ (g : Grammar) where

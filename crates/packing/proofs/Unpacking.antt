@@ -1,6 +1,6 @@
 -- A packed verdict says what the verdict says: nothing is lost on the way to C.
 -- Assumes nothing.
-use Rattle.std.specs.Prelude.{if◌then◌else◌}
+use Rattle.std.specs.Prelude.{if◌then◌else◌, Ok, Err}
 use mathlib.Core.Path.{◌≡◌, ap, ◌∙◌}
 use mathlib.Core.Bool.{Bool, true, false}
 use mathlib.Core.List.{[], ◌∷◌}
@@ -10,14 +10,10 @@ use borrow.Author.Tests.{lt-ltb, le-ltb}
 use lib.Dec.{ltb}
 use Rattle.model.specs.declared.Refusal.{Refusal}
 use Rattle.model.specs.declared.Refusal.TheVariants.{Grammar, Analysis, Desk}
-use Rattle.model.specs.declared.Verdict.{Verdict}
-use Rattle.model.specs.declared.Verdict.TheVariants.{Accepted, Refused}
-use Rattle.model.specs.declared.CountVerdict.{CountVerdict}
-use Rattle.model.specs.declared.CountVerdict.TheVariants.{Counted, NotCounted}
 use Rattle.dates.specs.declared.DateVerdict.{DateVerdict}
 use Rattle.dates.specs.declared.DateVerdict.TheVariants.{Dated, NotDated}
 use Rattle.dates.specs.Dates.{date_answer}
-use Rattle.model.specs.Verdict.{author, number, place, Answer, values, refusal, refusal_answer, verdict_answer, count_answer}
+use Rattle.model.specs.Verdict.{author, number, place, Answer, values, refusal, refusal_answer, verdict_answer, count_answer, Verdict, CountVerdict}
 use Rattle.packing.specs.Packing.{author_code, packed_refusal, packed_verdict, packed_count, packed_date, author_of, unpacked_refusal, unpacked_verdict, unpacked_count, unpacked_date, Fits, VerdictFits, CountFits, DateFits, Says, SaysCount, SaysDate}
 
 abbrev packed : ℕ → ℕ → ℕ → ℕ
@@ -43,17 +39,19 @@ by_refusal : (r : Refusal) (a : Answer) → Fits r → (if ltb (packed_refusal r
 by_refusal r a f = ap (λ (b : Bool). if b then a else unpacked_refusal (packed_refusal r)) (above (author_code (author r)) (number r) (place r)) ∙ refusal_back r f
 
 pub verdict_back : (v : Verdict) → VerdictFits v → unpacked_verdict (packed_verdict v) ≡ verdict_answer v
-verdict_back (Accepted n) f = rw (lt-ltb n 9223372036854775808 (omega (arith, f)))
-verdict_back (Refused r) f = by_refusal r (values (packed_refusal r ∷ [])) f
+verdict_back (Ok n) f = rw (lt-ltb n 9223372036854775808 (omega (arith, f)))
+verdict_back (Err r) f = by_refusal r (values (packed_refusal r ∷ [])) f
 
 pub count_back : (v : CountVerdict) → CountFits v → unpacked_count (packed_count v) ≡ count_answer v
-count_back (Counted c e) f =
+count_back (Ok x) f =
+    let c = x.count in
+    let e = x.effort in
     let x = c + 1073741824 * e in
     let low : ltb (c + 1073741824 * e) 9223372036854775808 ≡ true = lt-ltb (c + 1073741824 * e) 9223372036854775808 (omega (arith, f.0, f.1)) in
     let first : (c + 1073741824 * e) % 1073741824 ≡ c = omega (arith, f.0) in
     let second : (c + 1073741824 * e) / 1073741824 ≡ e = omega (arith, f.0) in
     rw low (λ i. values (first i ∷ second i ∷ []))
-count_back (NotCounted r) f = by_refusal r (values (packed_refusal r % 1073741824 ∷ packed_refusal r / 1073741824 ∷ [])) f
+count_back (Err r) f = by_refusal r (values (packed_refusal r % 1073741824 ∷ packed_refusal r / 1073741824 ∷ [])) f
 
 pub date_back : (v : DateVerdict) → DateFits v → unpacked_date (packed_date v) ≡ date_answer v
 date_back (Dated d) f =

@@ -1,16 +1,11 @@
 -- A verdict as one 64-bit number, for C: bit 63 tells a refusal; of a refusal bits 40-47 are whose it is, bits 32-39 its number, bits 0-31 its place; of
 -- a count bits 0-29 are the count and bits 30-59 the effort; of a date bits 16-31 are the year, bits 8-15 the month and bits 0-7 the day.
 -- Assumes nothing.
-use Rattle.std.specs.Prelude.{◌≡◌, ℕ, ◌+◌, ◌*◌, ◌/◌, ◌%◌, ◌<◌, [], ◌∷◌, ltb, eqb, if◌then◌else◌}
+use Rattle.std.specs.Prelude.{◌≡◌, ℕ, ◌+◌, ◌*◌, ◌/◌, ◌%◌, ◌<◌, [], ◌∷◌, ltb, eqb, if◌then◌else◌, Ok, Err}
 use Rattle.model.specs.declared.Refusal.{Refusal}
-use Rattle.model.specs.declared.Verdict.{Verdict}
-use Rattle.model.specs.declared.Verdict.TheVariants.{Accepted, Refused}
-use Rattle.model.specs.declared.CountVerdict.{CountVerdict}
-use Rattle.model.specs.declared.CountVerdict.TheVariants.{Counted, NotCounted}
 use Rattle.dates.specs.declared.DateVerdict.{DateVerdict}
 use Rattle.dates.specs.declared.DateVerdict.TheVariants.{Dated, NotDated}
-use Rattle.model.specs.Verdict.{Author, grammar_author, analysis_author, desk, author, number, place, Answer, values, refusal}
-
+use Rattle.model.specs.Verdict.{Author, grammar_author, analysis_author, desk, author, number, place, Answer, values, refusal, Verdict, CountVerdict}
 -- whose a refusal is: 0 the grammar's, 1 the analysis's, 2 the desk's
 abbrev pub author_code : Author → ℕ
 author_code grammar_author = 0
@@ -21,12 +16,12 @@ abbrev pub packed_refusal : Refusal → ℕ
 packed_refusal r = 9223372036854775808 + 1099511627776 * author_code (author r) + 4294967296 * number r + place r
 
 abbrev pub packed_verdict : Verdict → ℕ
-packed_verdict (Accepted n) = n
-packed_verdict (Refused r) = packed_refusal r
+packed_verdict (Ok n) = n
+packed_verdict (Err r) = packed_refusal r
 
 abbrev pub packed_count : CountVerdict → ℕ
-packed_count (Counted count effort) = count + 1073741824 * effort
-packed_count (NotCounted r) = packed_refusal r
+packed_count (Ok c) = c.count + 1073741824 * c.effort
+packed_count (Err r) = packed_refusal r
 
 abbrev pub packed_date : DateVerdict → ℕ
 packed_date (Dated d) = 65536 * d.year + 256 * d.month + d.day
@@ -55,21 +50,21 @@ pub record Fits (r : Refusal) : Type 0 where
 
 -- an accepted value has 32 bits; count and effort have 30 each
 abbrev pub ValueFits : Verdict → Type 0
-ValueFits (Accepted n) = n < 4294967296
-ValueFits (Refused r) = Unit {0}
+ValueFits (Ok n) = n < 4294967296
+ValueFits (Err r) = Unit {0}
 
 abbrev pub CountsFit : CountVerdict → Type 0
-CountsFit (Counted count effort) = (count < 1073741824) × (effort < 1073741824)
-CountsFit (NotCounted r) = Unit {0}
+CountsFit (Ok c) = (c.count < 1073741824) × (c.effort < 1073741824)
+CountsFit (Err r) = Unit {0}
 
 -- every field of the answer fits its bits, so that it comes back
 abbrev pub VerdictFits : Verdict → Type 0
-VerdictFits (Accepted n) = n < 4294967296
-VerdictFits (Refused r) = Fits r
+VerdictFits (Ok n) = n < 4294967296
+VerdictFits (Err r) = Fits r
 
 abbrev pub CountFits : CountVerdict → Type 0
-CountFits (Counted count effort) = (count < 1073741824) × (effort < 1073741824)
-CountFits (NotCounted r) = Fits r
+CountFits (Ok c) = (c.count < 1073741824) × (c.effort < 1073741824)
+CountFits (Err r) = Fits r
 
 abbrev pub DateFits : DateVerdict → Type 0
 DateFits (Dated d) = (d.year < 65536) × (d.month < 256) × (d.day < 256)

@@ -5,7 +5,7 @@ ghost use Rattle.std.specs.Prelude.{◌≡◌};
 ghost use Rattle.packing.specs.Packing.{packed_refusal, Fits, ValueFits, CountsFit, Says, SaysCount, SaysDate};
 
 use dates::DateVerdict;
-use model::{CountVerdict, Refusal, Verdict};
+use model::{Counts, Refusal};
 
 // A refusal: bit 63, whose it is, its number and its place.
 fn refusal_bits(r: Refusal) -> u64
@@ -23,24 +23,24 @@ fn refusal_bits(r: Refusal) -> u64
 }
 
 // A verdict: its value, or its refusal.
-pub fn verdict_bits(v: Verdict) -> u64
+pub fn verdict_bits(v: Result<u64, Refusal>) -> u64
     requires { ValueFits v }
     ensures { Says v result }
 {
     match v {
-        Verdict::Accepted(n) => n,
-        Verdict::Refused(r) => refusal_bits(r),
+        Ok(n) => n,
+        Err(r) => refusal_bits(r),
     }
 }
 
 // The count's verdict: count and effort, or its refusal.
-pub fn count_bits(v: CountVerdict) -> u64
+pub fn count_bits(v: Result<Counts, Refusal>) -> u64
     requires { CountsFit v }
     ensures { SaysCount v result }
 {
     match v {
-        CountVerdict::Counted(count, effort) => count + 1073741824 * effort,
-        CountVerdict::NotCounted(r) => refusal_bits(r),
+        Ok(c) => c.count + 1073741824 * c.effort,
+        Err(r) => refusal_bits(r),
     }
 }
 

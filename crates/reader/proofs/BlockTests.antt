@@ -10,8 +10,7 @@ use borrow.Author.Tests.{eq-eqb, ne_eqb, lt-leb, le-leb, lt-ltb}
 use lib.Dec.{eqb, ltb}
 use lib.ListN.{length, get_or}
 use Rattle.model.proofs.Tests.{not_off, and_r, within_low, not_leb}
-use Rattle.model.specs.declared.Tested.{Tested}
-use Rattle.model.specs.Verdict.{tested}
+use Rattle.model.specs.Verdict.{tested, Tested}
 use Rattle.model.specs.GrammarFile.{within, blocks, byte_of, two_bytes, four_bytes, records_in, wrong_length, wrong_block}
 use Rattle.reader.specs.declared.blocks.BlockTest.{BlockTest}
 use Rattle.reader.specs.Reading.{blocks_refusal}

@@ -5,7 +5,7 @@ ghost use Rattle.model.specs.GrammarFile.{wrong_length, wrong_check, wrong_block
 ghost use Rattle.reader.specs.Reading.{test_number, block_meets, blocks_refusal};
 
 use grammar::{block_check, byte, fields, four_bytes, less, rules, two_bytes, zeros};
-use model::{Refusal, Tested};
+use model::Refusal;
 
 // Refusal 1: the length is not 512 times 1 to 14.
 pub fn wrong_length(file: &[u8]) -> bool
@@ -93,17 +93,17 @@ fn block_meets(file: &[u8], test: BlockTest, k: u16) -> bool
 }
 
 // The refusal of the test at the first of the blocks `from` to n - 1 that it meets, if it meets one.
-pub fn blocks_refusal(file: &[u8], test: BlockTest, from: u16, n: u16) -> Tested
+pub fn blocks_refusal(file: &[u8], test: BlockTest, from: u16, n: u16) -> Result<(), Refusal>
     ensures { result ≡ tested (blocks_refusal file.now test from n) }
 {
     let mut k: u16 = from;
     while k < n {
         if block_meets(file, test, k) {
-            return Tested::Met(Refusal::Grammar(test_number(test), k));
+            return Err(Refusal::Grammar(test_number(test), k));
         }
         k += 1;
     }
-    Tested::Passed
+    Ok(())
 }
 
 // How many blocks so many rules take.

@@ -7,76 +7,61 @@ ghost use Rattle.reader.specs.Reading.{from_rules, from_counts, from_blocks};
 use crate::blocks::{BlockTest, blocks_refusal, wrong_blocks, wrong_length, wrong_rest};
 use crate::heading::wrong_heading;
 use grammar::{dimensions, rules, words};
-use model::{Refusal, Tested, Verdict};
+use model::Refusal;
 use rule_tests::{Layout, rules_refusal};
 
 // The tests of the rules, and of the rest of the last block.
-fn from_rules(file: &[u8]) -> Tested
+fn from_rules(file: &[u8]) -> Result<(), Refusal>
     requires { rules_of file.now ≤ 256 }
     ensures { result ≡ tested (from_rules file.now) }
 {
     let n = rules(file);
-    let each = rules_refusal(dimensions(file), words(file), file, Layout::Blocks, n);
-    let Tested::Passed = each else {
-        return each;
-    };
+    rules_refusal(dimensions(file), words(file), file, Layout::Blocks, n)?;
     if wrong_rest(file) {
-        return Tested::Met(Refusal::Grammar(9, n));
+        return Err(Refusal::Grammar(9, n));
     }
-    Tested::Passed
+    Ok(())
 }
 
 // The tests from the number of blocks on, of a file of n blocks.
-fn from_counts(file: &[u8], n: u16) -> Tested
+fn from_counts(file: &[u8], n: u16) -> Result<(), Refusal>
     requires { (n ≡ blocks file.now) × (rules_of file.now ≤ 256) }
     ensures { result ≡ tested (from_counts file.now) }
 {
     if wrong_blocks(file) {
-        return Tested::Met(Refusal::Grammar(5, 0));
+        return Err(Refusal::Grammar(5, 0));
     }
-    let counts = blocks_refusal(file, BlockTest::Count, 1, n);
-    let Tested::Passed = counts else {
-        return counts;
-    };
+    blocks_refusal(file, BlockTest::Count, 1, n)?;
     from_rules(file)
 }
 
 // The tests from the checks of the blocks on, of a file of n blocks.
-fn from_blocks(file: &[u8], n: u16) -> Tested
+fn from_blocks(file: &[u8], n: u16) -> Result<(), Refusal>
     requires { n ≡ blocks file.now }
     ensures { result ≡ tested (from_blocks file.now) }
 {
-    let checks = blocks_refusal(file, BlockTest::Check, 0, n);
-    let Tested::Passed = checks else {
-        return checks;
-    };
-    let kinds = blocks_refusal(file, BlockTest::Kind, 0, n);
-    let Tested::Passed = kinds else {
-        return kinds;
-    };
+    blocks_refusal(file, BlockTest::Check, 0, n)?;
+    blocks_refusal(file, BlockTest::Kind, 0, n)?;
     if wrong_heading(file) {
-        return Tested::Met(Refusal::Grammar(4, 0));
+        return Err(Refusal::Grammar(4, 0));
     }
     from_counts(file, n)
 }
 
 // The tests of a grammar file: refusals 1 to 10.
-pub fn grammar_refusal(file: &[u8]) -> Tested
+pub fn grammar_refusal(file: &[u8]) -> Result<(), Refusal>
     ensures { result ≡ tested (grammar_refusal file.now) }
 {
     if wrong_length(file) {
-        return Tested::Met(Refusal::Grammar(1, 0));
+        return Err(Refusal::Grammar(1, 0));
     }
     from_blocks(file, (file.len() / 512) as u16)
 }
 
 // Reads a grammar file: the number of its rules, or the first refusal of 1 to 10.
-pub fn read_grammar(file: &[u8]) -> Verdict
+pub fn read_grammar(file: &[u8]) -> Result<u64, Refusal>
     ensures { result ≡ verdict (grammar_refusal file.now) (rules_of file.now) }
 {
-    let read = grammar_refusal(file);
-    match read {
-        Tested::Passed => Verdict::Accepted(rules(file) as u64),
-        Tested::Met(r) => Verdict::Refused(r),
-    }
+    grammar_refusal(file)?;
+    Ok(rules(file) as u64)
 }

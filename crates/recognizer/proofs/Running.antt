@@ -13,8 +13,7 @@ use lib.Dec.{ltb}
 use lib.ListN.{length, get_or, drop, set, length-drop, drop_of_length-le, length-map}
 use lib.Seq.{drop-cons, sets}
 use Rattle.model.specs.declared.Refusal.{Refusal}
-use Rattle.model.specs.declared.Verdict.{Verdict}
-use Rattle.model.specs.Verdict.{refuse_if, verdict}
+use Rattle.model.specs.Verdict.{refuse_if, verdict, Verdict}
 use Rattle.model.specs.Grammar.{Grammar}
 use Rattle.model.specs.Trace.{no_node}
 use Rattle.ranking.specs.Recognizer.{Moved, stops, goes, refusal_from}

@@ -4,8 +4,7 @@ use Rattle.std.specs.Prelude.{◌≡◌, List, [], ◌∷◌, ℕ, suc, ◌+◌,
 use Rattle.std.proofs.Math.Option.{Option, none}
 use Rattle.std.proofs.lemmas.List.Edits.{sets}
 use Rattle.model.specs.declared.Refusal.{Refusal}
-use Rattle.model.specs.declared.Verdict.{Verdict}
-use Rattle.model.specs.Verdict.{verdict}
+use Rattle.model.specs.Verdict.{verdict, Verdict}
 use Rattle.model.specs.Grammar.{Grammar}
 use Rattle.model.specs.Trace.{no_node, trace_refusal}
 use Rattle.ranking.specs.Recognizer.{stops, goes, refusal_from}

@@ -7,7 +7,7 @@ ghost use Rattle.steps.specs.Steps.{state_in};
 ghost use Rattle.recognizer.specs.Traces.{Runs, RunSays, TraceSays};
 
 use grammar::start;
-use model::{MOST_STEPS, Refusal, RuleNumber, Tested, Verdict};
+use model::{MOST_STEPS, Refusal, RuleNumber};
 use ranks::prediction::number;
 use ranks::queue::{ROOM, first_queue};
 use ranks::table::TABLE;
@@ -26,7 +26,7 @@ fn run(
     w: &mut [u64; ROOM],
     at: Standing,
     taken: &mut [u16; MOST_STEPS],
-) -> Verdict
+) -> Result<u64, Refusal>
     requires { Runs (grammar_of file.now) t.now sentence.now w.old at (length trace.now) × (length sentence.now ≤ 96) × (length taken.old ≡ 96) }
     ensures { RunSays (grammar_of file.now) sentence.now trace.now at.steps (state_in (grammar_of file.now) sentence.now w.old at) taken.old taken.new result }
 {
@@ -34,16 +34,16 @@ fn run(
     if trace.len() <= k {
         let read = at.read;
         if read < sentence.len() {
-            return Verdict::Refused(Refusal::Analysis(18, read as u16));
+            return Err(Refusal::Analysis(18, read as u16));
         }
-        return Verdict::Accepted(k as u64);
+        return Ok(k as u64);
     }
     let from = at.from;
     let front = number(w[from]);
     let s = step(file, t, sentence, w, at, RuleNumber(trace[k]));
     match s {
-        Stepped::Halts(n) => Verdict::Refused(Refusal::Analysis(n, k as u16)),
-        Stepped::Long => Verdict::Refused(Refusal::Analysis(17, k as u16 + 1)),
+        Stepped::Halts(n) => Err(Refusal::Analysis(n, k as u16)),
+        Stepped::Long => Err(Refusal::Analysis(17, k as u16 + 1)),
         Stepped::Leads(next) => {
             taken[k] = front as u16;
             run(file, t, sentence, trace, w, next, taken)
@@ -57,15 +57,15 @@ pub fn run_trace(
     sentence: &[u32],
     trace: &[u16],
     taken: &mut [u16; MOST_STEPS],
-) -> Verdict
+) -> Result<u64, Refusal>
     requires { (grammar_refusal file.now ≡ none) × (length sentence.now ≤ 96) × (length taken.old ≡ 96) }
     ensures { TraceSays (grammar_of file.now) sentence.now trace.now taken.new result }
 {
     if MOST_STEPS < trace.len() {
-        return Verdict::Refused(Refusal::Analysis(12, 0));
+        return Err(Refusal::Analysis(12, 0));
     }
     if trace.len() == 0 {
-        return Verdict::Refused(Refusal::Analysis(17, 0));
+        return Err(Refusal::Analysis(17, 0));
     }
     let t = compile(file);
     let mut w = first_queue(start(file));
@@ -74,17 +74,11 @@ pub fn run_trace(
 }
 
 // The trace checker.
-pub fn check_trace(file: &[u8], sentence: &[u32], trace: &[u16]) -> Verdict
+pub fn check_trace(file: &[u8], sentence: &[u32], trace: &[u16]) -> Result<u64, Refusal>
     ensures { result ≡ check_trace_verdict file.now sentence.now trace.now }
 {
-    let grammar = grammar_refusal(file);
-    if let Tested::Met(r) = grammar {
-        return Verdict::Refused(r);
-    }
-    let words = sentence_refusal(file, sentence);
-    if let Tested::Met(r) = words {
-        return Verdict::Refused(r);
-    }
+    grammar_refusal(file)?;
+    sentence_refusal(file, sentence)?;
     let mut taken = [0u16; MOST_STEPS];
     run_trace(file, sentence, trace, &mut taken)
 }

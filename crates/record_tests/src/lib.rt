@@ -11,7 +11,7 @@ use grammar::{
     dimension_in, few_zeros, fields, less, occurrences, record_category, record_daughter,
     record_daughters, record_word, total, variables, zeros,
 };
-use model::{Category, EMPTY_WORD, Refusal, RuleNumber, Tested};
+use model::{EMPTY_WORD, Category, Refusal, RuleNumber};
 
 // Whether there is no such category.
 fn no_category(dimensions: &[u8], a: Category) -> bool
@@ -138,20 +138,20 @@ fn unused_set(dimensions: &[u8], e: &[u8]) -> bool
 }
 
 // Refusals 6 to 9 of record e, which is that of rule r.
-pub fn record_refusal(dimensions: &[u8], words: u16, e: &[u8], r: RuleNumber) -> Tested
+pub fn record_refusal(dimensions: &[u8], words: u16, e: &[u8], r: RuleNumber) -> Result<(), Refusal>
     ensures { result ≡ tested (record_tests dimensions.now words e.now r.0) }
 {
     if wrong_category(dimensions, e) {
-        return Tested::Met(Refusal::Grammar(6, r.0));
+        return Err(Refusal::Grammar(6, r.0));
     }
     if wrong_word(dimensions, e, words) {
-        return Tested::Met(Refusal::Grammar(7, r.0));
+        return Err(Refusal::Grammar(7, r.0));
     }
     if wrong_variables(dimensions, e) {
-        return Tested::Met(Refusal::Grammar(8, r.0));
+        return Err(Refusal::Grammar(8, r.0));
     }
     if unused_set(dimensions, e) {
-        return Tested::Met(Refusal::Grammar(9, r.0));
+        return Err(Refusal::Grammar(9, r.0));
     }
-    Tested::Passed
+    Ok(())
 }

@@ -1,6 +1,6 @@
 -- Pages of the text: lines that are put behind each other at the front of a buffer, and what is left of the text after them.
 -- Assumes nothing.
-use Rattle.std.specs.Prelude.{if◌then◌else◌}
+use Rattle.std.specs.Prelude.{if◌then◌else◌, Err, Ok}
 use mathlib.Core.Path.{◌≡◌, refl, sym, ap, ap₂, subst, ◌∙◌}
 use mathlib.Core.Bool.{Bool, true, false}
 use mathlib.Core.List.{List, [], ◌∷◌, ◌++◌, append_assoc, append-nil}
@@ -10,9 +10,8 @@ use native.Mathlib.Omega.{arith}
 use lib.ListN.{length, take, drop, length-append}
 use lib.Seq.{sets-eq, take_at, length-take-le}
 use Rattle.model.specs.declared.Refusal.{Refusal}
-use Rattle.model.specs.declared.CountVerdict.{CountVerdict}
 use Rattle.model.specs.Base.{each, ◌or_else◌}
-use Rattle.model.specs.Verdict.{refuse_if, count_verdict}
+use Rattle.model.specs.Verdict.{refuse_if, count_verdict, CountVerdict, counts}
 use Rattle.model.specs.Grammar.{Grammar}
 use Rattle.model.specs.GrammarFile.{grammar_refusal, grammar_of, start_of}
 use Rattle.model.specs.Trace.{sentence_refusal}
@@ -172,8 +171,8 @@ walk_begins file accepted t chain sentence w path turns n a at tables e first lo
 
 -- what is printed where the verdict has a count, and where it is a refusal
 module _ (g : Grammar) (sentence : List ℕ) (n : ℕ) where
-  pub counted_text : (o : Option Refusal) (a b : ℕ) → count_verdict o (count g sentence n) (effort g sentence n) ≡ CountVerdict.Counted a b
-      → text_by o g sentence n ≡ verdict_line (CountVerdict.Counted a b) ++ lines_after g sentence n []
+  pub counted_text : (o : Option Refusal) (a b : ℕ) → count_verdict o (count g sentence n) (effort g sentence n) ≡ Ok (counts a b)
+      → text_by o g sentence n ≡ verdict_line (Ok (counts a b)) ++ lines_after g sentence n []
   counted_text none a b e =
       let c : count g sentence n ≡ a = cc in
       let d : effort g sentence n ≡ b = cc in
@@ -181,8 +180,8 @@ module _ (g : Grammar) (sentence : List ℕ) (n : ℕ) where
       ∙ ap (λ (l : List (List ℕ)). line (a ∷ b ∷ []) ++ each line l) (sym (after_nothing g sentence n))
   counted_text (some r) a b e = let z : ◌≡◌ {A = ℕ} 0 1 = cc in absurd (omega arith)
 
-  pub refused_text : (o : Option Refusal) (r : Refusal) → count_verdict o (count g sentence n) (effort g sentence n) ≡ CountVerdict.NotCounted r
-      → text_by o g sentence n ≡ verdict_line (CountVerdict.NotCounted r)
+  pub refused_text : (o : Option Refusal) (r : Refusal) → count_verdict o (count g sentence n) (effort g sentence n) ≡ Err r
+      → text_by o g sentence n ≡ verdict_line (Err r)
   refused_text none r e = let z : ◌≡◌ {A = ℕ} 0 1 = cc in absurd (omega arith)
   refused_text (some x) r e = let f : x ≡ r = cc in ap (λ (y : Refusal). printed (some y) []) f
 
@@ -202,19 +201,19 @@ module _ (file words : List ℕ) (spoken n : ℕ) (v : CountVerdict) (before bet
   so : v ≡ count_verdict cost (count g sentence n) (effort g sentence n)
   so = subst (λ (s : List ℕ). v ≡ count_verdict (effort_refusal g s n program_limit) (count g s n) (effort g s n)) is_front says
 
-  pub counted_page : {a b : ℕ} {after : List ℕ} {text next : Text} → v ≡ CountVerdict.Counted a b → Begun file words spoken n text → PutPage text place between after next
+  pub counted_page : {a b : ℕ} {after : List ℕ} {text next : Text} → v ≡ Ok (counts a b) → Begun file words spoken n text → PutPage text place between after next
       → CountedPage file words spoken n after next
   counted_page {a} {b} {after} {text} {next} e begun more =
       page_after g sentence n (subst (λ (x : CountVerdict). Put before between 0 (verdict_line x) place) e put) (more.of_grammar g sentence n begun.goes_on)
       (counted_text g sentence n cost a b (sym so ∙ e)
       ∙ ap (λ (l : List ℕ). line (a ∷ b ∷ []) ++ l) (sym (left_some g sentence n text begun.goes_on.more_is ∙ ap (λ (k : ℕ). lines_after g sentence n (take k text.path)) begun.at_start)))
 
-  pub costly_page : {r : Refusal} {text : Text} → v ≡ CountVerdict.NotCounted r → EndsAt place text → CountedPage file words spoken n between text
+  pub costly_page : {r : Refusal} {text : Text} → v ≡ Err r → EndsAt place text → CountedPage file words spoken n between text
   costly_page {r} e whole =
       page_whole g sentence n (subst (λ (x : CountVerdict). Put before between 0 (verdict_line x) place) e put) whole (refused_text g sentence n cost r (sym so ∙ e))
 
 -- the line of a refusal
-pub refused_page : (r : Refusal) {before after : List ℕ} {place : ℕ} {text : Text} → Put before after 0 (verdict_line (CountVerdict.NotCounted r)) place → EndsAt place text
+pub refused_page : (r : Refusal) {before after : List ℕ} {place : ℕ} {text : Text} → Put before after 0 (verdict_line (Err r)) place → EndsAt place text
     → RefusedPage r after text
 refused_page r {before} {after} {place} {text} put whole =
     record {

@@ -11,7 +11,7 @@ use crate::sentence::{SENTENCE_WORDS, first_words, read_limit, read_words};
 use crate::verdict::{EFFORT_LIMIT, program_tests};
 use grammar::start;
 use lines::put_verdict;
-use model::{CountVerdict, MOST_STEPS, Refusal, Tested};
+use model::{MOST_STEPS, Refusal};
 use pages::{Page, Pen, fill};
 use ranks::queue::{ROOM, first_queue};
 use ranks::table::TABLE;
@@ -168,10 +168,10 @@ fn counted_page(
     );
     let place = put_verdict(v, out, 0);
     match v {
-        CountVerdict::Counted(_, _) => {
+        Ok(_) => {
             put_page(begun(file, table, chain, words, spoken, n), place, out)
         }
-        CountVerdict::NotCounted(_) => ends_at(place),
+        Err(_) => ends_at(place),
     }
 }
 
@@ -180,7 +180,7 @@ fn refused_page(r: Refusal, out: &mut [u8]) -> Text
     requires { 44 ≤ length out.old }
     ensures { RefusedPage r out.new result }
 {
-    ends_at(put_verdict(CountVerdict::NotCounted(r), out, 0))
+    ends_at(put_verdict(Err(r), out, 0))
 }
 
 // The first page for what is read of the two files: of the grammar file its first bytes, of the sentence file its first bytes and whether its length is even.
@@ -193,8 +193,8 @@ pub fn first_page(file: &[u8], bytes: &[u8], even: bool, out: &mut [u8]) -> Text
     let n = read_limit(bytes) as u64;
     let tests = program_tests(file, first_words(&words, spoken), n, even);
     match tests {
-        Tested::Passed => counted_page(file, words, spoken, n, out),
-        Tested::Met(r) => refused_page(r, out),
+        Ok(()) => counted_page(file, words, spoken, n, out),
+        Err(r) => refused_page(r, out),
     }
 }
 

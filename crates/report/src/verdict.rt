@@ -4,7 +4,7 @@ ghost use Rattle.model.specs.Verdict.{tested};
 ghost use Rattle.report.specs.Whole.{tests_of};
 
 use analyses::limits_refusal;
-use model::{Refusal, Tested};
+use model::Refusal;
 use reader::grammar_refusal;
 use sentences::sentence_refusal;
 
@@ -12,19 +12,13 @@ use sentences::sentence_refusal;
 pub const EFFORT_LIMIT: u64 = 1000000;
 
 // The refusal of the grammar, of a sentence file of even length, of the limits or of the sentence; or none of them.
-pub fn program_tests(file: &[u8], sentence: &[u32], n: u64, even: bool) -> Tested
+pub fn program_tests(file: &[u8], sentence: &[u32], n: u64, even: bool) -> Result<(), Refusal>
     ensures { result ≡ tested (tests_of file.now sentence.now n even) }
 {
-    let grammar = grammar_refusal(file);
-    let Tested::Passed = grammar else {
-        return grammar;
-    };
+    grammar_refusal(file)?;
     if even {
-        return Tested::Met(Refusal::Analysis(11, 0));
+        return Err(Refusal::Analysis(11, 0));
     }
-    let limits = limits_refusal(n, EFFORT_LIMIT);
-    let Tested::Passed = limits else {
-        return limits;
-    };
+    limits_refusal(n, EFFORT_LIMIT)?;
     sentence_refusal(file, sentence)
 }

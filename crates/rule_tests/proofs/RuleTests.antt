@@ -5,12 +5,12 @@ use mathlib.Core.List.{List}
 use mathlib.Core.Option.{Option, none, some}
 use Prim.Native.Nat.{ℕ}
 use Rattle.model.specs.declared.Refusal.{Refusal}
-use Rattle.model.specs.declared.Tested.{Tested}
 use Rattle.model.specs.Base.{◌or_else◌}
-use Rattle.model.specs.Verdict.{refuse_if, tested}
+use Rattle.model.specs.Verdict.{refuse_if, tested, Tested}
 use Rattle.model.specs.GrammarFile.{wrong_category, wrong_word, wrong_variables, unused_set, repeated, record_refusal}
 use Rattle.record_tests.specs.RecordTests.{record_tests}
 use Rattle.model.proofs.Verdicts.{tests_pass, tests_stop, tests_after}
+use Rattle.std.specs.Prelude.{Ok, Err}
 
 -- tests joined in two groups
 join_joined : (a b c d e : Option Refusal) → (a or_else b or_else c or_else d) or_else e ≡ a or_else b or_else c or_else d or_else e
@@ -35,8 +35,8 @@ module _ (dimensions : List ℕ) (words : ℕ) (at : ℕ → List ℕ) (i : ℕ)
 
   -- t is the answer of 6 to 9: it stands where one of them meets, and else 10 decides
   module _ (t : Tested) (is : t ≡ tested up_to9) where
-    pub record_stop : {r : Refusal} → t ≡ Tested.Met r → t ≡ tested (record_refusal dimensions words at i)
+    pub record_stop : {r : Refusal} → t ≡ Err r → Err r ≡ tested (record_refusal dimensions words at i)
     record_stop e = tests_stop up_to9 t is tenth e ∙ ap tested with_tenth
 
-    pub record_pass : t ≡ Tested.Passed → (u : Tested) → u ≡ tested (refuse_if (repeated at i) (Refusal.Grammar 10 i)) → u ≡ tested (record_refusal dimensions words at i)
+    pub record_pass : {x : Unit} → t ≡ Ok x → (u : Tested) → u ≡ tested (refuse_if (repeated at i) (Refusal.Grammar 10 i)) → u ≡ tested (record_refusal dimensions words at i)
     record_pass e u f = tests_after up_to9 tenth u (tests_pass up_to9 t is e) f ∙ ap tested with_tenth

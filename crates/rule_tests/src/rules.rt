@@ -8,7 +8,7 @@ ghost use Rattle.rule_tests.specs.Rules.{rules_refusal};
 
 use crate::chain::{HASHES, enter, hash_of, repeated_rule};
 use crate::layout::{Layout, record_in};
-use model::{MOST_RULES, Refusal, RuleNumber, Tested};
+use model::{MOST_RULES, Refusal, RuleNumber};
 use record_tests::record_refusal;
 
 // Refusals 6 to 10 of rule r, whose record is e.
@@ -20,22 +20,19 @@ fn rule_refusal(
     chain: &[u16; MOST_RULES],
     e: &[u8],
     r: RuleNumber,
-) -> Tested
+) -> Result<(), Refusal>
     requires { InChain (record_in layout bytes.now) r.0 chain.now e.now }
     ensures { result ≡ tested (record_refusal dimensions.now words (record_in layout bytes.now) r.0) }
 {
-    let alone = record_refusal(dimensions, words, e, r);
-    let Tested::Passed = alone else {
-        return alone;
-    };
+    record_refusal(dimensions, words, e, r)?;
     if repeated_rule(bytes, layout, chain, e, r) {
-        return Tested::Met(Refusal::Grammar(10, r.0));
+        return Err(Refusal::Grammar(10, r.0));
     }
-    Tested::Passed
+    Ok(())
 }
 
 // Refusals 6 to 10 of the rules 0 to n - 1, rule after rule: the first that meets a rule, if one does. Each rule is put into its chain before it is tested.
-pub fn rules_refusal(dimensions: &[u8], words: u16, bytes: &[u8], layout: Layout, n: u16) -> Tested
+pub fn rules_refusal(dimensions: &[u8], words: u16, bytes: &[u8], layout: Layout, n: u16) -> Result<(), Refusal>
     requires { n ≤ 256 }
     ensures { result ≡ tested (rules_refusal dimensions.now words (record_in layout bytes.now) n) }
 {
@@ -45,11 +42,8 @@ pub fn rules_refusal(dimensions: &[u8], words: u16, bytes: &[u8], layout: Layout
     while i < n {
         let e = record_in(bytes, layout, RuleNumber(i));
         chain[i as usize] = enter(&mut table, hash_of(e), RuleNumber(i));
-        let rule = rule_refusal(dimensions, words, bytes, layout, &chain, e, RuleNumber(i));
-        let Tested::Passed = rule else {
-            return rule;
-        };
+        rule_refusal(dimensions, words, bytes, layout, &chain, e, RuleNumber(i))?;
         i += 1;
     }
-    Tested::Passed
+    Ok(())
 }

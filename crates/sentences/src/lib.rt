@@ -9,7 +9,7 @@ ghost use Rattle.model.specs.Trace.{end_no_word, lowest_above, place_refusal, se
 ghost use Rattle.model.specs.Verdict.{tested};
 
 use grammar::words;
-use model::{MOST_STEPS, Refusal, Tested, Word};
+use model::{MOST_STEPS, Refusal, Word};
 
 // The most places of a sentence.
 const MOST_PLACES: u16 = MOST_STEPS as u16;
@@ -77,35 +77,32 @@ fn lowest_above(place: u32) -> bool
 }
 
 // Tests place k, for a grammar with so many words.
-fn place_refusal(words: u16, k: u16, place: u32) -> Tested
+fn place_refusal(words: u16, k: u16, place: u32) -> Result<(), Refusal>
     ensures { result ≡ tested (place_refusal words k place) }
 {
     let unknown = end_no_word(words, place);
     let above = lowest_above(place);
     if unknown {
-        return Tested::Met(Refusal::Analysis(11, k));
+        return Err(Refusal::Analysis(11, k));
     }
     if above {
-        return Tested::Met(Refusal::Analysis(29, k));
+        return Err(Refusal::Analysis(29, k));
     }
-    Tested::Passed
+    Ok(())
 }
 
 // Tests the sentence: over 96 places, and then place by place.
-pub fn sentence_refusal(file: &[u8], sentence: &[u32]) -> Tested
+pub fn sentence_refusal(file: &[u8], sentence: &[u32]) -> Result<(), Refusal>
     ensures { result ≡ tested (sentence_refusal (grammar_of file.now) sentence.now) }
 {
     if (MOST_PLACES as usize) < sentence.len() {
-        return Tested::Met(Refusal::Analysis(11, MOST_PLACES));
+        return Err(Refusal::Analysis(11, MOST_PLACES));
     }
     let w = words(file);
     let mut k: usize = 0;
     while k < sentence.len() {
-        let t = place_refusal(w, k as u16, sentence[k]);
-        let Tested::Passed = t else {
-            return t;
-        };
+        place_refusal(w, k as u16, sentence[k])?;
         k += 1;
     }
-    Tested::Passed
+    Ok(())
 }

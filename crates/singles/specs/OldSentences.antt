@@ -6,10 +6,8 @@
 use Rattle.std.specs.Prelude.{ℕ, zero, suc, ◌+◌, ◌-◌, ◌*◌, ◌%◌, Bool, false, not, List, [], ◌∷◌, map, ltb, leb, eqb, length, get_or, drop, if◌then◌else◌}
 use Rattle.std.proofs.Math.Option.{Option, none, some}
 use Rattle.model.specs.declared.Refusal.{Refusal}
-use Rattle.model.specs.declared.Verdict.{Verdict}
-use Rattle.model.specs.declared.CountVerdict.{CountVerdict}
 use Rattle.model.specs.Base.{◌or_else◌, each, keep, numbers_from, same_list}
-use Rattle.model.specs.Verdict.{refuse_if, verdict, count_verdict}
+use Rattle.model.specs.Verdict.{refuse_if, verdict, count_verdict, Verdict, CountVerdict}
 use Rattle.model.specs.Grammar.{Rule, Grammar, empty_word, rule_at, is_lexical}
 use Rattle.model.specs.Step.{Prediction, State, Outcome, fails, leads, predict, begin}
 use Rattle.model.specs.Trace.{no_node, length_refusal}

@@ -9,7 +9,7 @@ ghost use Rattle.model.specs.Survey.{ready, visit, survey_round, survey};
 
 use buffers::{number_at, room_refusal};
 use grammar::categories;
-use model::{RuleNumber, Tested, Verdict};
+use model::{Refusal, RuleNumber};
 use reader::grammar_refusal;
 
 // Every daughter of the rule has a figure, below that of the round.
@@ -96,20 +96,14 @@ fn clear(figures: &mut [u16])
 }
 
 // The survey: refusals 1 to 10, 23; else C, with C figures at the front of the output. Costs at most C times R visits to a rule.
-pub fn survey(file: &[u8], out: &mut [u16]) -> Verdict
+pub fn survey(file: &[u8], out: &mut [u16]) -> Result<u64, Refusal>
     ensures { SurveyOutcome file.now out.old result out.new }
 {
-    let grammar = grammar_refusal(file);
-    if let Tested::Met(r) = grammar {
-        return Verdict::Refused(r);
-    }
-    let room = room_refusal(out);
-    if let Tested::Met(r) = room {
-        return Verdict::Refused(r);
-    }
+    grammar_refusal(file)?;
+    room_refusal(out)?;
     let n = categories(file) as usize;
     write_figures(file, &mut out[0..n]);
-    Verdict::Accepted(n as u64)
+    Ok(n as u64)
 }
 
 // The figures of an accepted file, one for each category.

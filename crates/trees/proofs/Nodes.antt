@@ -1,6 +1,6 @@
 -- The tree reader, node by node: what passes, and what is refused.
 -- Assumes nothing.
-use Rattle.std.specs.Prelude.{if◌then◌else◌}
+use Rattle.std.specs.Prelude.{if◌then◌else◌, Ok, Err}
 use mathlib.Core.Path.{◌≡◌, refl, sym, ap, ap₂, subst, ◌∙◌}
 use mathlib.Core.Logic.{◌⊎◌, inl, inr}
 use mathlib.Core.Bool.{Bool}
@@ -16,7 +16,6 @@ use lib.Dec.{eqb}
 use lib.ListN.{length, get_or, drop, set, length-set, drop_of_length-le}
 use lib.Seq.{drop-cons, get_or-set_same, get_or-set_other}
 use Rattle.model.specs.declared.Refusal.{Refusal}
-use Rattle.model.specs.declared.Tested.{Tested}
 use Rattle.model.specs.Grammar.{Rule, Grammar, rule_at, daughters_by}
 use Rattle.model.specs.GrammarFile.{start_of, rules_of, record_of, field, grammar_refusal, grammar_of}
 use Rattle.model.specs.Tree.{others, forest, nodes_refusal}
@@ -30,6 +29,7 @@ use Rattle.trees.specs.declared.reading.Place.{Place}
 use Rattle.trees.specs.declared.reading.Place.TheVariants.{Next, Stop}
 use Rattle.trees.specs.Reader.{below, Passes, Meets, Says, Reading, ReadAll}
 use Rattle.trees.proofs.Places.{others_next, end_is}
+use Rattle.model.specs.Verdict.{Tested}
 
 module _ (g : Grammar) (list : List ℕ) where
   -- no trees
@@ -207,19 +207,19 @@ module _ (file list before after : List ℕ) (c : ℕ) (start : c ≡ start_of f
     known_as : {p : Place} → answer ≡ p → Reading (grammar_of file) list (c ∷ []) 0 before after p
     known_as e = subst (Reading (grammar_of file) list (c ∷ []) 0 before after) e h
 
-    pub nodes_left : (e : ℕ) → answer ≡ Next e → e < length list → ReadAll (grammar_of file) list after (Tested.Met (Refusal.Analysis 21 e))
+    pub nodes_left : (e : ℕ) → answer ≡ Next e → e < length list → ReadAll (grammar_of file) list after (Err (Refusal.Analysis 21 e))
     nodes_left e q l =
         let r = known_as q in
         let f : nodes ≡ some (Refusal.Analysis 21 e) = tests_all (some (Refusal.Analysis 21 e)) (r.says.tests [] ∙ ap (nodes_refusal (grammar_of file) e []) (drop-cons list e 0 l)) in
         record { long = r.long; answer = met_is nodes (Refusal.Analysis 21 e) f; ended = λ z. none_some (sym f ∙ z) }
 
-    pub all_nodes : (e : ℕ) → answer ≡ Next e → length list ≤ e → ReadAll (grammar_of file) list after Tested.Passed
+    pub all_nodes : (e : ℕ) → answer ≡ Next e → length list ≤ e → ReadAll (grammar_of file) list after (Ok tt)
     all_nodes e q l =
         let r = known_as q in
         let f : nodes ≡ none = tests_all none (r.says.tests [] ∙ ap (nodes_refusal (grammar_of file) e []) (drop_of_length-le list {i = e} l)) in
         record { long = r.long; answer = passed_is nodes f; ended = λ z i lo hi. r.says.ended i lo (omega arith) }
 
-    pub node_met : (x : Refusal) → answer ≡ Stop x → ReadAll (grammar_of file) list after (Tested.Met x)
+    pub node_met : (x : Refusal) → answer ≡ Stop x → ReadAll (grammar_of file) list after (Err x)
     node_met x q =
         let r = known_as q in
         let f : nodes ≡ some x = tests_all (some x) (r.says []) in

@@ -4,8 +4,7 @@
 use Rattle.std.specs.Prelude.{◌≡◌, List, [], ◌∷◌, ◌++◌, ℕ, ◌+◌, ◌<◌, ◌≤◌, length, get_or, drop}
 use Rattle.std.proofs.Math.Option.{none, some}
 use Rattle.model.specs.declared.Refusal.{Refusal}
-use Rattle.model.specs.declared.Tested.{Tested}
-use Rattle.model.specs.Verdict.{tested}
+use Rattle.model.specs.Verdict.{tested, Tested}
 use Rattle.model.specs.Grammar.{Grammar, rule_at, daughters_by}
 use Rattle.model.specs.GrammarFile.{grammar_refusal}
 use Rattle.model.specs.Tree.{others, forest, nodes_refusal}

@@ -6,7 +6,7 @@ ghost use Rattle.trees.specs.Reader.{Readable, below, Reading, ReadAll};
 
 use crate::tree_reader::{Found, TreeReader, reader_at, take_at};
 use grammar::{category_of, daughter, daughter_count, rules, start};
-use model::{Category, MOST_STEPS, Refusal, RuleNumber, Tested};
+use model::{MOST_STEPS, Category, Refusal, RuleNumber};
 
 // The place after what is read, or the refusal that it meets.
 #[derive(Clone, Copy)]
@@ -97,7 +97,7 @@ pub fn read_first<'f, 'a, 'e>(
 }
 
 // Reads the whole list as one tree with the start category as root: refusals 19, 13, 20 and 21.
-pub fn read_tree(file: &[u8], list: &[u16], ends: &mut [u16; MOST_STEPS]) -> Tested
+pub fn read_tree(file: &[u8], list: &[u16], ends: &mut [u16; MOST_STEPS]) -> Result<(), Refusal>
     requires { (grammar_refusal file.now ≡ none) × (length list.now ≤ 96) × (length ends.old ≡ 96) }
     ensures { ReadAll (grammar_of file.now) list.now ends.new result }
 {
@@ -105,10 +105,10 @@ pub fn read_tree(file: &[u8], list: &[u16], ends: &mut [u16; MOST_STEPS]) -> Tes
     match p {
         Place::Next(e) => {
             if e < list.len() {
-                return Tested::Met(Refusal::Analysis(21, e as u16));
+                return Err(Refusal::Analysis(21, e as u16));
             }
-            Tested::Passed
+            Ok(())
         }
-        Place::Stop(x) => Tested::Met(x),
+        Place::Stop(x) => Err(x),
     }
 }

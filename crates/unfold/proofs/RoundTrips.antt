@@ -9,9 +9,8 @@ use borrow.Author.Tests.{le-ltb}
 use lib.ListN.{length, take, drop}
 use lib.Seq.{take_at}
 use Rattle.model.specs.declared.Refusal.{Refusal}
-use Rattle.model.specs.declared.Verdict.{Verdict}
 use Rattle.model.specs.Base.{◌or_else◌}
-use Rattle.model.specs.Verdict.{verdict}
+use Rattle.model.specs.Verdict.{verdict, Verdict}
 use Rattle.model.specs.Grammar.{Grammar}
 use Rattle.model.specs.GrammarFile.{grammar_refusal, grammar_of}
 use Rattle.model.specs.Trace.{sentence_refusal, trace_refusal}
@@ -22,9 +21,10 @@ use Rattle.model.proofs.Tests.{first_of, rest_of}
 use Rattle.model.proofs.Verdicts.{none_accepted, passed}
 use Rattle.model.proofs.Demands.{demand_2}
 use Rattle.unfold.specs.RoundTrips.{TraceBack, TreeBack, RoundTrips}
+use Rattle.std.specs.Prelude.{Ok}
 
 -- an accepted verdict gives the number
-the_number : (o : Option Refusal) (n m : ℕ) → verdict o n ≡ Verdict.Accepted m → n ≡ m
+the_number : (o : Option Refusal) (n m : ℕ) → verdict o n ≡ Ok m → n ≡ m
 the_number none n m e = cc
 the_number (some r) n m e = let z : ◌≡◌ {A = ℕ} 0 1 = cc in absurd (omega arith)
 
@@ -63,7 +63,7 @@ module _ (file sentence : List ℕ) where
   abbrev W : Option Refusal
   W = sentence_refusal g sentence
 
-  pub trace_back : (trace out : List ℕ) (n : ℕ) → trace_to_tree_verdict file sentence trace out ≡ Verdict.Accepted n → TraceBack file sentence trace out n
+  pub trace_back : (trace out : List ℕ) (n : ℕ) → trace_to_tree_verdict file sentence trace out ≡ Ok n → TraceBack file sentence trace out n
   trace_back trace out n e =
       let R = trace_refusal g sentence trace in
       let O = room_refusal out in
@@ -73,7 +73,7 @@ module _ (file sentence : List ℕ) where
       let d = (demand_2 file p.0 sentence p.1).to_tree trace (none_accepted (length trace) (pass_three G W R p.0 p.1 p.2)) in
       let tree = tree_of g sentence trace in
       let T = tree_refusal g sentence tree in
-      let a : check_tree_verdict file sentence tree ≡ Verdict.Accepted n = d.accepted ∙ ap Verdict.Accepted l in
+      let a : check_tree_verdict file sentence tree ≡ Ok n = d.accepted ∙ ap Ok l in
       let size : length tree ≡ n = the_number (G or_else W or_else T) (length tree) n a in
       let w : take n (trace_to_tree_output file sentence trace out) ≡ tree
       = ap (take n) (writes tree out none-refused) ∙ take_at tree (drop (length tree) out) n size in
@@ -84,7 +84,7 @@ module _ (file sentence : List ℕ) where
         steps = l;
         nodes = ap length w ∙ size;
         tree_accepted = ap (check_tree_verdict file sentence) w ∙ a;
-        back_accepted = λ other h. ap (λ (x : List ℕ). tree_to_trace_verdict file sentence x other) w ∙ none_accepted (length tree) (through other h) ∙ ap Verdict.Accepted size;
+        back_accepted = λ other h. ap (λ (x : List ℕ). tree_to_trace_verdict file sentence x other) w ∙ none_accepted (length tree) (through other h) ∙ ap Ok size;
         back = λ other h.
             ap (λ (x : List ℕ). tree_to_trace_output file sentence x other) w
             ∙ writes (trace_of g sentence tree) other (through other h)
@@ -92,7 +92,7 @@ module _ (file sentence : List ℕ) where
             ∙ ap (λ (m : ℕ). trace ++ drop m other) l;
       }
 
-  pub tree_back : (tree out : List ℕ) (n : ℕ) → tree_to_trace_verdict file sentence tree out ≡ Verdict.Accepted n → TreeBack file sentence tree out n
+  pub tree_back : (tree out : List ℕ) (n : ℕ) → tree_to_trace_verdict file sentence tree out ≡ Ok n → TreeBack file sentence tree out n
   tree_back tree out n e =
       let R = tree_refusal g sentence tree in
       let O = room_refusal out in
@@ -102,7 +102,7 @@ module _ (file sentence : List ℕ) where
       let d = (demand_2 file p.0 sentence p.1).to_trace tree (none_accepted (length tree) (pass_three G W R p.0 p.1 p.2)) in
       let trace = trace_of g sentence tree in
       let T = trace_refusal g sentence trace in
-      let a : check_trace_verdict file sentence trace ≡ Verdict.Accepted n = d.accepted ∙ ap Verdict.Accepted l in
+      let a : check_trace_verdict file sentence trace ≡ Ok n = d.accepted ∙ ap Ok l in
       let size : length trace ≡ n = the_number (G or_else W or_else T) (length trace) n a in
       let w : take n (tree_to_trace_output file sentence tree out) ≡ trace
       = ap (take n) (writes trace out none-refused) ∙ take_at trace (drop (length trace) out) n size in
@@ -113,7 +113,7 @@ module _ (file sentence : List ℕ) where
         nodes = l;
         steps = ap length w ∙ size;
         trace_accepted = ap (check_trace_verdict file sentence) w ∙ a;
-        back_accepted = λ other h. ap (λ (x : List ℕ). trace_to_tree_verdict file sentence x other) w ∙ none_accepted (length trace) (through other h) ∙ ap Verdict.Accepted size;
+        back_accepted = λ other h. ap (λ (x : List ℕ). trace_to_tree_verdict file sentence x other) w ∙ none_accepted (length trace) (through other h) ∙ ap Ok size;
         back = λ other h.
             ap (λ (x : List ℕ). trace_to_tree_output file sentence x other) w
             ∙ writes (tree_of g sentence trace) other (through other h)

@@ -39,6 +39,7 @@ use Rattle.ranking.proofs.Numbered.{Below, extended_old, extended_new, step_name
 use Rattle.recognizer.specs.Traces.{front_number, taken_numbered}
 use Rattle.derivation.proofs.Queued.{numbers_of, Queued, step_queued}
 use Rattle.unfold.specs.Unfold.{daughter_count, Taken, trees_from, Unfolds}
+use Rattle.model.specs.Verdict.{counts}
 
 taken_more : (x : ℕ) (l : List ℕ) (p : ℕ) → Taken l p → Taken (x ∷ l) p
 taken_more x l p h = (suc h.0, omega (arith, h.1), h.2)

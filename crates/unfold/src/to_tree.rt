@@ -13,7 +13,7 @@ ghost use Rattle.unfold.specs.Unfold.{daughter_count, Linked, Grows, Grown, Push
 use buffers::{number_at, wide};
 use derivation::conversion_tests;
 use grammar::daughter_count;
-use model::{MOST_STEPS, RuleNumber, Tested, Verdict};
+use model::{MOST_STEPS, Refusal, RuleNumber};
 use recognizer::run_trace;
 use steps::{NUMBERS, first_daughter};
 
@@ -75,29 +75,23 @@ fn write_tree(file: &[u8], trace: &[u16], steps: &[u16; NUMBERS], out: &mut [u16
 }
 
 // A trace's verdict, for a grammar file and a sentence that are accepted and an output with room; of an accepted trace, the tree is written.
-fn converted(file: &[u8], sentence: &[u32], trace: &[u16], out: &mut [u16]) -> Verdict
+fn converted(file: &[u8], sentence: &[u32], trace: &[u16], out: &mut [u16]) -> Result<u64, Refusal>
     requires { (grammar_refusal file.now ≡ none) × (length sentence.now ≤ 96) × (96 ≤ length out.old) }
     ensures { (result ≡ verdict (trace_refusal (grammar_of file.now) sentence.now trace.now) (length trace.now)) × (out.new ≡ written (trace_refusal (grammar_of file.now) sentence.now trace.now) (tree_of (grammar_of file.now) sentence.now trace.now) out.old) }
 {
     let mut taken = [0u16; MOST_STEPS];
-    let v = run_trace(file, sentence, trace, &mut taken);
-    let Verdict::Accepted(_) = v else {
-        return v;
-    };
+    let n = run_trace(file, sentence, trace, &mut taken)?;
     let mut steps = [0u16; NUMBERS];
     link(&taken, trace.len(), &mut steps);
     write_tree(file, trace, &steps, out);
-    v
+    Ok(n)
 }
 
 // Trace to tree: refusals 1 to 10, 23, 11 and 29, 12, the trace's own; else the node count, and the tree's list at the front of the output. One run of the
 // trace, and a turn for each node.
-pub fn trace_to_tree(file: &[u8], sentence: &[u32], trace: &[u16], out: &mut [u16]) -> Verdict
+pub fn trace_to_tree(file: &[u8], sentence: &[u32], trace: &[u16], out: &mut [u16]) -> Result<u64, Refusal>
     ensures { (result ≡ trace_to_tree_verdict file.now sentence.now trace.now out.old) × (out.new ≡ trace_to_tree_output file.now sentence.now trace.now out.old) }
 {
-    let tests = conversion_tests(file, sentence, out);
-    match tests {
-        Tested::Passed => converted(file, sentence, trace, out),
-        Tested::Met(r) => Verdict::Refused(r),
-    }
+    conversion_tests(file, sentence, out)?;
+    converted(file, sentence, trace, out)
 }

@@ -8,9 +8,8 @@ use native.Mathlib.Omega.{arith}
 use lib.Dec.{T}
 use lib.ListN.{length}
 use Rattle.model.specs.declared.Refusal.{Refusal}
-use Rattle.model.specs.declared.Verdict.{Verdict}
 use Rattle.model.specs.Base.{total}
-use Rattle.model.specs.Verdict.{verdict}
+use Rattle.model.specs.Verdict.{verdict, Verdict}
 use Rattle.model.specs.Grammar.{Rule, Grammar, rule_at}
 use Rattle.model.specs.GrammarFile.{weight_of, record_of, grammar_refusal, grammar_of}
 use Rattle.model.specs.WellFormed.{Perm, Right}
@@ -30,6 +29,7 @@ use Rattle.model.proofs.Checker.{accepted_trace}
 use Rattle.model.proofs.Demands.{belongs, tree_back, trace_short, tree_short, demand_2}
 use Rattle.model.proofs.Refusals.{trace_decided, tree_decided}
 use Rattle.weights.specs.Weights.{weight_by, weight_at, weight_sum, records_sum, largest_sum, Weighed, TraceWeighed, TreeWeighed, Demand1Weighed, SameRules}
+use Rattle.std.specs.Prelude.{Ok, Err}
 
 pub demand_1_weighed : Demand1Weighed
 demand_1_weighed =
@@ -112,11 +112,11 @@ module _ (file : List ℕ) where
         subst (λ (x : List ℕ). Sums (trace_of g sentence x) x) d.listed (derived_sums right d.tree d.derived)
 
 -- the two answers of a call: the refusal, or a sum that is right along both lists
-pub weighed_refused : (o : Option Refusal) (n : ℕ) (belonging : Verdict) (x : Refusal) → o ≡ some x → Weighed o (verdict o n) belonging (Verdict.Refused x)
+pub weighed_refused : (o : Option Refusal) (n : ℕ) (belonging : Verdict) (x : Refusal) → o ≡ some x → Weighed o (verdict o n) belonging (Err x)
 weighed_refused o n belonging x e = record { verdict_is = refused o n x e; same_sum = λ none_is. none_some (sym e ∙ none_is); small = tt }
 
 weighed_accepted : (o p : Option Refusal) (n m sum : ℕ) → o ≡ none → p ≡ none → sum ≡ n → n ≡ m → sum ≤ largest_sum
-    → Weighed o (verdict o n) (verdict p m) (Verdict.Accepted sum)
+    → Weighed o (verdict o n) (verdict p m) (Ok sum)
 weighed_accepted o p n m sum e f s same few = record { verdict_is = accepted o n sum e s; same_sum = λ none_is. accepted p m sum f (s ∙ same); small = few }
 
 module _ (file sentence list : List ℕ) where
@@ -131,7 +131,7 @@ module _ (file sentence list : List ℕ) where
     pub trace_few : length list ≤ 96
     trace_few = trace_short (grammar_of file) (accepted_right file trace_tests.0) sentence list trace_tests.2
 
-    pub trace_weighed : (sum : ℕ) → sum ≡ records_sum file list → sum ≤ largest_sum → TraceWeighed file sentence list (Verdict.Accepted sum)
+    pub trace_weighed : (sum : ℕ) → sum ≡ records_sum file list → sum ≤ largest_sum → TraceWeighed file sentence list (Ok sum)
     trace_weighed sum s few =
         let w = trace_sums file sentence (accepted_right file trace_tests.0) list trace_tests.2 in
         let tree = tree_of (grammar_of file) sentence list in
@@ -147,7 +147,7 @@ module _ (file sentence list : List ℕ) where
     pub tree_few : length list ≤ 96
     tree_few = tree_short (grammar_of file) (accepted_right file tree_tests.0) sentence list tree_tests.2
 
-    pub tree_weighed : (sum : ℕ) → sum ≡ records_sum file list → sum ≤ largest_sum → TreeWeighed file sentence list (Verdict.Accepted sum)
+    pub tree_weighed : (sum : ℕ) → sum ≡ records_sum file list → sum ≤ largest_sum → TreeWeighed file sentence list (Ok sum)
     tree_weighed sum s few =
         let w = tree_sums file sentence (accepted_right file tree_tests.0) list tree_tests.2 in
         let trace = trace_of (grammar_of file) sentence list in

@@ -1,12 +1,10 @@
 -- The sum of an analysis's weights (document 02, paper 1): what the two calls answer, and what is proved of their answers.
 -- Assumes nothing.
-use Rattle.std.specs.Prelude.{◌≡◌, ℕ, ◌*◌, ◌≤◌, List, [], ◌∷◌, map, T}
+use Rattle.std.specs.Prelude.{◌≡◌, ℕ, ◌*◌, ◌≤◌, List, [], ◌∷◌, map, T, Ok, Err}
 use Rattle.std.proofs.Math.Option.{Option, none, some}
 use Rattle.model.specs.declared.Refusal.{Refusal}
-use Rattle.model.specs.declared.Verdict.{Verdict}
-use Rattle.model.specs.declared.Verdict.TheVariants.{Accepted, Refused}
 use Rattle.model.specs.Base.{total}
-use Rattle.model.specs.Verdict.{verdict, verdict_answer}
+use Rattle.model.specs.Verdict.{verdict, verdict_answer, Verdict}
 use Rattle.model.specs.Grammar.{Rule, Grammar, rule_at}
 use Rattle.model.specs.GrammarFile.{weight_of, record_of, grammar_refusal, grammar_of}
 use Rattle.model.specs.WellFormed.{Perm}
@@ -39,8 +37,8 @@ largest_sum = 96 * 255
 
 -- an accepted sum is at most n
 abbrev pub AtMost : ℕ → Verdict → Type 0
-AtMost n (Accepted sum) = sum ≤ n
-AtMost n (Refused r) = Unit {0}
+AtMost n (Ok sum) = sum ≤ n
+AtMost n (Err r) = Unit {0}
 
 -- What a call promises that is tested by `refusal`: its answer is its own verdict; where that is a sum, it is also the verdict of the other call for the list
 -- that belongs to the one given; and the sum is at most `largest_sum`.

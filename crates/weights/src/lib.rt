@@ -6,7 +6,7 @@ ghost use Rattle.weights.specs.Weights.{records_sum, largest_sum, TraceWeighed, 
 
 use derivation::check_tree;
 use grammar::weight_of;
-use model::{RuleNumber, Verdict};
+use model::{Refusal, RuleNumber};
 use recognizer::check_trace;
 
 // Rule k of a list.
@@ -32,23 +32,17 @@ fn sum_weights(file: &[u8], list: &[u16]) -> u64
 }
 
 // The sum of weights along a trace, which is refused as the trace checker refuses it.
-pub fn weigh_trace(file: &[u8], sentence: &[u32], trace: &[u16]) -> Verdict
+pub fn weigh_trace(file: &[u8], sentence: &[u32], trace: &[u16]) -> Result<u64, Refusal>
     ensures { TraceWeighed file.now sentence.now trace.now result }
 {
-    let v = check_trace(file, sentence, trace);
-    let Verdict::Accepted(_) = v else {
-        return v;
-    };
-    Verdict::Accepted(sum_weights(file, trace))
+    check_trace(file, sentence, trace)?;
+    Ok(sum_weights(file, trace))
 }
 
 // The sum of weights along a tree, which is refused as the tree checker refuses it.
-pub fn weigh_tree(file: &[u8], sentence: &[u32], tree: &[u16]) -> Verdict
+pub fn weigh_tree(file: &[u8], sentence: &[u32], tree: &[u16]) -> Result<u64, Refusal>
     ensures { TreeWeighed file.now sentence.now tree.now result }
 {
-    let v = check_tree(file, sentence, tree);
-    let Verdict::Accepted(_) = v else {
-        return v;
-    };
-    Verdict::Accepted(sum_weights(file, tree))
+    check_tree(file, sentence, tree)?;
+    Ok(sum_weights(file, tree))
 }

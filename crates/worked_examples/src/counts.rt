@@ -1,7 +1,6 @@
 // Counts and entries: K5, K6 and K10.
 use crate::show::{print_refusal, print_written};
 use crate::words::{WORD_0, WORD_1};
-use model::CountVerdict;
 use std::io;
 
 pub fn show_count(
@@ -13,8 +12,8 @@ pub fn show_count(
 ) -> io::Result<()> {
     let v = analyses::count(file, sentence, n, limit);
     match v {
-        CountVerdict::Counted(count, effort) => println!(rt; "{count} {effort}"),
-        CountVerdict::NotCounted(r) => print_refusal(rt, r),
+        Ok(c) => println!(rt; "{} {}", c.count, c.effort),
+        Err(r) => print_refusal(rt, r),
     }
 }
 

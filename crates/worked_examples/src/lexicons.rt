@@ -1,7 +1,7 @@
 // Lexicons of features (document 02, paper 6): the grammar of example 2 of W11-0605, made and counted by, and refusals 30, 10, 31 and 23. The numbering of
 // a made grammar is free, so that of it only what every numbering has is printed: the file's length, and counts.
 use crate::show::{load, print_refusal, print_verdict};
-use model::{CountVerdict, Verdict, Word};
+use model::Word;
 use sentences::{place_with, single_word};
 use std::io;
 use std::rt::Files;
@@ -21,8 +21,8 @@ const WHO: u32 = 262148;
 fn how_many(rt: &impl Print, file: &[u8], sentence: &[u32], n: u64) -> io::Result<()> {
     let v = analyses::count(file, sentence, n, 1000000);
     match v {
-        CountVerdict::Counted(count, _) => println!(rt; "{count}"),
-        CountVerdict::NotCounted(r) => print_refusal(rt, r),
+        Ok(c) => println!(rt; "{}", c.count),
+        Err(r) => print_refusal(rt, r),
     }
 }
 
@@ -43,7 +43,7 @@ fn made(rt: &impl Print, lexicon: &[u8]) -> io::Result<()> {
     let mut out = [0u8; 7168];
     let v = make_grammar::make_grammar(lexicon, 5, 3, &mut out);
     print_verdict(rt, v)?;
-    let Verdict::Accepted(n) = v else {
+    let Ok(n) = v else {
         return Ok(());
     };
     counts(rt, grammar::fields(&out, 0, n as usize))

@@ -29,7 +29,7 @@ fn number_of(rt: &impl Print, year: u16, month: u8, day: u8) -> io::Result<()> {
 fn opening(rt: &impl Print, year: u16, month: u8, day: u8, term: u64) -> io::Result<()> {
     let v = dates::opening_day(date(year, month, day), term);
     print_verdict(rt, v)?;
-    if let model::Verdict::Accepted(n) = v {
+    if let Ok(n) = v {
         date_of(rt, n)?;
     }
     Ok(())

@@ -2,7 +2,7 @@
 ghost use Rattle.worked_examples.specs.Counts.{IsPrefixLen};
 
 use buffers::number_at;
-use model::{Refusal, Verdict};
+use model::Refusal;
 use std::fs::File;
 use std::io;
 use std::io::{ErrorKind, Read};
@@ -45,14 +45,14 @@ pub fn title(rt: &impl Print, text: &[u8]) -> io::Result<()> {
 
 // R, the refusal's number and its place, on a line.
 pub fn print_refusal(rt: &impl Print, r: Refusal) -> io::Result<()> {
-    println!(rt; "R {} {}", model::number_of(r), model::place_of(r))
+    println!(rt; "R {} {}", r.number(), r.place())
 }
 
 // A verdict on a line: its value, or the refusal.
-pub fn print_verdict(rt: &impl Print, v: Verdict) -> io::Result<()> {
+pub fn print_verdict(rt: &impl Print, v: Result<u64, Refusal>) -> io::Result<()> {
     match v {
-        Verdict::Accepted(n) => println!(rt; "{n}"),
-        Verdict::Refused(r) => print_refusal(rt, r),
+        Ok(n) => println!(rt; "{n}"),
+        Err(r) => print_refusal(rt, r),
     }
 }
 
@@ -69,9 +69,9 @@ pub fn print_numbers(rt: &impl Print, count: u64, list: &[u16]) -> io::Result<()
 }
 
 // What a call that writes a list answers: the list on a line, or the refusal.
-pub fn print_written(rt: &impl Print, v: Verdict, out: &[u16]) -> io::Result<()> {
+pub fn print_written(rt: &impl Print, v: Result<u64, Refusal>, out: &[u16]) -> io::Result<()> {
     match v {
-        Verdict::Accepted(n) => print_numbers(rt, n, out),
-        Verdict::Refused(r) => print_refusal(rt, r),
+        Ok(n) => print_numbers(rt, n, out),
+        Err(r) => print_refusal(rt, r),
     }
 }

@@ -2,7 +2,7 @@
 ghost use Rattle.std.specs.Prelude.{◌<◌, length};
 
 use crate::show::{print_verdict, title};
-use model::{RuleNumber, Verdict};
+use model::{Refusal, RuleNumber};
 use std::io;
 
 // The records of the file one after the other, as many as there is room for.
@@ -18,7 +18,7 @@ fn gather(file: &[u8], records: &mut [u8])
 }
 
 // The writer's verdict for the file's heading and these records.
-fn write(file: &[u8], records: &[u8], out: &mut [u8]) -> Verdict {
+fn write(file: &[u8], records: &[u8], out: &mut [u8]) -> Result<u64, Refusal> {
     writer::write_grammar(
         grammar::categories(file),
         grammar::start(file).0,
@@ -38,7 +38,7 @@ fn is_same(file: &[u8], out: &[u8], n: u64) -> bool {
 fn show(rt: &impl Print, file: &[u8], records: &[u8]) -> io::Result<()> {
     let mut out = [0u8; 7168];
     let v = write(file, records, &mut out);
-    let Verdict::Accepted(n) = v else {
+    let Ok(n) = v else {
         return print_verdict(rt, v);
     };
     if is_same(file, &out, n) {

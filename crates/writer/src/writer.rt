@@ -8,7 +8,7 @@ ghost use Rattle.writer.specs.Writing.{heading};
 use crate::blocks::put_file;
 use crate::heading::wrong_numbers;
 use grammar::fields;
-use model::{Refusal, Tested, Verdict};
+use model::Refusal;
 use reader::blocks_for;
 use rule_tests::{Layout, rules_refusal};
 
@@ -20,20 +20,20 @@ fn given_refusal(
     rules: u16,
     dimensions: &[u8],
     records: &[u8],
-) -> Tested
+) -> Result<(), Refusal>
     ensures { result ≡ tested (writer_refusal (heading categories start words rules dimensions.now) records.now) }
 {
     if dimensions.len() != 64 {
-        return Tested::Met(Refusal::Grammar(4, 0));
+        return Err(Refusal::Grammar(4, 0));
     }
     if 256 < rules {
-        return Tested::Met(Refusal::Grammar(4, 0));
+        return Err(Refusal::Grammar(4, 0));
     }
     if wrong_numbers(categories, start, words, rules, dimensions) {
-        return Tested::Met(Refusal::Grammar(4, 0));
+        return Err(Refusal::Grammar(4, 0));
     }
     if records.len() != 24 * (rules as usize) {
-        return Tested::Met(Refusal::Grammar(5, 0));
+        return Err(Refusal::Grammar(5, 0));
     }
     rules_refusal(
         fields(dimensions, 0, categories as usize),
@@ -53,16 +53,13 @@ pub fn write_grammar(
     dimensions: &[u8],
     records: &[u8],
     out: &mut [u8],
-) -> Verdict
+) -> Result<u64, Refusal>
     ensures { (result ≡ write_verdict (heading categories start words rules dimensions.now) records.now out.old) × (out.new ≡ write_output (heading categories start words rules dimensions.now) records.now out.old) }
 {
-    let given = given_refusal(categories, start, words, rules, dimensions, records);
-    if let Tested::Met(r) = given {
-        return Verdict::Refused(r);
-    }
+    given_refusal(categories, start, words, rules, dimensions, records)?;
     let n = 512 * blocks_for(rules);
     if out.len() < n {
-        return Verdict::Refused(Refusal::Desk(23, 0));
+        return Err(Refusal::Desk(23, 0));
     }
     put_file(
         categories,
@@ -73,5 +70,5 @@ pub fn write_grammar(
         records,
         &mut out[0..n],
     );
-    Verdict::Accepted(n as u64)
+    Ok(n as u64)
 }

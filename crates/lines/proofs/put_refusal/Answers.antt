@@ -20,5 +20,5 @@ shape_of-out c = put_long c.put_count.ensures ∙ simp length-set
 
 pub returns : goal.returns
 returns c =
-    let e = ap₂ (λ (n p : ℕ). letter_r ∷ blank ∷ line (n ∷ p ∷ [])) c.number_of-number.ensures c.place_of-place.ensures in
+    let e = ap₂ (λ (n p : ℕ). letter_r ∷ blank ∷ line (n ∷ p ∷ [])) c.number-number.ensures c.place-place.ensures in
     put_same (two_before c.args.out.now _ c.args.at letter_r blank _ _ c.put_count.ensures) e

@@ -2,8 +2,8 @@
 -- Assumes nothing.
 use Rattle.lines.proofs.put_verdict.Goals as goal
 
-pub returns-in-Counted : goal.returns-in-Counted
-returns-in-Counted c = rw c.in-Counted.is c.put_count.ensures
+pub returns-in-Ok : goal.returns-in-Ok
+returns-in-Ok c = rw c.in-Ok.is c.put_count.ensures
 
-pub returns-in-NotCounted : goal.returns-in-NotCounted
-returns-in-NotCounted c = rw c.in-NotCounted.is c.put_refusal.ensures
+pub returns-in-Err : goal.returns-in-Err
+returns-in-Err c = rw c.in-Err.is c.put_refusal.ensures

@@ -3,8 +3,8 @@
 use mathlib.Core.Path.{refl}
 use Rattle.packing.proofs.verdict_bits.Goals as goal
 
-pub returns-in-Accepted : goal.returns-in-Accepted
-returns-in-Accepted c = let f = rw c.in-Accepted.is at c.requires in rw c.in-Accepted.is (record { packed = refl; fits = f })
+pub returns-in-Ok : goal.returns-in-Ok
+returns-in-Ok c = let f = rw c.in-Ok.is at c.requires in rw c.in-Ok.is (record { packed = refl; fits = f })
 
-pub returns-in-Refused : goal.returns-in-Refused
-returns-in-Refused c = rw c.in-Refused.is (record { packed = c.refusal_bits.ensures.0; fits = c.refusal_bits.ensures.1 })
+pub returns-in-Err : goal.returns-in-Err
+returns-in-Err c = rw c.in-Err.is (record { packed = c.refusal_bits.ensures.0; fits = c.refusal_bits.ensures.1 })

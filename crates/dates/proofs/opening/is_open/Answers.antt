@@ -16,14 +16,14 @@ returns-then-asked-ge-DAYS c = rw (sym c.is_date.ensures ∙ c.if-not-is_date.fa
 pub opening_number-requires : goal.opening_number-requires
 opening_number-requires c = sym c.is_date.ensures ∙ c.if-not-is_date.false
 
-pub returns-in-Refused : goal.returns-in-Refused
-returns-in-Refused c =
+pub returns-in-Err : goal.returns-in-Err
+returns-in-Err c =
     let a = c.args in
     open_refused a.d a.term a.asked (sym c.is_date.ensures ∙ c.if-not-is_date.false)
-    (lt-leb days a.asked (omega (arith, c.if-asked-ge-DAYS.false))) c.opening_number.result c.opening_number.ensures c.in-Refused.is
+    (lt-leb days a.asked (omega (arith, c.if-asked-ge-DAYS.false))) c.opening_number.result c.opening_number.ensures c.in-Err.is
 
-pub returns-in-Accepted : goal.returns-in-Accepted
-returns-in-Accepted c =
+pub returns-in-Ok : goal.returns-in-Ok
+returns-in-Ok c =
     let a = c.args in
     open_told a.d a.term a.asked (sym c.is_date.ensures ∙ c.if-not-is_date.false)
-    (lt-leb days a.asked (omega (arith, c.if-asked-ge-DAYS.false))) c.opening_number.result c.opening_number.ensures c.in-Accepted.is c.open_from.ensures
+    (lt-leb days a.asked (omega (arith, c.if-asked-ge-DAYS.false))) c.opening_number.result c.opening_number.ensures c.in-Ok.is c.open_from.ensures

@@ -5,13 +5,14 @@ use Prim.Native.Nat.{◌≤◌}
 use native.Mathlib.Omega.{arith}
 use lib.Dec.{ltb}
 use borrow.Author.Tests.{lt-ltb, le-ltb}
-use Rattle.model.specs.declared.Verdict.{Verdict}
 use Rattle.calendar.specs.declared.Date.{Date}
 use Rattle.calendar.specs.Calendar.{last_year, day_number}
 use Rattle.calendar.proofs.Calendar.{is_date_lem, date_is}
 use Rattle.dates.specs.Dates.{opening, longest_term}
 use Rattle.dates.proofs.OneDate.{opening_is}
 use Rattle.dates.proofs.opening.opening_number.Goals as goal
+use Rattle.model.specs.Verdict.{Verdict}
+use Rattle.std.specs.Prelude.{Ok}
 
 -- the year of the date that was found
 late : {a b : Date} → a ≡ b → ltb last_year b.year ≡ ltb last_year a.year
@@ -35,4 +36,4 @@ number_of-requires c =
 pub returns : goal.returns
 returns c =
     rw (le-ltb longest_term c.args.term (omega (arith, c.if-term-gt-LONGEST_TERM.false)), late c.opening_date-o.ensures ∙ le-ltb _ _ c.if-year-gt-LAST_YEAR.false)
-    (ap Verdict.Accepted (c.number_of.ensures ∙ ap day_number c.opening_date-o.ensures))
+    (ap Ok (c.number_of.ensures ∙ ap day_number c.opening_date-o.ensures))

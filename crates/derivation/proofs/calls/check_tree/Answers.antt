@@ -6,43 +6,43 @@ use Rattle.model.specs.Base.{◌or_else◌}
 use Rattle.model.specs.GrammarFile.{grammar_refusal, grammar_of}
 use Rattle.model.specs.Trace.{sentence_refusal}
 use Rattle.model.specs.Tree.{tree_refusal}
-use Rattle.model.proofs.Verdicts.{tests_pass, tests_met, refused_first, after_pass}
+use Rattle.model.proofs.Verdicts.{handed_on, tests_pass, tests_met, refused_first, after_pass}
 use Rattle.derivation.proofs.calls.check_tree.Goals as goal
 
-pub returns-in-Met : goal.returns-in-Met
-returns-in-Met c =
-    let k = c.grammar_refusal-grammar in
+pub returns-in_err-grammar_refusal : goal.returns-in_err-grammar_refusal
+returns-in_err-grammar_refusal c =
+    let k = c.grammar_refusal in
     let a = c.args in
     let G = grammar_refusal a.file.now in
     let W = sentence_refusal (grammar_of a.file.now) a.sentence.now in
     let R = tree_refusal (grammar_of a.file.now) a.sentence.now a.tree.now in
-    refused_first G (W or_else R) (length a.tree.now) (tests_met G k.result k.ensures c.in-Met.is)
+    rw (handed_on c.from_residual.result c.from_residual.ensures.1) (refused_first G (W or_else R) (length a.tree.now) (tests_met G k.result k.ensures c.in_err-grammar_refusal.was))
 
-pub returns-in-Met-words : goal.returns-in-Met-words
-returns-in-Met-words c =
-    let k = c.sentence_refusal-words in
-    let g = c.grammar_refusal-grammar in
+pub returns-in_err-sentence_refusal : goal.returns-in_err-sentence_refusal
+returns-in_err-sentence_refusal c =
+    let k = c.sentence_refusal in
+    let g = c.grammar_refusal in
     let a = c.args in
     let G = grammar_refusal a.file.now in
     let W = sentence_refusal (grammar_of a.file.now) a.sentence.now in
     let R = tree_refusal (grammar_of a.file.now) a.sentence.now a.tree.now in
-    after_pass G (W or_else R) (length a.tree.now) _ (tests_pass G g.result g.ensures c.in_default.is)
-    (refused_first W R (length a.tree.now) (tests_met W k.result k.ensures c.in-Met-words.is))
+    rw (handed_on c.from_residual-in_err-sentence_refusal.result c.from_residual-in_err-sentence_refusal.ensures.1) (after_pass G (W or_else R) (length a.tree.now) _ (tests_pass G g.result g.ensures c.in_ok-grammar_refusal.was)
+    (refused_first W R (length a.tree.now) (tests_met W k.result k.ensures c.in_err-sentence_refusal.was)))
 
 pub trace_tree-requires : goal.trace_tree-requires
 trace_tree-requires c =
-    let g = c.grammar_refusal-grammar in
+    let g = c.grammar_refusal in
     let a = c.args in
-    (tests_pass (grammar_refusal a.file.now) g.result g.ensures c.in_default.is, refl {a = 96})
+    (tests_pass (grammar_refusal a.file.now) g.result g.ensures c.in_ok-grammar_refusal.was, refl {a = 96})
 
 pub returns : goal.returns
 returns c =
-    let k = c.sentence_refusal-words in
-    let g = c.grammar_refusal-grammar in
+    let k = c.sentence_refusal in
+    let g = c.grammar_refusal in
     let a = c.args in
     let G = grammar_refusal a.file.now in
     let W = sentence_refusal (grammar_of a.file.now) a.sentence.now in
     let R = tree_refusal (grammar_of a.file.now) a.sentence.now a.tree.now in
     let n = length a.tree.now in
-    after_pass G (W or_else R) n c.trace_tree.result (tests_pass G g.result g.ensures c.in_default.is)
-    (after_pass W R n c.trace_tree.result (tests_pass W k.result k.ensures c.in_default-words.is) c.trace_tree.ensures.answer)
+    after_pass G (W or_else R) n c.trace_tree.result (tests_pass G g.result g.ensures c.in_ok-grammar_refusal.was)
+    (after_pass W R n c.trace_tree.result (tests_pass W k.result k.ensures c.in_ok-sentence_refusal.was) c.trace_tree.ensures.answer)

@@ -25,16 +25,16 @@ put_page-requires c =
     let p = c.put_verdict-place.ensures in
     (record { grammar = _; sentence = _; limit = _; goes_on = c.begun.ensures.goes_on }, omega (arith, c.requires.2, p.place, put_long p, verdict_short c.count_from-v.result))
 
-pub returns-in-Counted : goal.returns-in-Counted
-returns-in-Counted c =
+pub returns-in-Ok : goal.returns-in-Ok
+returns-in-Ok c =
     let a = c.args in
     counted_page a.file.now a.words a.spoken a.n c.count_from-v.result a.out.now _ _ c.put_verdict-place.ensures _ c.first_words.ensures
     (c.count_from-v.ensures.of_grammar (grammar_of a.file.now) (file_starts a.file.now c.requires.0 _ _ _ _ a.n program_limit _ (c.compile-table.ensures c.requires.0) (c.chain_rules-chain.ensures c.requires.0) c.start.ensures c.first_queue-queues.ensures c.requires.1))
-    c.in-Counted.is c.begun.ensures c.put_page.ensures
+    c.in-Ok.is c.begun.ensures c.put_page.ensures
 
-pub returns-in-NotCounted : goal.returns-in-NotCounted
-returns-in-NotCounted c =
+pub returns-in-Err : goal.returns-in-Err
+returns-in-Err c =
     let a = c.args in
     costly_page a.file.now a.words a.spoken a.n c.count_from-v.result a.out.now _ _ c.put_verdict-place.ensures _ c.first_words.ensures
     (c.count_from-v.ensures.of_grammar (grammar_of a.file.now) (file_starts a.file.now c.requires.0 _ _ _ _ a.n program_limit _ (c.compile-table.ensures c.requires.0) (c.chain_rules-chain.ensures c.requires.0) c.start.ensures c.first_queue-queues.ensures c.requires.1))
-    c.in-NotCounted.is c.ends_at.ensures
+    c.in-Err.is c.ends_at.ensures

@@ -5,7 +5,7 @@ use mathlib.Core.Path.{refl, sym, ap, ◌∙◌}
 use native.Mathlib.Omega.{arith}
 use lib.ListN.{replicate}
 use Rattle.model.specs.GrammarFile.{record_refusal}
-use Rattle.model.proofs.Verdicts.{tests_pass, tests_met}
+use Rattle.model.proofs.Verdicts.{handed_on, tests_pass, tests_met}
 use Rattle.rule_tests.specs.Chains.{hash_of, hash_at}
 use Rattle.rule_tests.specs.Layout.{record_in}
 use Rattle.model.proofs.TestLoops.{left_all, left_pass, left_stop, left_end}
@@ -18,8 +18,8 @@ loop-i-init c =
     let record_at = record_in a.layout a.bytes.now in
     (omega arith, refl, refl, latest_none (hash_at record_at), chain_none (hash_at record_at) (replicate 256 0), left_all (record_refusal a.dimensions.now a.words record_at) a.n)
 
-pub rule_refusal-rule-requires : goal.rule_refusal-rule-requires
-rule_refusal-rule-requires c =
+pub rule_refusal-requires : goal.rule_refusal-requires
+rule_refusal-requires c =
     let a = c.args in
     let record_at = record_in a.layout a.bytes.now in
     let inv = c.loop-i.invariant in
@@ -27,12 +27,12 @@ rule_refusal-rule-requires c =
     let more = entered (hash_at record_at) c.loop-i.i (omega arith) inv.1 inv.2 inv.3 inv.4 (omega arith) hashed c.enter.ensures in
     record { is = c.record_in-e.ensures; chained = more.3 }
 
-pub returns-in_default : goal.returns-in_default
-returns-in_default c =
+pub returns-in_err-rule_refusal : goal.returns-in_err-rule_refusal
+returns-in_err-rule_refusal c =
     let a = c.args in
     let test = record_refusal a.dimensions.now a.words (record_in a.layout a.bytes.now) in
-    let stop = tests_met (test c.loop-i.i) c.rule_refusal-rule.result c.rule_refusal-rule.ensures c.in_default.is in
-    c.in_default.is ∙ sym (c.loop-i.invariant.5 ∙ left_stop test c.loop-i.i a.n c.loop-i-test.true stop)
+    let stop = tests_met (test c.loop-i.i) c.rule_refusal.result c.rule_refusal.ensures c.in_err-rule_refusal.was in
+    rw (handed_on c.from_residual.result c.from_residual.ensures.1) (sym (c.loop-i.invariant.5 ∙ left_stop test c.loop-i.i a.n c.loop-i-test.true stop))
 
 pub loop-i-preserved : goal.loop-i-preserved
 loop-i-preserved c =
@@ -42,7 +42,7 @@ loop-i-preserved c =
     let hashed = c.hash_of.ensures ∙ ap hash_of c.record_in-e.ensures in
     let more = entered (hash_at record_at) c.loop-i.i (omega arith) inv.1 inv.2 inv.3 inv.4 (omega arith) hashed c.enter.ensures in
     let test = record_refusal a.dimensions.now a.words record_at in
-    let pass = tests_pass (test c.loop-i.i) c.rule_refusal-rule.result c.rule_refusal-rule.ensures c.in-Passed.is in (
+    let pass = tests_pass (test c.loop-i.i) c.rule_refusal.result c.rule_refusal.ensures c.in_ok-rule_refusal.was in (
       omega (arith, c.loop-i-test.true),
       more.0,
       more.1,
