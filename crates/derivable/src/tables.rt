@@ -9,6 +9,7 @@ use grammar::same_bytes;
 const ROWS: usize = 64;
 
 // A table of forms: the first `count` rows are theirs.
+#[derive(Drop)]
 pub struct FormTable {
     pub rows: [Row; ROWS],
     pub count: usize,

@@ -18,6 +18,7 @@ pub const RECORD: usize = 24;
 const RECORDS: usize = 6144;
 
 // The records of rules, one after another, and how many rules there are; none is said where they are too many.
+#[derive(Drop)]
 pub struct Records {
     pub bytes: [u8; RECORDS],
     pub count: Option<usize>,

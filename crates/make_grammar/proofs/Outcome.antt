@@ -1,6 +1,6 @@
 -- From what the parts of the call say to its outcome.
 -- Assumes nothing.
-use Rattle.std.specs.Prelude.{if◌then◌else◌, Ok, Err}
+use Rattle.std.specs.Prelude.{Option, Some, None, if◌then◌else◌, Ok, Err}
 use mathlib.Core.Path.{◌≡◌, refl, ap, ap₂, sym, subst, ◌∙◌}
 use mathlib.Core.Bool.{Bool, true, false, ◌||◌}
 use mathlib.Core.Option.{none}
@@ -26,9 +26,13 @@ use Rattle.minimalist.proofs.MakeGrammar.{refused_large, refused_room, file_put}
 use Rattle.writer.specs.Writing.{heading}
 use Rattle.minimalist.proofs.Forms.{rounds_apart}
 use Rattle.derivable.specs.Tables.{Holds}
+use Rattle.derivable.specs.declared.tables.FormTable.{FormTable}
+use Rattle.derivable.proofs.TableLaws.{holds_first}
+use Rattle.derivable.proofs.SchemeRows.{none_is_some, some_same}
+use Rattle.made_records.specs.declared.Records.{Records}
 use Rattle.derivable.specs.Rounds.{Derived}
 use Rattle.derivable.proofs.Growing.{derived_holds}
-use Rattle.make_grammar.specs.Making.{told_rules, RulesPut, PutsRules, made_heading, Written, WritesMade}
+use Rattle.make_grammar.specs.Making.{told_rules, told_of, RulesPut, PutsRules, made_heading, Written, WritesMade}
 use Rattle.model.specs.Verdict.{Verdict}
 
 -- the tests of 31, one after another
@@ -36,53 +40,39 @@ module _ (few many none : Bool) where
   over_first : few ≡ true → few || many || none ≡ true
   over_first e = rw e
 
-  over_second : many ≡ true → few || many || none ≡ true
-  over_second e = go few many e
+  over_second : many || none ≡ true → few || many || none ≡ true
+  over_second e = go few many none e
     where
-      go : (a b : Bool) → b ≡ true → a || b || none ≡ true
-      go true b f = refl
-      go false b f = ap (λ (x : Bool). x || none) f
-
-  over_third : none ≡ true → few || many || none ≡ true
-  over_third e = go (few || many) e
-    where
-      go : (a : Bool) → none ≡ true → a || none ≡ true
-      go true f = refl
-      go false f = f
+      go : (a b c : Bool) → b || c ≡ true → a || b || c ≡ true
+      go true b c f = refl
+      go false b c f = f
 
   over_none : few ≡ false → many ≡ false → none ≡ false → few || many || none ≡ false
   over_none e f g = rw (e, f, g)
 
 -- what the number of rules tells
-module _ (starts rules r : ℕ) (among : starts ≤ rules) (told : r ≡ told_rules starts rules) where
-  told_none : r ≡ 0 → eqb starts 0 ≡ true
-  told_none z = go (eqb starts 0) refl (ltb 256 rules) refl (sym told ∙ z)
+module _ (starts rules : ℕ) (o : Option ℕ) (among : o ≡ told_rules starts rules) where
+  told_large : o ≡ None → ltb 256 rules || eqb starts 0 ≡ true
+  told_large z = go (eqb starts 0) (ltb 256 rules) (sym z ∙ among)
     where
-      go : (a : Bool) → eqb starts 0 ≡ a → (b : Bool) → ltb 256 rules ≡ b → (if a then 0 else (if b then 257 else rules)) ≡ 0 → eqb starts 0 ≡ true
-      go true e b f q = e
-      go false e true f q = let z : ⊥ = omega arith in absurd z
-      go false e false f q = eq-eqb starts 0 (omega arith)
+      go : (a b : Bool) → None ≡ (if a then None else (if b then None else Some rules)) → b || a ≡ true
+      go true true q = refl
+      go true false q = refl
+      go false true q = refl
+      go false false q = none_is_some q
 
-  told_over : 256 < r → ltb 256 rules ≡ true
-  told_over h = go (eqb starts 0) (ltb 256 rules) refl told
-    where
-      go : (a b : Bool) → ltb 256 rules ≡ b → r ≡ (if a then 0 else (if b then 257 else rules)) → ltb 256 rules ≡ true
-      go true b f q = let z : ⊥ = omega arith in absurd z
-      go false true f q = f
-      go false false f q = let z : ⊥ = omega (arith, ltb-false 256 rules f) in absurd z
-
-  pub record Told : Type 0 where
+  pub record Told (n : ℕ) : Type 0 where
     pub started : eqb starts 0 ≡ false
     pub few : ltb 256 rules ≡ false
-    pub is : r ≡ rules
+    pub is : n ≡ rules
 
-  told_right : (r ≡ 0 → ⊥) → r ≤ 256 → Told
-  told_right d h = go (eqb starts 0) refl (ltb 256 rules) refl told
+  told_right : (n : ℕ) → o ≡ Some n → Told n
+  told_right n z = go (eqb starts 0) refl (ltb 256 rules) refl (sym z ∙ among)
     where
-      go : (a : Bool) → eqb starts 0 ≡ a → (b : Bool) → ltb 256 rules ≡ b → r ≡ (if a then 0 else (if b then 257 else rules)) → Told
-      go true e b f q = absurd (d q)
-      go false e true f q = let z : ⊥ = omega arith in absurd z
-      go false e false f q = record { started = e; few = f; is = q }
+      go : (a : Bool) → eqb starts 0 ≡ a → (b : Bool) → ltb 256 rules ≡ b → Some n ≡ (if a then None else (if b then None else Some rules)) → Told n
+      go true e b f q = none_is_some (sym q)
+      go false e true f q = none_is_some (sym q)
+      go false e false f q = record { started = e; few = f; is = some_same q }
 
 -- the file of the made grammar by the forms
 module _ (lexicon : List Entry) (words start : ℕ) (forms : List Form) where
@@ -101,9 +91,6 @@ module _ (lexicon : List Entry) (words start : ℕ) (forms : List Form) where
 
       same : made_heading words r forms ≡ heading_for (made_by lexicon words start forms)
       same = λ i. record { categories = categories i; start = 0; words = words; rules = rules i; dimensions = padded 64 (1 ∷ map form_dimension forms) }
-
-  starts_among : length (start_rules start forms) ≤ length made
-  starts_among = omega (arith, length-append (start_rules start forms) (map entry_rule lexicon ++ scheme_rules forms))
 
 -- the outcomes, by the forms that the table holds; these are the derivable ones
 module _ (bytes : List ℕ) (words start : ℕ) (all : T (all_bytes bytes)) (passed : entries_refusal bytes words start ≡ none) (out : List ℕ)
@@ -127,23 +114,18 @@ module _ (bytes : List ℕ) (words start : ℕ) (all : T (all_bytes bytes)) (pas
   pub many_forms : 63 < length forms → MakeOutcome bytes words start out (Err (Refusal.Grammar 31 0)) out
   many_forms h = refused_large bytes words start all out passed (large true (over_first (ltb 63 (length forms)) (ltb 256 rules) (eqb starts 0) (lt-ltb 63 (length forms) h)))
 
-  module _ (few : length forms ≤ 63) (r : ℕ) (records : List ℕ) (put : RulesPut l start forms r records) where
-    -- 31 by the start, and by the rules
-    pub no_start : r ≡ 0 → MakeOutcome bytes words start out (Err (Refusal.Grammar 31 0)) out
-    no_start e =
+  module _ (few : length forms ≤ 63) (o : Option Records) (put : RulesPut l start forms o) where
+    -- 31 by the start, or by the rules
+    pub many_rules : told_of o ≡ None → MakeOutcome bytes words start out (Err (Refusal.Grammar 31 0)) out
+    many_rules e =
         refused_large bytes words start all out passed
-        (large true (over_third (ltb 63 (length forms)) (ltb 256 rules) (eqb starts 0) (told_none starts rules r (starts_among l words start forms) put.told e)))
-
-    pub many_rules : 256 < r → MakeOutcome bytes words start out (Err (Refusal.Grammar 31 0)) out
-    many_rules h =
-        refused_large bytes words start all out passed
-        (large true (over_second (ltb 63 (length forms)) (ltb 256 rules) (eqb starts 0) (told_over starts rules r (starts_among l words start forms) put.told h)))
+        (large true (over_second (ltb 63 (length forms)) (ltb 256 rules) (eqb starts 0) (told_large starts rules (told_of o) put.counted e)))
 
     -- 23, or the file
-    module _ (some : r ≡ 0 → ⊥) (fits : r ≤ 256) (answer : Verdict) (after : List ℕ)
-        (written : Written (512 * blocks_for r) (file_of (made_heading words r forms) (take (24 * r) records)) out answer after) where
-      told : Told starts rules r (starts_among l words start forms) put.told
-      told = told_right starts rules r (starts_among l words start forms) put.told some fits
+    module _ (records : Records) (same : o ≡ Some records) (r : ℕ) (count : records.count ≡ Some r) (answer : Verdict) (after : List ℕ)
+        (written : Written (512 * blocks_for r) (file_of (made_heading words r forms) (take (24 * r) records.bytes)) out answer after) where
+      told : Told starts rules (told_of o) put.counted r
+      told = told_right starts rules (told_of o) put.counted r (ap told_of same ∙ count)
 
       small : made_too_large bytes start ≡ false
       small = large false (over_none (ltb 63 (length forms)) (ltb 256 rules) (eqb starts 0) (le-ltb 63 (length forms) few) told.few told.started)
@@ -151,13 +133,11 @@ module _ (bytes : List ℕ) (words start : ℕ) (all : T (all_bytes bytes)) (pas
       size : 512 * blocks_for r ≡ made_length bytes start
       size = ap (λ (n : ℕ). 512 * blocks_for n) told.is ∙ long
 
-      file : file_of (made_heading words r forms) (take (24 * r) records) ≡ file_for (made_grammar l words start)
+      file : file_of (made_heading words r forms) (take (24 * r) records.bytes) ≡ file_for (made_grammar l words start)
       file =
-          file_is l words start forms r (take (24 * r) records) told.is (put.are (positive some) fits)
+          file_is l words start forms r (take (24 * r) records.bytes) told.is
+          (ap (λ (n : ℕ). take (24 * n) records.bytes) told.is ∙ put.are records same (omega (arith, ltb-false 256 rules told.few)))
           ∙ ap (λ (f : List Form). file_for (made_by l words start f)) are
-        where
-          positive : (r ≡ 0 → ⊥) → 1 ≤ r
-          positive d = omega arith
 
       pub outcome : MakeOutcome bytes words start out answer after
       outcome = go (ltb (length out) (512 * blocks_for r)) refl
@@ -197,28 +177,35 @@ part_whole n l = let e : n - 0 ≡ n = omega arith in ap (λ (k : ℕ). take k l
 
 -- the outcome of the call by what its parts say
 module _ (bytes : List ℕ) (words start : ℕ) (all : T (all_bytes bytes)) (passed : entries_refusal bytes words start ≡ none) (out : List ℕ)
-    (table : List ℕ) (n : ℕ) (derived : Derived bytes n table) where
-  held : Holds table n (forms_of (lexicon_of bytes))
+    (table : FormTable) (derived : Derived bytes table) where
+  held : Holds table.rows table.count (forms_of (lexicon_of bytes))
   held = derived_holds bytes derived
 
-  pub over_forms : 63 < n → MakeOutcome bytes words start out (Err (Refusal.Grammar 31 0)) out
+  pub over_forms : 63 < table.count → MakeOutcome bytes words start out (Err (Refusal.Grammar 31 0)) out
   over_forms h = many_forms bytes words start all passed out (forms_of (lexicon_of bytes)) refl (subst (λ (k : ℕ). 63 < k) held.1 h)
 
-  module _ (few : n ≤ 63) {r : ℕ} {records : List ℕ} (puts : PutsRules table n bytes start r records) where
+  module _ (few : table.count ≤ 63) (long : table.count ≤ length table.rows) {rows : List (List ℕ)} (first : rows ≡ take table.count table.rows) where
     few_forms : length (forms_of (lexicon_of bytes)) ≤ 63
     few_forms = subst (λ (k : ℕ). k ≤ 63) held.1 few
 
-    put : RulesPut (lexicon_of bytes) start (forms_of (lexicon_of bytes)) r records
-    put = puts.puts (forms_of (lexicon_of bytes)) held (rounds_apart (lexicon_of bytes) 63)
+    rows_held : Holds rows (length rows) (forms_of (lexicon_of bytes))
+    rows_held = subst (λ (l : List (List ℕ)). Holds l (length l) (forms_of (lexicon_of bytes))) (sym first) (holds_first table.rows table.count long (forms_of (lexicon_of bytes)) held)
 
-    pub not_started : r ≡ 0 → MakeOutcome bytes words start out (Err (Refusal.Grammar 31 0)) out
-    not_started e = no_start bytes words start all passed out (forms_of (lexicon_of bytes)) refl few_forms r records put e
+    module _ {o : Option Records} (puts : PutsRules rows bytes start o) where
+      put : RulesPut (lexicon_of bytes) start (forms_of (lexicon_of bytes)) o
+      put = puts.puts (forms_of (lexicon_of bytes)) rows_held (rounds_apart (lexicon_of bytes) 63)
 
-    pub over_rules : 256 < r → MakeOutcome bytes words start out (Err (Refusal.Grammar 31 0)) out
-    over_rules h = many_rules bytes words start all passed out (forms_of (lexicon_of bytes)) refl few_forms r records put h
+      pub over_rules : told_of o ≡ None → MakeOutcome bytes words start out (Err (Refusal.Grammar 31 0)) out
+      over_rules e = many_rules bytes words start all passed out (forms_of (lexicon_of bytes)) refl few_forms o put e
 
-    pub written_made : (r ≡ 0 → ⊥) → r ≤ 256 → {after : List ℕ} {answer : Verdict} → WritesMade table n words r (take (24 * r - 0) records) out answer after
-        → MakeOutcome bytes words start out answer after
-    written_made some fits {after} {answer} w =
-        outcome bytes words start all passed out (forms_of (lexicon_of bytes)) refl few_forms r records put some fits answer after
-        (subst (λ (l : List ℕ). Written (512 * blocks_for r) (file_of (made_heading words r (forms_of (lexicon_of bytes))) l) out answer after) (part_whole (24 * r) records) (w.writes (forms_of (lexicon_of bytes)) held))
+      -- so many rules
+      pub few_rules : {n : ℕ} → told_of o ≡ Some n → n ≤ 256
+      few_rules {n} e =
+          let t = told_right (length (start_rules start (forms_of (lexicon_of bytes)))) (length (made_rules (lexicon_of bytes) start (forms_of (lexicon_of bytes)))) (told_of o) put.counted n e in
+          omega (arith, t.is, ltb-false 256 (length (made_rules (lexicon_of bytes) start (forms_of (lexicon_of bytes)))) t.few)
+
+      pub written_made : (records : Records) → o ≡ Some records → (r : ℕ) → records.count ≡ Some r → {after : List ℕ} {answer : Verdict}
+          → WritesMade rows words r (take (24 * r - 0) records.bytes) out answer after → MakeOutcome bytes words start out answer after
+      written_made records same r count {after} {answer} w =
+          outcome bytes words start all passed out (forms_of (lexicon_of bytes)) refl few_forms o put records same r count answer after
+          (subst (λ (l : List ℕ). Written (512 * blocks_for r) (file_of (made_heading words r (forms_of (lexicon_of bytes))) l) out answer after) (part_whole (24 * r) records.bytes) (w.writes (forms_of (lexicon_of bytes)) rows_held))

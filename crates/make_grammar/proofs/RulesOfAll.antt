@@ -1,61 +1,56 @@
 -- The records of the new start's rules, of the entries' and of the schemes', one after another, are those of all rules.
 -- Assumes nothing.
-use Rattle.std.specs.Prelude.{if◌then◌else◌}
+use Rattle.std.specs.Prelude.{if◌then◌else◌, Option, Some, None}
 use mathlib.Core.Path.{◌≡◌, ap, sym, subst, ◌∙◌}
 use mathlib.Core.Bool.{Bool, true, false}
 use mathlib.Core.List.{List, map}
 use Prim.Native.Nat.{ℕ, ◌*◌, ◌≤◌}
-use native.Mathlib.Omega.{arith}
-use lib.Dec.{ltb, eqb}
+use lib.Dec.{eqb}
 use lib.ListN.{length, take, length-map}
 use borrow.Author.Tests.{ne_eqb, eq-eqb}
-use Rattle.model.specs.Grammar.{Rule}
+use Rattle.model.specs.Base.{each}
+use Rattle.grammar_to_file.specs.FileFor.{record_for}
 use Rattle.minimalist.specs.Lexicon.{Entry, lexicon_of}
 use Rattle.minimalist.specs.Schemes.{Form}
 use Rattle.minimalist.specs.Closure.{start_rules, made_rules, scheme_rules}
 use Rattle.minimalist.specs.Numbering.{numbered_rule}
-use Rattle.made_records.specs.Records.{Held}
+use Rattle.derivable.proofs.SchemeRows.{none_is_some, some_same}
+use Rattle.made_records.specs.declared.Records.{Records}
+use Rattle.made_records.specs.Records.{told, Held}
 use Rattle.made_rules.specs.Listed.{Lists, Listed, with_entries}
 use Rattle.made_rules.proofs.Listing.{all_listed, starts_counted}
 use Rattle.make_grammar.specs.Making.{told_rules, RulesPut, PutsRules}
 
--- so many rules are held, if they are not too many
-held_few : (records : List ℕ) (r : ℕ) (rules : List Rule) → Held records r rules → r ≤ 256 → length rules ≡ r
-held_few records r rules h few = go (ltb 256 (length rules)) h.count
-  where
-    go : (b : Bool) → r ≡ (if b then 257 else length rules) → length rules ≡ r
-    go true q = let z : ⊥ = omega arith in absurd z
-    go false q = sym q
-
-module _ (lexicon : List Entry) (start : ℕ) (forms : List Form) (records : List ℕ) where
+module _ (lexicon : List Entry) (start : ℕ) (forms : List Form) where
   -- what is told, by whether the new start has a rule
   told_by : (b : Bool) → eqb (length (start_rules start forms)) 0 ≡ b
-      → told_rules (length (start_rules start forms)) (length (made_rules lexicon start forms))
-      ≡ (if b then 0 else (if ltb 256 (length (made_rules lexicon start forms)) then 257 else length (made_rules lexicon start forms)))
-  told_by b e = ap (λ (x : Bool). if x then 0 else (if ltb 256 (length (made_rules lexicon start forms)) then 257 else length (made_rules lexicon start forms))) e
+      → told_rules (length (start_rules start forms)) (length (made_rules lexicon start forms)) ≡ (if b then None else told (length (made_rules lexicon start forms)))
+  told_by b e = ap (λ (x : Bool). if x then None else told (length (made_rules lexicon start forms))) e
 
-  none_put : length (start_rules start forms) ≡ 0 → RulesPut lexicon start forms 0 records
-  none_put e = record { told = sym (told_by true (eq-eqb (length (start_rules start forms)) 0 e)); are = λ lo hi. let z : ⊥ = omega arith in absurd z }
+  none_put : length (start_rules start forms) ≡ 0 → RulesPut lexicon start forms None
+  none_put e = record { counted = sym (told_by true (eq-eqb (length (start_rules start forms)) 0 e)); are = λ records q. none_is_some q }
 
-  all_put : (r : ℕ) → (length (start_rules start forms) ≡ 0 → ⊥) → Held records r (map (numbered_rule forms) (made_rules lexicon start forms)) → RulesPut lexicon start forms r records
-  all_put r d held =
+  all_put : (records : Records) → (length (start_rules start forms) ≡ 0 → ⊥) → Held records (map (numbered_rule forms) (made_rules lexicon start forms)) → RulesPut lexicon start forms (Some records)
+  all_put records d held =
       record {
-        told = held.count ∙ ap (λ (n : ℕ). if ltb 256 n then 257 else n) (length-map (made_rules lexicon start forms) (numbered_rule forms))
-            ∙ sym (told_by false (ne_eqb (length (start_rules start forms)) 0 d));
-        are = λ lo hi.
-            let q = held_few records r (map (numbered_rule forms) (made_rules lexicon start forms)) held hi in
-            ap (λ (n : ℕ). take (24 * n) records) (sym q) ∙ held.are (subst (λ (n : ℕ). n ≤ 256) (sym q) hi);
+        counted = held.count ∙ ap told long ∙ sym (told_by false (ne_eqb (length (start_rules start forms)) 0 d));
+        are = λ again q few.
+            subst (λ (r : Records). take (24 * length (made_rules lexicon start forms)) r.bytes ≡ each record_for (map (numbered_rule forms) (made_rules lexicon start forms))) (some_same q)
+            (ap (λ (n : ℕ). take (24 * n) records.bytes) (sym long) ∙ held.are (subst (λ (n : ℕ). n ≤ 256) (sym long) few));
       }
+    where
+      long : length (map (numbered_rule forms) (made_rules lexicon start forms)) ≡ length (made_rules lexicon start forms)
+      long = length-map (made_rules lexicon start forms) (numbered_rule forms)
 
--- whatever forms the table holds
-module _ (table : List ℕ) (n : ℕ) (bytes : List ℕ) (start : ℕ) where
-  pub puts_none : {first : List ℕ} {k : ℕ} (records : List ℕ) → Listed (start_rules start) table n k first → k ≡ 0 → PutsRules table n bytes start 0 records
-  puts_none records starts e = record { puts = λ forms l once. none_put (lexicon_of bytes) start forms records (sym (starts_counted start starts forms l once) ∙ e) }
+-- whatever forms the rows are
+module _ (table : List (List ℕ)) (bytes : List ℕ) (start : ℕ) where
+  pub puts_none : {first : Records} → Listed (start_rules start) table first → first.count ≡ Some 0 → PutsRules table bytes start None
+  puts_none starts e = record { puts = λ forms l once. none_put (lexicon_of bytes) start forms (some_same (sym (starts_counted start starts forms l once) ∙ e)) }
 
-  pub puts_all : {first mid records : List ℕ} {k m r : ℕ} → Listed (start_rules start) table n k first → (k ≡ 0 → ⊥) → Lists (with_entries bytes) table n first k m mid
-      → Lists scheme_rules table n mid m r records → PutsRules table n bytes start r records
-  puts_all {records = records} {r = r} starts d entries schemes =
+  pub puts_all : {first mid records : Records} → Listed (start_rules start) table first → (first.count ≡ Some 0 → ⊥) → Lists (with_entries bytes) table first mid
+      → Lists scheme_rules table mid records → PutsRules table bytes start (Some records)
+  puts_all {records = records} starts d entries schemes =
       record {
         puts = λ forms l once.
-            all_put (lexicon_of bytes) start forms records r (λ z. d (starts_counted start starts forms l once ∙ z)) ((all_listed bytes start starts entries schemes).held forms l once);
+            all_put (lexicon_of bytes) start forms records (λ z. d (starts_counted start starts forms l once ∙ ap Some z)) ((all_listed bytes start starts entries schemes).held forms l once);
       }

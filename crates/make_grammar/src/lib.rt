@@ -7,10 +7,11 @@ ghost use Rattle.minimalist.specs.Lexicon.{entries};
 ghost use Rattle.minimalist.specs.MakeGrammar.{MakeOutcome};
 ghost use Rattle.make_grammar.specs.Making.{PutsRules, WritesMade};
 
-use derivable::{TABLE, derivable_forms};
+use derivable::derivable_forms;
+use forms::Row;
 use lexicon::{ENTRY, entries_refusal};
-use made_records::{RECORD, RECORDS, RULES};
-use made_rules::{CATEGORIES, add_entry_rules, add_scheme_rules, add_starts, put_dimensions};
+use made_records::{RECORD, Records};
+use made_rules::{add_entry_rules, add_scheme_rules, add_starts, dimensions};
 use model::Refusal;
 use reader::blocks_for;
 use writer::put_file;
@@ -25,50 +26,41 @@ fn known_bytes(bytes: &[u8]) -> u8
     if 0 < bytes.len() { bytes[0] } else { 0 }
 }
 
-// Puts the records of all rules, and says how many there are: 0 where the new start has none, 1 more than the limit where they are too many.
-fn put_rules(
-    table: &[u8],
-    forms: usize,
-    lexicon: &[u8],
-    count: u16,
-    start: u8,
-    records: &mut [u8],
-) -> usize
-    requires { (forms ≤ 63) × (0 < start) × (count ≡ entries lexicon.now) × (length records.old ≡ 6144) }
-    ensures { PutsRules table.now forms lexicon.now start result records.new }
+// The records of all rules, unless the new start has none.
+fn put_rules(forms: &[Row], lexicon: &[u8], count: u16, start: u8) -> Option<Records>
+    requires { (length forms.now ≤ 63) × (0 < start) × (count ≡ entries lexicon.now) }
+    ensures { PutsRules forms.now lexicon.now start result }
 {
-    let starts = add_starts(table, forms, start, records);
-    if starts == 0 {
-        return 0;
+    let mut records = add_starts(forms, start);
+    if records.count == Some(0) {
+        return None;
     }
-    let given = add_entry_rules(table, forms, lexicon, count, records, starts);
-    add_scheme_rules(table, forms, records, given)
+    add_entry_rules(forms, lexicon, count, &mut records);
+    add_scheme_rules(forms, &mut records);
+    Some(records)
 }
 
-// Writes the file of the forms of a table and of the rules' records, if there is room: 23, or the file's length.
+// Writes the file of forms and of the rules' records, if there is room: 23, or the file's length.
 fn write_made(
-    table: &[u8],
-    forms: usize,
+    forms: &[Row],
     words: u16,
     rules: u16,
     records: &[u8],
     out: &mut [u8],
 ) -> Result<u64, Refusal>
-    requires { (forms ≤ 63) × (rules ≤ 256) }
-    ensures { WritesMade table.now forms words rules records.now out.old result out.new }
+    requires { (length forms.now ≤ 63) × (rules ≤ 256) }
+    ensures { WritesMade forms.now words rules records.now out.old result out.new }
 {
     let n = 512 * blocks_for(rules);
     if out.len() < n {
         return Err(Refusal::Desk(23, 0));
     }
-    let mut dimensions = [0u8; CATEGORIES];
-    put_dimensions(table, forms, &mut dimensions);
     put_file(
-        (forms + 1) as u8,
+        (forms.len() + 1) as u8,
         0,
         words,
         rules,
-        &dimensions,
+        &dimensions(forms),
         records,
         &mut out[0..n],
     );
@@ -82,25 +74,22 @@ pub fn make_grammar(lexicon: &[u8], words: u32, start: u32, out: &mut [u8]) -> R
     let _ = known_bytes(lexicon);
     entries_refusal(lexicon, words, start)?;
     let count = (lexicon.len() / ENTRY) as u16;
-    let mut table = [0u8; TABLE];
-    let forms = derivable_forms(&mut table, lexicon, count);
-    if FORMS < forms {
+    let table = derivable_forms(lexicon, count);
+    if FORMS < table.count {
         return Err(Refusal::Grammar(31, 0));
     }
-    let mut records = [0u8; RECORDS];
-    let rules = put_rules(&table, forms, lexicon, count, start as u8, &mut records);
-    if rules == 0 {
+    let forms = table.forms();
+    let Some(records) = put_rules(forms, lexicon, count, start as u8) else {
         return Err(Refusal::Grammar(31, 0));
-    }
-    if RULES < rules {
+    };
+    let Some(rules) = records.count else {
         return Err(Refusal::Grammar(31, 0));
-    }
+    };
     write_made(
-        &table,
         forms,
         words as u16,
         rules as u16,
-        &records[0..RECORD * rules],
+        &records.bytes[..RECORD * rules],
         out,
     )
 }
