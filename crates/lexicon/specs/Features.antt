@@ -1,16 +1,16 @@
 -- The enum of features in the paper's terms.
 -- Assumes nothing.
-use Rattle.std.specs.Prelude.{Bool, false, ℕ, eqb}
+use Rattle.std.specs.Prelude.{Bool, false, ℕ, eqb, Option, Some, None}
 use Rattle.minimalist.specs.Lexicon as paper
 use Rattle.lexicon.specs.declared.features.Feature.{Feature}
-use Rattle.lexicon.specs.declared.features.Feature.TheVariants.{Category, Selector, Licensor, Licensee, Refusal30}
+use Rattle.lexicon.specs.declared.features.Feature.TheVariants.{Category, Selector, Licensor, Licensee}
 
-abbrev pub as_feature : Feature → paper.Feature
-as_feature (Category n) = paper.category n
-as_feature (Selector n) = paper.selector n
-as_feature (Licensor n) = paper.licensor n
-as_feature (Licensee n) = paper.licensee n
-as_feature Refusal30 = paper.refusal30
+abbrev pub as_feature : Option Feature → paper.Feature
+as_feature (Some (Category n)) = paper.category n
+as_feature (Some (Selector n)) = paper.selector n
+as_feature (Some (Licensor n)) = paper.licensor n
+as_feature (Some (Licensee n)) = paper.licensee n
+as_feature None = paper.refusal30
 
 -- the category of the number x
 abbrev pub is_category : ℕ → paper.Feature → Bool

@@ -24,7 +24,7 @@ const CATEGORIES: u32 = 15;
 pub fn entry_bytes(bytes: &[u8], i: u16) -> &[u8]
     ensures { result.now ≡ entry_bytes bytes.now i }
 {
-    fields(bytes, ENTRY * (i as usize), ENTRY)
+    fields(bytes, ENTRY * usize::from(i), ENTRY)
 }
 
 // The word of an entry, from its 8 bytes.
@@ -38,29 +38,25 @@ pub fn entry_word(e: &[u8]) -> Word
 pub fn before_zero(bytes: &[u8]) -> usize
     ensures { result ≡ length (before_zero bytes.now) }
 {
-    let mut i: usize = 0;
-    while i < bytes.len() {
-        if bytes[i] == 0 {
+    for (i, b) in bytes.iter().enumerate() {
+        if *b == 0 {
             return i;
         }
-        i += 1;
     }
-    i
+    bytes.len()
 }
 
 // Whether every byte before the first 0 is a feature.
 fn all_features(bytes: &[u8]) -> bool
     ensures { result ≡ every is_feature (before_zero bytes.now) }
 {
-    let mut i: usize = 0;
-    while i < bytes.len() {
-        if bytes[i] == 0 {
+    for b in bytes {
+        if *b == 0 {
             return true;
         }
-        if !is_feature(bytes[i]) {
+        if !is_feature(*b) {
             return false;
         }
-        i += 1;
     }
     true
 }
@@ -81,7 +77,7 @@ fn entry_wrong(e: &[u8], words: u32) -> bool
         return true;
     }
     let word = entry_word(e);
-    if (word.0 as u32) < words {
+    if u32::from(word.0) < words {
         return false;
     }
     word.0 != EMPTY_WORD
@@ -91,12 +87,10 @@ fn entry_wrong(e: &[u8], words: u32) -> bool
 fn some_wrong(bytes: &[u8], words: u32, n: u16) -> bool
     ensures { result ≡ any_below (λ i. wrong_entry words (entry_bytes bytes.now i)) n }
 {
-    let mut i: u16 = 0;
-    while i < n {
+    for i in 0..n {
         if entry_wrong(entry_bytes(bytes, i), words) {
             return true;
         }
-        i += 1;
     }
     false
 }
@@ -135,12 +129,10 @@ fn repeated_entry(bytes: &[u8], i: u16) -> bool
     ensures { result ≡ repeated_entry bytes.now i }
 {
     let e = entry_bytes(bytes, i);
-    let mut j: u16 = 0;
-    while j < i {
+    for j in 0..i {
         if same_bytes(entry_bytes(bytes, j), e) {
             return true;
         }
-        j += 1;
     }
     false
 }
@@ -153,12 +145,10 @@ pub fn entries_refusal(bytes: &[u8], words: u32, start: u32) -> Result<(), Refus
         return Err(Refusal::Grammar(30, 0));
     }
     let n = (bytes.len() / ENTRY) as u16;
-    let mut i: u16 = 0;
-    while i < n {
+    for i in 0..n {
         if repeated_entry(bytes, i) {
             return Err(Refusal::Grammar(10, i));
         }
-        i += 1;
     }
     Ok(())
 }

@@ -3,26 +3,25 @@ ghost use Rattle.std.specs.Prelude.{◌≡◌};
 ghost use Rattle.minimalist.specs.Lexicon.{feature_of, is_feature, selects, licenses, is_licensor, is_licensee};
 ghost use Rattle.lexicon.specs.Features.{as_feature, is_category, is_licensee_of};
 
-// A feature: its kind, and a number that partners share; or another byte, which refusal 30 meets.
-#[derive(Clone, Copy)]
+// A feature: its kind, and a number that partners share.
+#[derive(Clone, Copy, PartialEq, Eq)]
 pub enum Feature {
     Category(u8),
     Selector(u8),
     Licensor(u8),
     Licensee(u8),
-    Refusal30,
 }
 
-// The feature of a byte.
-pub fn feature_of(b: u8) -> Feature
+// The feature of a byte; refusal 30 meets another byte.
+pub fn feature_of(b: u8) -> Option<Feature>
     ensures { as_feature result ≡ feature_of b }
 {
     match b {
-        1..=15 => Feature::Category(b),
-        17..=31 => Feature::Selector(b % 16),
-        33..=35 => Feature::Licensor(b % 16),
-        49..=51 => Feature::Licensee(b % 16),
-        _ => Feature::Refusal30,
+        1..=15 => Some(Feature::Category(b)),
+        17..=31 => Some(Feature::Selector(b % 16)),
+        33..=35 => Some(Feature::Licensor(b % 16)),
+        49..=51 => Some(Feature::Licensee(b % 16)),
+        _ => None,
     }
 }
 
@@ -30,26 +29,14 @@ pub fn feature_of(b: u8) -> Feature
 pub fn is_feature(b: u8) -> bool
     ensures { result ≡ is_feature b }
 {
-    match feature_of(b) {
-        Feature::Category(_) => true,
-        Feature::Selector(_) => true,
-        Feature::Licensor(_) => true,
-        Feature::Licensee(_) => true,
-        Feature::Refusal30 => false,
-    }
+    feature_of(b).is_some()
 }
 
 // Whether the feature is the category of the number x.
-fn is_category(f: Feature, x: u8) -> bool
+fn is_category(f: Option<Feature>, x: u8) -> bool
     ensures { result ≡ is_category x (as_feature f) }
 {
-    match f {
-        Feature::Category(y) => x == y,
-        Feature::Selector(_) => false,
-        Feature::Licensor(_) => false,
-        Feature::Licensee(_) => false,
-        Feature::Refusal30 => false,
-    }
+    f == Some(Feature::Category(x))
 }
 
 // Whether s is the selector of the category f.
@@ -57,25 +44,16 @@ pub fn selects(s: u8, f: u8) -> bool
     ensures { result ≡ selects s f }
 {
     match feature_of(s) {
-        Feature::Category(_) => false,
-        Feature::Selector(x) => is_category(feature_of(f), x),
-        Feature::Licensor(_) => false,
-        Feature::Licensee(_) => false,
-        Feature::Refusal30 => false,
+        Some(Feature::Selector(x)) => is_category(feature_of(f), x),
+        _ => false,
     }
 }
 
 // Whether the feature is the licensee of the number x.
-fn is_licensee_of(f: Feature, x: u8) -> bool
+fn is_licensee_of(f: Option<Feature>, x: u8) -> bool
     ensures { result ≡ is_licensee_of x (as_feature f) }
 {
-    match f {
-        Feature::Category(_) => false,
-        Feature::Selector(_) => false,
-        Feature::Licensor(_) => false,
-        Feature::Licensee(y) => x == y,
-        Feature::Refusal30 => false,
-    }
+    f == Some(Feature::Licensee(x))
 }
 
 // Whether m is the licensee of the licensor p.
@@ -83,11 +61,8 @@ pub fn licenses(p: u8, m: u8) -> bool
     ensures { result ≡ licenses p m }
 {
     match feature_of(p) {
-        Feature::Category(_) => false,
-        Feature::Selector(_) => false,
-        Feature::Licensor(x) => is_licensee_of(feature_of(m), x),
-        Feature::Licensee(_) => false,
-        Feature::Refusal30 => false,
+        Some(Feature::Licensor(x)) => is_licensee_of(feature_of(m), x),
+        _ => false,
     }
 }
 
@@ -95,24 +70,12 @@ pub fn licenses(p: u8, m: u8) -> bool
 pub fn is_licensor(b: u8) -> bool
     ensures { result ≡ is_licensor b }
 {
-    match feature_of(b) {
-        Feature::Category(_) => false,
-        Feature::Selector(_) => false,
-        Feature::Licensor(_) => true,
-        Feature::Licensee(_) => false,
-        Feature::Refusal30 => false,
-    }
+    matches!(feature_of(b), Some(Feature::Licensor(_)))
 }
 
 // Whether the byte is a licensee.
 pub fn is_licensee(b: u8) -> bool
     ensures { result ≡ is_licensee b }
 {
-    match feature_of(b) {
-        Feature::Category(_) => false,
-        Feature::Selector(_) => false,
-        Feature::Licensor(_) => false,
-        Feature::Licensee(_) => true,
-        Feature::Refusal30 => false,
-    }
+    matches!(feature_of(b), Some(Feature::Licensee(_)))
 }

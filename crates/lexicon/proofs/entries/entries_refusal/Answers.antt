@@ -41,11 +41,6 @@ returns-then-repeated_entry c =
     let t = c.loop-i in
     sym (t.invariant.1 ∙ left_stop (test a.bytes.now) t.i (length a.bytes.now / 8) c.loop-i-test.true (refuse_on (repeated_entry a.bytes.now t.i) (Refusal.Grammar 10 t.i) (sym c.repeated_entry.ensures ∙ c.if-repeated_entry.true)))
 
-pub overflow_add-i : goal.overflow_add-i
-overflow_add-i c =
-    let a = c.args in
-    omega (arith, few_entries a.bytes.now a.words a.start (sym c.lexicon_wrong.ensures ∙ c.if-lexicon_wrong.false))
-
 pub loop-i-preserved : goal.loop-i-preserved
 loop-i-preserved c =
     let a = c.args in

@@ -39,8 +39,8 @@ returns-then-not-few_zeros c =
     let features = sym (c.all_features.ensures ∙ features_found w e six n s m) ∙ c.if-not-all_features.false in
     sym (wrong_rest_lem w e some features (sym (c.few_zeros.ensures ∙ rest_found w e six n s m) ∙ c.if-not-few_zeros.true))
 
-pub returns-then-word-words : goal.returns-then-word-words
-returns-then-word-words c =
+pub returns-then-from-words : goal.returns-then-from-words
+returns-then-from-words c =
     let e = c.args.e.now in
     let w = c.args.words in
     let n = c.before_zero-n.result in
@@ -63,4 +63,4 @@ returns c =
     let some : length (features_in e) ≡ 0 → ⊥ = λ q. c.if-n-eq0.false (number_is w e six n s m ∙ q) in
     let features = sym (c.all_features.ensures ∙ features_found w e six n s m) ∙ c.if-not-all_features.false in
     let rest = sym (c.few_zeros.ensures ∙ rest_found w e six n s m) ∙ c.if-not-few_zeros.false in
-    word_over w (word_in e) c.entry_word-word.result.0 c.entry_word-word.ensures c.if-word-words.false ∙ by_word w e some features rest
+    word_over w (word_in e) c.entry_word-word.result.0 c.entry_word-word.ensures (omega arith) ∙ by_word w e some features rest

@@ -9,7 +9,7 @@ use Rattle.lexicon.proofs.entries.repeated_entry.Goals as goal
 use Rattle.lexicon.proofs.entries.repeated_entry.Invariants.{equal}
 
 pub loop-j-init : goal.loop-j-init
-loop-j-init c = (omega arith, refl)
+loop-j-init c = refl
 
 pub returns-then-same_bytes : goal.returns-then-same_bytes
 returns-then-same_bytes c =
@@ -23,10 +23,10 @@ loop-j-preserved c =
     let a = c.args in
     let j = c.loop-j.j in
     let other : equal a.bytes.now a.i j ≡ false = ap₂ same_list (sym c.entry_bytes.ensures) (sym c.entry_bytes-e.ensures) ∙ sym c.same_bytes.ensures ∙ c.if-same_bytes.false in
-    (omega arith, any_more (equal a.bytes.now a.i) j c.loop-j.invariant.1 other)
+    (any_more (equal a.bytes.now a.i) j c.loop-j.invariant other)
 
 pub returns : goal.returns
 returns c =
     let a = c.args in
     let end : c.loop-j.j ≡ a.i = omega arith in
-    sym (ap (any_below (equal a.bytes.now a.i)) (sym end) ∙ c.loop-j.invariant.1)
+    sym (ap (any_below (equal a.bytes.now a.i)) (sym end) ∙ c.loop-j.invariant)

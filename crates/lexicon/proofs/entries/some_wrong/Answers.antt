@@ -10,7 +10,7 @@ use Rattle.lexicon.proofs.entries.some_wrong.Goals as goal
 use Rattle.lexicon.proofs.entries.some_wrong.Invariants.{wrong}
 
 pub loop-i-init : goal.loop-i-init
-loop-i-init c = (omega arith, refl)
+loop-i-init c = refl
 
 pub returns-then-entry_wrong : goal.returns-then-entry_wrong
 returns-then-entry_wrong c =
@@ -24,10 +24,10 @@ loop-i-preserved c =
     let a = c.args in
     let i = c.loop-i.i in
     let other : wrong a.bytes.now a.words i ≡ false = sym (c.entry_wrong.ensures ∙ ap (wrong_entry a.words) c.entry_bytes.ensures) ∙ c.if-entry_wrong.false in
-    (omega arith, any_more (wrong a.bytes.now a.words) i c.loop-i.invariant.1 other)
+    (any_more (wrong a.bytes.now a.words) i c.loop-i.invariant other)
 
 pub returns : goal.returns
 returns c =
     let a = c.args in
     let end : c.loop-i.i ≡ a.n = omega arith in
-    sym (ap (any_below (wrong a.bytes.now a.words)) (sym end) ∙ c.loop-i.invariant.1)
+    sym (ap (any_below (wrong a.bytes.now a.words)) (sym end) ∙ c.loop-i.invariant)
