@@ -5,11 +5,11 @@ use mathlib.Core.Path.{◌≡◌, refl, ap, ap₂, sym, subst, ◌∙◌}
 use mathlib.Core.Bool.{Bool, true, false, ◌||◌}
 use mathlib.Core.Option.{none}
 use mathlib.Core.List.{List, ◌∷◌, ◌++◌, map}
-use Prim.Native.Nat.{ℕ, suc, ◌+◌, ◌-◌, ◌*◌, ◌<◌, ◌≤◌}
+use Prim.Native.Nat.{ℕ, suc, ◌+◌, ◌*◌, ◌<◌, ◌≤◌}
 use native.Mathlib.Omega.{arith}
 use lib.Dec.{T, ltb, eqb}
-use lib.ListN.{length, take, drop, length-map, length-append}
-use borrow.Author.Tests.{ltb-true, ltb-false, lt-ltb, le-ltb, eq-eqb}
+use lib.ListN.{length, take, drop, length-map}
+use borrow.Author.Tests.{ltb-true, ltb-false, lt-ltb, le-ltb}
 use Rattle.model.specs.declared.Refusal.{Refusal}
 use Rattle.model.specs.Base.{each}
 use Rattle.model.specs.GrammarFile.{blocks_for}
@@ -18,8 +18,8 @@ use Rattle.model.proofs.Tests.{not_both}
 use Rattle.grammar_to_file.specs.FileFor.{record_for, heading_for, file_for}
 use Rattle.minimalist.specs.Lexicon.{Entry, lexicon_of, entries_refusal}
 use Rattle.minimalist.specs.Schemes.{Form, form_dimension}
-use Rattle.minimalist.specs.Made.{NamedRule, entry_rule}
-use Rattle.minimalist.specs.Closure.{forms_of, start_rules, scheme_rules, made_rules, too_large}
+use Rattle.minimalist.specs.Made.{NamedRule}
+use Rattle.minimalist.specs.Closure.{forms_of, start_rules, made_rules, too_large}
 use Rattle.minimalist.specs.Numbering.{numbered_rule, made_by, made_grammar}
 use Rattle.minimalist.specs.MakeGrammar.{made_too_large, made_length, MakeOutcome}
 use Rattle.minimalist.proofs.MakeGrammar.{refused_large, refused_room, file_put}
@@ -73,6 +73,12 @@ module _ (starts rules : ℕ) (o : Option ℕ) (among : o ≡ told_rules starts 
       go true e b f q = none_is_some (sym q)
       go false e true f q = none_is_some (sym q)
       go false e false f q = record { started = e; few = f; is = some_same q }
+
+  told_few : (n : ℕ) → o ≡ Some n → n ≤ 256
+  told_few n z = few_is (told_right n z).is (ltb-false 256 rules (told_right n z).few)
+    where
+      few_is : n ≡ rules → rules ≤ 256 → n ≤ 256
+      few_is e h = omega arith
 
 -- the file of the made grammar by the forms
 module _ (lexicon : List Entry) (words start : ℕ) (forms : List Form) where
@@ -171,10 +177,6 @@ heading_made n words rules dimensions forms e d =
     let s : n + 1 ≡ suc (length forms) = omega arith in
     λ i. record { categories = s i; start = 0; words = words; rules = rules; dimensions = d i }
 
--- a part of a list from its first element on
-part_whole : (n : ℕ) (l : List ℕ) → take (n - 0) l ≡ take n l
-part_whole n l = let e : n - 0 ≡ n = omega arith in ap (λ (k : ℕ). take k l) e
-
 -- the outcome of the call by what its parts say
 module _ (bytes : List ℕ) (words start : ℕ) (all : T (all_bytes bytes)) (passed : entries_refusal bytes words start ≡ none) (out : List ℕ)
     (table : FormTable) (derived : Derived bytes table) where
@@ -201,11 +203,10 @@ module _ (bytes : List ℕ) (words start : ℕ) (all : T (all_bytes bytes)) (pas
       -- so many rules
       pub few_rules : {n : ℕ} → told_of o ≡ Some n → n ≤ 256
       few_rules {n} e =
-          let t = told_right (length (start_rules start (forms_of (lexicon_of bytes)))) (length (made_rules (lexicon_of bytes) start (forms_of (lexicon_of bytes)))) (told_of o) put.counted n e in
-          omega (arith, t.is, ltb-false 256 (length (made_rules (lexicon_of bytes) start (forms_of (lexicon_of bytes)))) t.few)
+          told_few (length (start_rules start (forms_of (lexicon_of bytes)))) (length (made_rules (lexicon_of bytes) start (forms_of (lexicon_of bytes)))) (told_of o) put.counted n e
 
       pub written_made : (records : Records) → o ≡ Some records → (r : ℕ) → records.count ≡ Some r → {after : List ℕ} {answer : Verdict}
-          → WritesMade rows words r (take (24 * r - 0) records.bytes) out answer after → MakeOutcome bytes words start out answer after
+          → WritesMade rows words r (take (24 * r) records.bytes) out answer after → MakeOutcome bytes words start out answer after
       written_made records same r count {after} {answer} w =
           outcome bytes words start all passed out (forms_of (lexicon_of bytes)) refl few_forms o put records same r count answer after
-          (subst (λ (l : List ℕ). Written (512 * blocks_for r) (file_of (made_heading words r (forms_of (lexicon_of bytes))) l) out answer after) (part_whole (24 * r) records.bytes) (w.writes (forms_of (lexicon_of bytes)) rows_held))
+          (w.writes (forms_of (lexicon_of bytes)) rows_held)
