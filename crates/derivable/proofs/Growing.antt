@@ -117,10 +117,6 @@ module _ (i m : ℕ) (forms : List Form) (l : m ≡ length forms) (hi : i < m) w
 pub round_whole : (i m : ℕ) → i ≡ m → (forms : List Form) → m ≡ length forms → with_round_of i forms ≡ with_round forms
 round_whole i m e forms l = ap (λ (x : List Form). add_forms forms (each (λ a. each (λ b. result_of (merge_scheme a b)) forms ++ result_of (move_scheme a)) x)) (take_all i forms (omega arith))
 
--- nothing was done yet
-pub grows_none : {f : List Form → List Form} (table : FormTable) → table.count ≤ 64 → ((forms : List Form) → forms ≡ f forms) → Grows f table table
-grows_none {f} table few e = record { least = omega arith; most = few; holds = λ forms t. subst (Holds table.rows table.count) (e forms) t }
-
 -- rounds
 pub no_rounds : (table : FormTable) → table.count ≤ 64 → Rounds 0 table table
 no_rounds table few = record { most = few; holds = λ lexicon t. t }
@@ -154,17 +150,6 @@ pub rounds_all : (k last : ℕ) {table after : FormTable} → k ≡ last → Rou
 rounds_all k last {table} {after} e p = subst (λ (j : ℕ). Rounds j table after) e p
 
 -- the entries, one further
-pub no_entries : (table : List (List ℕ)) → Holds table 0 []
-no_entries table = (
-  record {
-    few = omega arith;
-    rows = λ i h. let z : ⊥ = omega arith in absurd z;
-    small = λ i h. let z : ⊥ = omega arith in absurd z;
-    kept = λ i h. let z : ⊥ = omega arith in absurd z;
-  },
-  refl,
-)
-
 numbers_further : (a n : ℕ) → numbers_from a (n + 1) ≡ numbers_from a n ++ ((a + n) ∷ [])
 numbers_further a n = ap (numbers_from a) (add-one n) ∙ numbers_next a n
 

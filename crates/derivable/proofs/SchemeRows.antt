@@ -26,27 +26,6 @@ use Rattle.derivable.specs.Tables.{row_at, form_at, Holds, Added}
 use Rattle.derivable.specs.Rounds.{Grows, AddedKept, with_merge, with_move, with_entry}
 use Rattle.derivable.proofs.RoundLaws.{entry_small, joined_small, moved_small}
 
--- the form of a row, unless it is left out
-module _ {before : FormTable} {row : List ℕ} {out : Bool} (says : SaysLeftOut row out) where
-  pub kept_not : out ≡ true → before.count ≤ 64 → AddedKept before row before
-  kept_not e few =
-      record {
-        least = omega arith;
-        most = few;
-        holds = λ a small r forms t. subst (λ (b : Bool). Holds before.rows before.count (add_forms forms (if b then [] else a ∷ []))) (sym e ∙ says a small r) t;
-      }
-
-  pub kept_so : {after : FormTable} → out ≡ false → Added before row after → AddedKept before row after
-  kept_so {after} e p =
-      record {
-        least = p.least;
-        most = p.most;
-        holds = λ a small w forms t.
-            let not_left : left_out a ≡ false = sym (says a small w) ∙ e in
-            subst (λ (b : Bool). Holds after.rows after.count (add_forms forms (if b then [] else a ∷ []))) (sym not_left)
-            (p.holds forms a t small (or_r (no_features a.head) (wrong_moving a.moving) not_left) w);
-      }
-
 -- the category of a merge can be held
 pub merge_small : (a b : Form) → Small a → Small b → length a.moving + length b.moving ≤ 6 → (s : Instance) → merge_scheme a b ≡ some s → Small s.result
 merge_small a b p q few s e = heads a.head b.head refl refl e
@@ -141,13 +120,6 @@ module _ {before : FormTable} {x y : List ℕ} {i j : ℕ} {made : std.Option Me
 module _ {before : FormTable} {x : List ℕ} {i : ℕ} {made : std.Option Moved} (hi : i < before.count) (ex : x ≡ row_at before.rows i) (says : SaysMove x made) where
   pub move_is : (forms : List Form) → Holds before.rows before.count forms → MoveIs (form_at forms i) (move_scheme (form_at forms i)) made
   move_is forms t = says (form_at forms i) (t.0.small i (omega (arith, t.1))) (ex ∙ t.0.rows i (omega (arith, t.1)))
-
-  pub move_none : made ≡ std.None → before.count ≤ 64 → Grows (with_move i) before before
-  move_none e few = record { least = omega arith; most = few; holds = λ forms t. go forms t (move_scheme (form_at forms i)) (move_is forms t) }
-    where
-      go : (forms : List Form) → Holds before.rows before.count forms → (o : Option Instance) → MoveIs (form_at forms i) o made → Holds before.rows before.count (add_forms forms (result_of o))
-      go forms t none m = t
-      go forms t (some s) m = none_is_some (sym e ∙ m)
 
   pub move_some : {after : FormTable} (moved : Moved) → made ≡ std.Some moved → AddedKept before moved.row after → Grows (with_move i) before after
   move_some {after} moved d p =

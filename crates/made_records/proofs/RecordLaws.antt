@@ -136,37 +136,13 @@ told_one n k e = go (ltb 256 n) e
     go true e = none_some k (sym e)
     go false e = cc
 
-told_none : (n : ℕ) → None ≡ told n → 256 < n
-told_none n e = go (dec_lt 256 n)
-  where
-    go : Dec (256 < n) → 256 < n
-    go (yes h) = h
-    go (no h) = none_some n (e ∙ rw (le-ltb 256 n (omega arith)))
-
 -- how many rules there are, where they are at most 256
 pub count_is : {records : Records} {rules : List Rule} → Held records rules → length rules ≤ 256 → records.count ≡ Some (length rules)
 count_is {rules = rules} held h = held.count ∙ rw (le-ltb 256 (length rules) h)
 
--- no rules
-pub none_held : (bytes : List ℕ) → length bytes ≡ 6144 → Held (record { bytes = bytes; count = Some 0 }) []
-none_held bytes long = record { long = long; count = refl; are = λ h. refl }
-
 module _ (rule : MadeRule) (bytes : List ℕ) where
   more : (rules : List Rule) → length (rules ++ (as_rule rule ∷ [])) ≡ length rules + 1
   more rules = length-append rules (as_rule rule ∷ [])
-
-  over : (count : Option ℕ) → ((rules : List Rule) → Held (record { bytes = bytes; count = count }) rules → 256 ≤ length rules)
-      → AddsRule rule (record { bytes = bytes; count = count }) (record { bytes = bytes; count = None })
-  over count many fits rules held =
-      record {
-        long = held.long;
-        count = sym (rw (lt-ltb 256 (length (rules ++ (as_rule rule ∷ []))) (omega (arith, more rules, many rules held))));
-        are = λ l. absurd (omega (arith, more rules, many rules held));
-      }
-
-  pub rule_over : (count : Option ℕ) → ((k : ℕ) → count ≡ Some k → 256 ≤ k) → AddsRule rule (record { bytes = bytes; count = count }) (record { bytes = bytes; count = None })
-  rule_over None h = over None (λ rules held. let z : 256 < length rules = told_none (length rules) held.count in omega arith)
-  rule_over (Some k) h = over (Some k) (λ rules held. omega (arith, h k refl, told_one (length rules) k held.count))
 
   pub rule_put : (after : List ℕ) (k : ℕ) → k < 256 → Put (record_byte (front_of rule) (shape_of rule)) bytes k after
       → AddsRule rule (record { bytes = bytes; count = Some k }) (record { bytes = after; count = Some (k + 1) })

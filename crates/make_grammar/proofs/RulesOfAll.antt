@@ -27,9 +27,6 @@ module _ (lexicon : List Entry) (start : ℕ) (forms : List Form) where
       → told_rules (length (start_rules start forms)) (length (made_rules lexicon start forms)) ≡ (if b then None else told (length (made_rules lexicon start forms)))
   told_by b e = ap (λ (x : Bool). if x then None else told (length (made_rules lexicon start forms))) e
 
-  none_put : length (start_rules start forms) ≡ 0 → RulesPut lexicon start forms None
-  none_put e = record { counted = sym (told_by true (eq-eqb (length (start_rules start forms)) 0 e)); are = λ records q. none_is_some q }
-
   all_put : (records : Records) → (length (start_rules start forms) ≡ 0 → ⊥) → Held records (map (numbered_rule forms) (made_rules lexicon start forms)) → RulesPut lexicon start forms (Some records)
   all_put records d held =
       record {
@@ -44,9 +41,6 @@ module _ (lexicon : List Entry) (start : ℕ) (forms : List Form) where
 
 -- whatever forms the rows are
 module _ (table : List (List ℕ)) (bytes : List ℕ) (start : ℕ) where
-  pub puts_none : {first : Records} → Listed (start_rules start) table first → first.count ≡ Some 0 → PutsRules table bytes start None
-  puts_none starts e = record { puts = λ forms l once. none_put (lexicon_of bytes) start forms (some_same (sym (starts_counted start starts forms l once) ∙ e)) }
-
   pub puts_all : {first mid records : Records} → Listed (start_rules start) table first → (first.count ≡ Some 0 → ⊥) → Lists (with_entries bytes) table first mid
       → Lists scheme_rules table mid records → PutsRules table bytes start (Some records)
   puts_all {records = records} starts d entries schemes =
