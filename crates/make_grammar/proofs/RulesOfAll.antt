@@ -2,19 +2,19 @@
 -- Assumes nothing.
 use Rattle.std.specs.Prelude.{if◌then◌else◌, Some, None}
 use mathlib.Core.Path.{◌≡◌, ap, sym, subst, ◌∙◌}
-use mathlib.Core.Bool.{Bool, true, false}
+use mathlib.Core.Bool.{Bool, false}
 use mathlib.Core.List.{List, map}
 use Prim.Native.Nat.{ℕ, ◌*◌, ◌≤◌}
 use lib.Dec.{eqb}
 use lib.ListN.{length, take, length-map}
-use borrow.Author.Tests.{ne_eqb, eq-eqb}
+use borrow.Author.Tests.{ne_eqb}
 use Rattle.model.specs.Base.{each}
 use Rattle.grammar_to_file.specs.FileFor.{record_for}
 use Rattle.minimalist.specs.Lexicon.{Entry, lexicon_of}
 use Rattle.minimalist.specs.Schemes.{Form}
 use Rattle.minimalist.specs.Closure.{start_rules, made_rules, scheme_rules}
 use Rattle.minimalist.specs.Numbering.{numbered_rule}
-use Rattle.derivable.proofs.SchemeRows.{none_is_some, some_same}
+use Rattle.derivable.proofs.SchemeRows.{some_same}
 use Rattle.made_records.specs.declared.Records.{Records}
 use Rattle.made_records.specs.Records.{told, Held}
 use Rattle.made_rules.specs.Listed.{Lists, Listed, with_entries}
