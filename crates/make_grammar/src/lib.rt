@@ -41,13 +41,7 @@ fn put_rules(forms: &[Row], lexicon: &[u8], count: u16, start: u8) -> Option<Rec
 }
 
 // Writes the file of forms and of the rules' records, if there is room: 23, or the file's length.
-fn write_made(
-    forms: &[Row],
-    words: u16,
-    rules: u16,
-    records: &[u8],
-    out: &mut [u8],
-) -> Verdict
+fn write_made(forms: &[Row], words: u16, rules: u16, records: &[u8], out: &mut [u8]) -> Verdict
     requires { (length forms.now ≤ 63) × (rules ≤ 256) }
     ensures { WritesMade forms.now words rules records.now out.old result out.new }
 {
