@@ -38,6 +38,7 @@ fn put_page(mut rest: Rest, place: usize, out: &mut [u8]) -> Text
     requires { MayGoOn rest × (place + 576 < length out.old) }
     ensures { PutPage rest place out.old out.new result }
 {
+    // One loan of the whole: the check takes no `&mut` of one field beside a `&` of another.
     let from = &mut rest;
     let pen = Pen { at: from.at, place };
     match fill(
@@ -105,7 +106,8 @@ fn refused_page(r: Refusal, out: &mut [u8]) -> Text
     }
 }
 
-// The first page for what is read of the two files: of the grammar file its first bytes, of the sentence file its first bytes and whether its length is even.
+// The first page for what is read of the two files: of the grammar file its first bytes, of the sentence file its first bytes and whether its length is even,
+// which those bytes do not tell where the file is longer.
 pub fn first_page(file: &[u8], bytes: &[u8], even: bool, out: &mut [u8]) -> Text
     requires { 620 < length out.old }
     ensures { FirstPage file.now bytes.now even out.new result }

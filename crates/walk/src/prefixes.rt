@@ -22,7 +22,8 @@ pub struct Tables {
     pub start: Category,
 }
 
-// What a walk writes: the queues of the steps made, the rules of these steps, and where to go on.
+// What a walk writes: the queues of the steps made, the rules of these steps, and where to go on. Where it stands is a value of its own: the clauses speak of
+// both where it stood and where it comes to.
 #[derive(Drop)]
 pub struct Walk {
     pub queues: [u64; ROOM],
