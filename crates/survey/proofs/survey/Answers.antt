@@ -54,4 +54,5 @@ returns c =
     let a = c.args in
     let accepted = tests_pass (grammar_refusal a.file.now) g.result g.ensures c.in_ok-grammar_refusal.was in
     let room = tests_pass (room_refusal a.out.now) k.result k.ensures c.in_ok-room_refusal.was in
-    surveyed_out a.file.now a.out.now accepted room n.result _ n.ensures (ap₂ (λ (x y : List ℕ). x ++ y) c.write_figures.ensures (Post-is 0 n.result a.out.now (omega arith)))
+    rw (c.from-2.ensures, c.from.ensures)
+    (surveyed_out a.file.now a.out.now accepted room n.result _ n.ensures (ap₂ (λ (x y : List ℕ). x ++ y) c.write_figures.ensures (Post-is 0 n.result a.out.now (omega arith))))
