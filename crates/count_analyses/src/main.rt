@@ -31,7 +31,8 @@ const EMPTY: Loaded = Loaded {
     even: true,
 };
 
-// How many bytes were moved by a read or a write that has just answered `got`, 0 as at a file's end; or none yet, where a signal interrupted it before a byte was moved.
+// How many bytes were moved by a read or a write that has just answered `got`, 0 as at a file's end; or none yet, where a signal interrupted it before a byte
+// was moved.
 fn moved(got: io::Result<usize>) -> io::Result<Option<usize>>
     ensures { (buf : List ℕ) → IfOk got (λ n. n ≤ length buf) → PieceSays buf result }
 {
@@ -103,7 +104,8 @@ fn load(files: &impl Files, name: &str, most: u64, buf: &mut [u8]) -> Loaded
     load_first(files, name, most, buf).unwrap_or(EMPTY)
 }
 
-// Writes once more, where the first `done` bytes of the text are written: how many are written then. A write that a signal interrupts takes nothing, and is tried again.
+// Writes once more, where the first `done` bytes of the text are written: how many are written then. A write that a signal interrupts takes nothing, and is
+// tried again.
 fn write_on(rt: &impl Print, text: &[u8], done: usize) -> io::Result<usize>
     requires { done ≤ length text.now }
     ensures { WrittenSays text.now result }

@@ -6,7 +6,7 @@ ghost use Rattle.forms.specs.Rows.{firsts_in, place_in, land_byte, stay_byte, mo
 
 use crate::forms::{CELL, Row, first_byte, movers};
 use crate::merges::rest_byte;
-use grammar::{byte, less};
+use grammar::byte;
 use lexicon::{is_licensor, licenses};
 use std::array::from_fn;
 
@@ -66,7 +66,7 @@ fn move_byte(a: &[u8], n: usize, t: usize, scheme: MoveScheme, p: usize) -> u8
     ensures { result ≡ move_byte a.now n t scheme p }
 {
     match scheme {
-        MoveScheme::Fourth if p < CELL => rest_byte(a, less(n, 1), p),
+        MoveScheme::Fourth if p < CELL => rest_byte(a, n.saturating_sub(1), p),
         MoveScheme::Fourth => land_byte(a, t, p),
         MoveScheme::Fifth if p < CELL => rest_byte(a, n, p),
         MoveScheme::Fifth => stay_byte(a, t, p),

@@ -1,5 +1,5 @@
 // Numbers and parts of a list of bytes. A byte past the end reads 0, and a part stops at the end: nothing here has a `requires`.
-ghost use Rattle.std.specs.Prelude.{◌≡◌, ◌+◌, ◌-◌, ◌*◌, get_or};
+ghost use Rattle.std.specs.Prelude.{◌≡◌, ◌+◌, ◌*◌, get_or};
 ghost use Rattle.model.specs.GrammarFile.{fields};
 
 // Byte i.
@@ -37,11 +37,4 @@ pub fn fields(bytes: &[u8], i: usize, n: usize) -> &[u8]
 {
     let rest = &bytes[bytes.len().min(i)..];
     &rest[..rest.len().min(n)]
-}
-
-// a less b, or 0 where b is greater.
-pub fn less(a: usize, b: usize) -> usize
-    ensures { result ≡ a - b }
-{
-    a.saturating_sub(b)
 }

@@ -7,7 +7,7 @@ mod lists;
 mod records;
 mod rule;
 
-pub use bytes::{byte, fields, four_bytes, less, two_bytes};
+pub use bytes::{byte, fields, four_bytes, two_bytes};
 pub use layout::{
     categories, dimension, dimensions, record_byte, record_of, rules, rules_held, start, words,
 };

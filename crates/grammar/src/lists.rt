@@ -112,7 +112,7 @@ pub fn block_check(block: &[u8]) -> u32
     added(lanes[0], 3) + added(lanes[1], 2) + added(lanes[2], 1) + added(lanes[3], 0)
 }
 
-// Whether two lists of bytes are the same. Like `all_zero`, it has no way out of its loop.
+// Whether two lists of bytes are the same.
 pub fn same_bytes(a: &[u8], b: &[u8]) -> bool
     ensures { result ≡ same_list a.now b.now }
 {

@@ -5,7 +5,7 @@ ghost use Rattle.std.specs.Prelude.{◌≡◌, ◌+◌, ◌*◌, ◌<◌, ◌≤
 ghost use Rattle.made_records.specs.Records.{single, pair, merge_shape, move_shape, front_of, shape_of, run_code, code_at, size_at, record_byte, Put, Held, AddsRule};
 
 use forms::{MergeScheme, MoveScheme};
-use grammar::{byte, less};
+use grammar::byte;
 use model::{Category, Word};
 
 // The most rules.
@@ -115,7 +115,7 @@ fn move_shape(scheme: MoveScheme, chains: u8, chain: u8) -> Shape
     let n = usize::from(chains);
     let t = usize::from(chain);
     match scheme {
-        MoveScheme::Fourth => pair(chain, 0, less(t, 1), chain, less(n, t)),
+        MoveScheme::Fourth => pair(chain, 0, t.saturating_sub(1), chain, n.saturating_sub(t)),
         MoveScheme::Fifth => single(n, 0, 0),
     }
 }

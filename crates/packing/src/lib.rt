@@ -22,7 +22,7 @@ const YEAR: u64 = 1 << 16;
 
 const MONTH: u64 = 1 << 8;
 
-// A refusal: bit 63, whose it is, its number and its place.
+// Bit 63, whose the refusal is, its number and its place.
 fn refused(whose: u64, number: u8, place: u16) -> u64
     requires { whose < 3 }
     ensures { result ≡ 9223372036854775808 + 1099511627776 * whose + 4294967296 * number + place }
@@ -30,6 +30,7 @@ fn refused(whose: u64, number: u8, place: u16) -> u64
     REFUSED + WHOSE * whose + NUMBER * u64::from(number) + u64::from(place)
 }
 
+// A refusal.
 fn refusal_bits(r: Refusal) -> u64
     ensures { (result ≡ packed_refusal r) × Fits r }
 {

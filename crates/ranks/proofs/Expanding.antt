@@ -93,7 +93,7 @@ numbered_fit g D (suc n) i e j a b = go (ℕ_discrete i j) (λ k. numbered_fit g
 
 take_numbers : (D : ℕ → Ranked ℕ) (n d0 d1 d2 : ℕ) → n ≤ 3 → (0 < n → d0 ≡ number_of (D 0)) → (1 < n → d1 ≡ number_of (D 1)) → (2 < n → d2 ≡ number_of (D 2))
     → take n (d0 ∷ (d1 ∷ (d2 ∷ []))) ≡ map number_of (map D (numbers_from 0 n))
-take_numbers D n d0 d1 d2 h a b c = take_same n d0 d1 d2 (number_of (D 0)) (number_of (D 1)) (number_of (D 2)) h a b c ∙ go n h
+take_numbers D n d0 d1 d2 h a b c = take_same n d0 d1 d2 (number_of (D 0)) (number_of (D 1)) (number_of (D 2)) a b c ∙ go n h
   where
     go : (n : ℕ) → n ≤ 3 → take n (number_of (D 0) ∷ (number_of (D 1) ∷ (number_of (D 2) ∷ []))) ≡ map number_of (map D (numbers_from 0 n))
     go zero h = refl

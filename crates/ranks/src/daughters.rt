@@ -5,13 +5,12 @@ ghost use Rattle.ranks.specs.Daughters.{daughter, Alone, two_bases, MakesTwo, Ri
 ghost use Rattle.ranks.specs.Step.{daughters_at, Makes};
 
 use crate::prediction::{alone, category, lifted, number, pack, rank, with_least};
-use crate::table::{DIMENSIONS, PLACE0, PLACE1, PLACE2, PLACE3, TABLE, daughter_cell, places_cell};
+use crate::table::{
+    DIMENSIONS, MOST_DAUGHTERS, PLACE0, PLACE1, PLACE2, PLACE3, TABLE, daughter_cell, places_cell,
+};
 
 // A category has at most so many components.
 const COMPONENTS: u64 = 4;
-
-// A rule has at most so many daughters.
-pub const MOST: usize = 3;
 
 // Three numbers in rising order.
 pub fn rising(x: u64, y: u64, z: u64) -> [u64; 3]
@@ -57,12 +56,18 @@ pub fn made(cell: u64, places: u64, b: &[u64; 4], mark: u64) -> u64
 }
 
 // The d daughters from the cells of the rule that begin at `at`, and 0 behind them.
-pub fn made_at(t: &[u64; TABLE], at: usize, d: usize, b: &[u64; 4], mark: u64) -> [u64; MOST]
-    requires { (at + 8 ≤ 2048) × (d ≤ 3) × (length b.now ≡ 4) × ((j : ℕ) → j < d → Makes t.now at j b.now mark) }
+pub fn made_at(
+    t: &[u64; TABLE],
+    at: usize,
+    d: usize,
+    b: &[u64; 4],
+    mark: u64,
+) -> [u64; MOST_DAUGHTERS]
+    requires { (at + 8 ≤ 2048) × (length b.now ≡ 4) × ((j : ℕ) → j < 3 → j < d → Makes t.now at j b.now mark) }
     ensures { take d result ≡ take d (daughters_at t.now at b.now mark) }
 {
-    let mut e = [0; MOST];
-    for j in 0..d {
+    let mut e = [0; MOST_DAUGHTERS];
+    for j in 0..d.min(MOST_DAUGHTERS) {
         e[j] = made(daughter_cell(t, at, j), places_cell(t, at, j), b, mark);
     }
     e
@@ -88,12 +93,12 @@ pub fn made_two_at(
     lowest: u64,
     base: u64,
     mark: u64,
-) -> [u64; MOST]
-    requires { (at + 8 ≤ 2048) × (d ≤ 3) × ((j : ℕ) → j < d → MakesTwo (get_or t.now (at + 2 + 2 * j) 0) (get_or t.now (at + 3 + 2 * j) 0) lowest base mark) }
+) -> [u64; MOST_DAUGHTERS]
+    requires { (at + 8 ≤ 2048) × ((j : ℕ) → j < 3 → j < d → MakesTwo (get_or t.now (at + 2 + 2 * j) 0) (get_or t.now (at + 3 + 2 * j) 0) lowest base mark) }
     ensures { take d result ≡ take d (daughters_at t.now at (two_bases lowest base) mark) }
 {
-    let mut e = [0; MOST];
-    for j in 0..d {
+    let mut e = [0; MOST_DAUGHTERS];
+    for j in 0..d.min(MOST_DAUGHTERS) {
         e[j] = made_two(
             daughter_cell(t, at, j),
             places_cell(t, at, j),

@@ -81,7 +81,8 @@ pub fn settle(w: &mut [u64; ROOM], from: usize, gap: usize, end: usize, e: u64) 
     p + 1
 }
 
-// One daughter in its place (a function for each number of daughters: each leaves the rest to the one below it): the list of from + 1 .. end with e in it stands in from..end then.
+// One daughter in its place: the list of from + 1 .. end with e in it stands in from..end then. There is a function for each number of daughters, since each
+// leaves the rest to the one below it.
 pub fn settle1(w: &mut [u64; ROOM], from: usize, end: usize, e: u64)
     requires { Gap w.old from 1 end }
     ensures { Placed (e ∷ []) w.old w.new from 1 end }

@@ -7,12 +7,13 @@ ghost use Rattle.ranks.specs.Moves.{moves_ranks, moves_lengths, Bounded};
 ghost use Rattle.ranks.specs.Step.{ExpandsWide, expanded_wide, ExpandsTwo, expanded_two, Expandable, Expanded};
 ghost use Rattle.ranks.specs.Queue.{Every, Gap, Placed, Steps, Next, insert_all};
 
-use crate::daughters::{MOST, made_at, made_two_at, rising};
+use crate::daughters::{made_at, made_two_at, rising};
 use crate::moves::{advance, advance_two, bases, moves_of};
 use crate::prediction::{Moves, rank};
 use crate::queue::{ROOM, settle1, settle2, settle3, shift};
 use crate::table::{
-    TABLE, daughters, dimension, first_length, lengths, of_two, place_of, ready_made, second_length,
+    MOST_DAUGHTERS, TABLE, daughters, dimension, first_length, lengths, of_two, place_of,
+    ready_made, second_length,
 };
 use model::RuleNumber;
 
@@ -24,7 +25,7 @@ pub fn expand_narrow(
     to: usize,
     d: usize,
     len: u64,
-    e: &[u64; MOST],
+    e: &[u64; MOST_DAUGHTERS],
 )
     requires { Steps w.old from to d × Every Short w.old (from + 1) to × Every Behind w.old (from + 1) to × (len < 256) }
     ensures { Next (take d e.now ++ map (remade (shifted (0 ∷ []) (len ∷ []))) (slice (from + 1) to w.old)) w.old w.new to (to + d + (to - (from + 1))) }

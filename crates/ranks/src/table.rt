@@ -13,6 +13,9 @@ pub const TABLE: usize = 2048;
 
 pub const CELLS: usize = 8;
 
+// A rule has at most so many daughters.
+pub const MOST_DAUGHTERS: usize = 3;
+
 // Cell 0 has, from below, the number of daughters, the dimension of the category, the category, and the word: 1 in the place of each but the first.
 pub const DIMENSION: u64 = 4;
 
@@ -142,7 +145,7 @@ pub fn places_cell(t: &[u64; TABLE], at: usize, j: usize) -> u64
 }
 
 // The daughters that a rule of dimension 1 has ready made, with `mark` added to their numbers.
-pub fn ready_made(t: &[u64; TABLE], at: usize, mark: u64) -> [u64; 3]
+pub fn ready_made(t: &[u64; TABLE], at: usize, mark: u64) -> [u64; MOST_DAUGHTERS]
     requires { (at + 8 ≤ 2048) × ((j : ℕ) → j < 3 → get_or t.now (at + 2 + 2 * j) 0 < 1152921504606846976) × (mark < 512) }
     ensures { result ≡ ready_made t.now at mark }
 {

@@ -44,7 +44,7 @@ fn wrong_word(dimensions: &[u8], e: &[u8], words: u16) -> bool
         && (dimension_in(dimensions, record_category(e)) != 1 || words <= w.0 && w.0 != EMPTY_WORD)
 }
 
-// Whether every variable of every daughter occurs exactly once. Document 01 names the form: nested loops, left by a label at the first that does not.
+// Whether every variable of every daughter occurs exactly once. Nested loops, left by a label at the first that does not (docs/DECISIONS.md, "Forms").
 fn each_once(dimensions: &[u8], e: &[u8]) -> bool
     ensures { result ≡ each_once dimensions.now e.now }
 {

@@ -31,7 +31,7 @@ module _ (g : Grammar) (sentence : List ℕ) (n : ℕ) where
   abbrev pub to_come : Text → ℕ
   to_come text = length (left_of text) + (if is_some text.rest then 1 else 0)
 
-  -- there is more, and it can be made: the tables are the grammar's, the words the sentence's, and the walk over the listing under that node limit stands there
+  -- the rest of the text can be made: the tables are the grammar's, the words the sentence's, and the walk over the listing under that node limit stands there
   pub record GoesOn (rest : Rest) : Type 0 where
     pub sentence_is : take rest.sentence.spoken rest.sentence.words ≡ sentence
     pub walking : Walking g rest.tables.rules rest.tables.chain sentence rest.walk.queues rest.walk.path rest.walk.turns rest.at

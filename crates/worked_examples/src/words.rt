@@ -1,4 +1,5 @@
-// The words 0, 1 and 2 as places of a sentence, lowest and highest the same; and the analysis of K3 and K4 on the copy grammar: its sentence, its trace and its tree.
+// The words 0, 1 and 2 as places of a sentence, lowest and highest the same; and the analysis of K3 and K4 on the copy grammar: its sentence, its
+// trace and its tree.
 pub const WORD_0: u32 = 0x0000_0000;
 
 pub const WORD_1: u32 = 0x0001_0001;

@@ -16,11 +16,11 @@ loop-j-preserved c =
       length-set i.e i.j x ∙ i.invariant.0,
       below_more (λ (k : ℕ). get_or (set i.e i.j x) k 0 ≡ daughter_at a.t.now a.at k (two_bases a.lowest a.base) a.mark) i.j
           (λ k l. get_or-set_other i.e i.j k x 0 (λ z. omega arith) ∙ i.invariant.1 k l)
-          (get_or-set_same i.e i.j x 0 (omega (arith, c.loop-j-test.true, i.invariant.0, c.requires.1)) ∙ here),
+          (get_or-set_same i.e i.j x 0 (omega (arith, c.loop-j-test.true, i.invariant.0)) ∙ here),
     )
 
 pub returns : goal.returns
 returns c =
     let i = c.loop-j in
     let a = c.args in
-    first_made (λ (k : ℕ). daughter_at a.t.now a.at k (two_bases a.lowest a.base) a.mark) a.d i.e i.invariant.0 c.requires.1 (λ k l. i.invariant.1 k (omega (arith, c.loop-j-test.false)))
+    first_made (λ (k : ℕ). daughter_at a.t.now a.at k (two_bases a.lowest a.base) a.mark) a.d i.e i.invariant.0 (λ k l m. i.invariant.1 k (omega (arith, c.loop-j-test.false)))

@@ -24,7 +24,7 @@ made_two_at-e-requires c =
     let f0 = c.rank-f0 in
     let f1 = c.rank-f1 in
     let arm = arm_first (get_or a.w.now a.from 0) (get_or a.t.now (a.at + 1) 0) p.1 len0.result len1.result f0.result f1.result len0.ensures len1.ensures f0.ensures f1.ensures c.if-f0-eq0.true in
-    (p.0.rule, p.0.steps.few, λ j l. makes_two a.t.now a.at a.d a.mark a.w.now a.from a.to p 0 (f1.result + len0.result - 1) len0.result f1.result len1.result arm j (omega (arith, p.0.steps.few)) l)
+    (p.0.rule, λ j _ l. makes_two a.t.now a.at a.d a.mark a.w.now a.from a.to p 0 (f1.result + len0.result - 1) len0.result f1.result len1.result arm j (omega (arith, p.0.steps.few)) l)
 
 pub advance_two-requires : goal.advance_two-requires
 advance_two-requires c =
@@ -68,7 +68,7 @@ made_two_at-e-requires-2 c =
     let f0 = c.rank-f0 in
     let f1 = c.rank-f1 in
     let arm = arm_second (get_or a.w.now a.from 0) (get_or a.t.now (a.at + 1) 0) p.1 len0.result len1.result f0.result f1.result len0.ensures len1.ensures f0.ensures f1.ensures c.if-f0-eq0.false in
-    (p.0.rule, p.0.steps.few, λ j l. makes_two a.t.now a.at a.d a.mark a.w.now a.from a.to p 1 (f0.result + len1.result - 1) len1.result f0.result len0.result arm j (omega (arith, p.0.steps.few)) l)
+    (p.0.rule, λ j _ l. makes_two a.t.now a.at a.d a.mark a.w.now a.from a.to p 1 (f0.result + len1.result - 1) len1.result f0.result len0.result arm j (omega (arith, p.0.steps.few)) l)
 
 pub advance_two-requires-2 : goal.advance_two-requires-2
 advance_two-requires-2 c =

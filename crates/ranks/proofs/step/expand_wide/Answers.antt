@@ -24,7 +24,7 @@ pub made_at-e-requires : goal.made_at-e-requires
 made_at-e-requires c =
     let a = c.args in
     let is = c.bases-b.ensures ∙ ap (λ (n : ℕ). ranks (begun (get_or a.w.now a.from 0) n)) c.lengths-lens.ensures in
-    (c.requires.0.rule, c.requires.0.steps.few, ap length is, λ j l. subst⁻¹ (λ (bs : List ℕ). Makes a.t.now a.at j bs a.mark) is (c.requires.0.makes j l))
+    (c.requires.0.rule, ap length is, λ j _ l. subst⁻¹ (λ (bs : List ℕ). Makes a.t.now a.at j bs a.mark) is (c.requires.0.makes j l))
 
 pub replace-requires : goal.replace-requires
 replace-requires c =
