@@ -11,7 +11,7 @@ use model::{Category, MOST_STEPS, Refusal, RuleNumber};
 // Reads the tree at the reader's place, whose root is wanted of category a, and stores for each of its nodes the place after the node's tree. Answers the
 // place after the tree, or the refusal that it meets.
 #[cycle(read_daughters_read_node)]
-fn read_node(
+pub fn read_node(
     file: &[u8],
     at: TreeReader,
     a: Category,
@@ -40,7 +40,7 @@ fn read_node(
 
 // Reads the daughters of a node of rule r, the first of them at the reader's place. Answers the place after them, or the refusal that one of them meets.
 #[cycle(read_daughters_read_node)]
-fn read_daughters(
+pub fn read_daughters(
     file: &[u8],
     mut at: TreeReader,
     r: RuleNumber,
