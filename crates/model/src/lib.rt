@@ -19,9 +19,7 @@ impl Refusal {
         ensures { result ≡ number self }
     {
         match self {
-            Refusal::Grammar(n, _) => n,
-            Refusal::Analysis(n, _) => n,
-            Refusal::Desk(n, _) => n,
+            Refusal::Grammar(n, _) | Refusal::Analysis(n, _) | Refusal::Desk(n, _) => n,
         }
     }
 
@@ -30,9 +28,7 @@ impl Refusal {
         ensures { result ≡ place self }
     {
         match self {
-            Refusal::Grammar(_, p) => p,
-            Refusal::Analysis(_, p) => p,
-            Refusal::Desk(_, p) => p,
+            Refusal::Grammar(_, p) | Refusal::Analysis(_, p) | Refusal::Desk(_, p) => p,
         }
     }
 }

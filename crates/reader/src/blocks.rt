@@ -12,7 +12,7 @@ pub fn wrong_length(file: &[u8]) -> bool
     ensures { result ≡ wrong_length file.now }
 {
     let blocks = file.len() / 512;
-    file.len() % 512 != 0 || blocks < 1 || 14 < blocks
+    file.len() % 512 != 0 || !(1..=14).contains(&blocks)
 }
 
 // Refusal 2 of block k: the check is wrong.

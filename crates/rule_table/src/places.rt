@@ -25,7 +25,7 @@ fn first_of(e: &[u8], x: usize) -> usize
     ensures { (result ≡ first_of e.now x 0 12) × (result ≤ 12) }
 {
     for v in 0..VARIABLES {
-        if byte(e, FIRST + v) as usize == x {
+        if usize::from(byte(e, FIRST + v)) == x {
             return v;
         }
     }
@@ -37,21 +37,21 @@ fn stand_at(e: &[u8], v: usize) -> Stand
     requires { v ≤ 12 }
     ensures { (result ≡ stand_at e.now v) × Small result }
 {
-    let one = byte(e, LENGTHS) as usize;
+    let one = usize::from(byte(e, LENGTHS));
     if v < one {
         return Stand {
             component: 0,
             position: v as u64,
         };
     }
-    let two = one + byte(e, LENGTHS + 1) as usize;
+    let two = one + usize::from(byte(e, LENGTHS + 1));
     if v < two {
         return Stand {
             component: 1,
             position: (v - one) as u64,
         };
     }
-    let three = two + byte(e, LENGTHS + 2) as usize;
+    let three = two + usize::from(byte(e, LENGTHS + 2));
     if v < three {
         return Stand {
             component: 2,

@@ -32,10 +32,10 @@ fn head_cell(d: &[u8], e: &[u8]) -> u64
     ensures { result ≡ head_cell d.now e.now }
 {
     let a = record_category(e);
-    let n = record_daughters(e) as u64 % DIMENSION;
-    let m = dimension_in(d, a) as u64 % DIMENSIONS;
-    let b = a.0 as u64 % CATEGORIES;
-    let w = record_word(e).0 as u64;
+    let n = u64::from(record_daughters(e)) % DIMENSION;
+    let m = u64::from(dimension_in(d, a)) % DIMENSIONS;
+    let b = u64::from(a.0) % CATEGORIES;
+    let w = u64::from(record_word(e).0);
     n + DIMENSION * m + CATEGORY * b + WORD * w
 }
 
@@ -45,7 +45,7 @@ fn length_in(e: &[u8], m: usize, k: usize) -> u64
     ensures { (result ≡ if ltb k m then field e.now (7 + k) else 1) × (result < 256) }
 {
     if k < m {
-        byte(e, LENGTHS + k) as u64
+        u64::from(byte(e, LENGTHS + k))
     } else {
         1
     }
@@ -55,7 +55,7 @@ fn length_in(e: &[u8], m: usize, k: usize) -> u64
 fn lengths_cell(d: &[u8], e: &[u8]) -> u64
     ensures { result ≡ lengths_cell d.now e.now }
 {
-    let m = dimension_in(d, record_category(e)) as usize;
+    let m = usize::from(dimension_in(d, record_category(e)));
     let n0 = length_in(e, m, 0);
     let n1 = length_in(e, m, 1);
     let n2 = length_in(e, m, 2);
@@ -69,12 +69,12 @@ fn pair_at(d: &[u8], e: &[u8], j: usize) -> Pair
     ensures { result ≡ pair_at d.now e.now j }
 {
     let a = record_daughter(e, j);
-    let n = dimension_in(d, a) as usize;
+    let n = usize::from(dimension_in(d, a));
     let s0 = stand_of(e, j, 0);
     let s1 = stand_or(e, n, j, 1, s0);
     let s2 = stand_or(e, n, j, 2, s0);
     let s3 = stand_or(e, n, j, 3, s0);
-    let b = a.0 as u64 % CATEGORIES;
+    let b = u64::from(a.0) % CATEGORIES;
     let cell = pack(
         0,
         j as u64,
@@ -94,7 +94,7 @@ fn pair_of(d: &[u8], e: &[u8], j: usize) -> Pair
     requires { j < 3 }
     ensures { result ≡ pair_of d.now e.now j }
 {
-    if j < record_daughters(e) as usize {
+    if j < usize::from(record_daughters(e)) {
         pair_at(d, e, j)
     } else {
         Pair { cell: 0, places: 0 }
@@ -160,7 +160,7 @@ pub fn compile(file: &[u8]) -> [u64; TABLE]
     let d = dimensions(file);
     for r in 0..rules_held(file) {
         let e = record_of(file, RuleNumber(r));
-        put(&mut t, CELLS * r as usize, cells_of(d, e));
+        put(&mut t, CELLS * usize::from(r), cells_of(d, e));
     }
     t
 }

@@ -45,7 +45,7 @@ pub fn rules_refusal(
     for i in 0..n {
         let r = RuleNumber(i);
         let e = records.record(r);
-        chain[i as usize] = enter(&mut table, hash_of(e), r);
+        chain[usize::from(i)] = enter(&mut table, hash_of(e), r);
         rule_refusal(dimensions, words, records, &chain, e, r)?;
     }
     Ok(())

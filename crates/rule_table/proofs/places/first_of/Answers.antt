@@ -7,17 +7,17 @@ use Rattle.rule_table.specs.Places.{first_of}
 use Rattle.rule_table.proofs.Standing.{first_here, first_next}
 use Rattle.rule_table.proofs.places.first_of.Goals as goal
 
-pub returns-then-byte-x : goal.returns-then-byte-x
-returns-then-byte-x c =
+pub returns-then-from-x : goal.returns-then-from-x
+returns-then-from-x c =
     let i = c.loop-v in
     let a = c.args in
-    (sym (i.invariant ∙ first_here a.e.now a.x i.v (omega arith) (sym c.byte.ensures ∙ c.if-byte-x.true)), omega arith)
+    (sym (i.invariant ∙ first_here a.e.now a.x i.v (omega arith) (sym (c.from.ensures ∙ c.byte.ensures) ∙ c.if-from-x.true)), omega arith)
 
 pub loop-v-preserved : goal.loop-v-preserved
 loop-v-preserved c =
     let i = c.loop-v in
     let a = c.args in
-    i.invariant ∙ first_next a.e.now a.x i.v (omega arith) (λ h. c.if-byte-x.false (c.byte.ensures ∙ h))
+    i.invariant ∙ first_next a.e.now a.x i.v (omega arith) (λ h. c.if-from-x.false (c.from.ensures ∙ c.byte.ensures ∙ h))
 
 pub returns : goal.returns
 returns c =

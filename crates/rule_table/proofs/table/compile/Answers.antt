@@ -15,7 +15,7 @@ loop-r-preserved c =
     let i = c.loop-r in
     let e = c.cells_of.ensures ∙ ap₂ cells_of c.dimensions-d.ensures c.record_of-e.ensures in (
       c.put.ensures.kept ∙ i.invariant.0,
-      rules_next (λ q. cells_of (dimensions_of f) (record_of f q)) i.t _ c.cells_of.result i.r c.put.ensures e i.invariant.1,
+      rules_next (λ q. cells_of (dimensions_of f) (record_of f q)) i.t _ c.cells_of.result i.r (rw c.from.ensures at c.put.ensures) e i.invariant.1,
     )
 
 pub returns : goal.returns

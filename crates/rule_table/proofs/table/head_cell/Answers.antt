@@ -9,4 +9,4 @@ pub returns : goal.returns
 returns c =
     let a = c.args in
     let k = c.record_category-a.ensures in
-    omega (arith, k, c.record_daughters.ensures, c.dimension_in.ensures ∙ ap (dimension_in a.d.now) k, c.record_word-w.ensures)
+    omega (arith, k, c.record_daughters.ensures, c.dimension_in.ensures ∙ ap (dimension_in a.d.now) k, c.record_word.ensures)

@@ -12,7 +12,7 @@ use Rattle.rule_table.proofs.table.length_in.Goals as goal
 pub returns-then-k-m : goal.returns-then-k-m
 returns-then-k-m c =
     let a = c.args in
-    (c.byte.ensures ∙ sym (ap (λ (b : Bool). if b then field a.e.now (7 + a.k) else 1) (lt-ltb a.k a.m (omega arith))), omega arith)
+    (c.from.ensures ∙ c.byte.ensures ∙ sym (ap (λ (b : Bool). if b then field a.e.now (7 + a.k) else 1) (lt-ltb a.k a.m (omega arith))), omega arith)
 
 pub returns-else-k-m : goal.returns-else-k-m
 returns-else-k-m c =

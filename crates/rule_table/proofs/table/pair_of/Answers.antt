@@ -9,14 +9,14 @@ use Rattle.model.specs.GrammarFile.{field}
 use Rattle.rule_table.specs.Cells.{pair_at}
 use Rattle.rule_table.proofs.table.pair_of.Goals as goal
 
-pub returns-then-j-record_daughters : goal.returns-then-j-record_daughters
-returns-then-j-record_daughters c =
+pub returns-then-j-from : goal.returns-then-j-from
+returns-then-j-from c =
     let a = c.args in
     let n = c.record_daughters.ensures in
     c.pair_at.ensures ∙ sym (ap (λ (b : Bool). if b then pair_at a.d.now a.e.now a.j else record { cell = 0; places = 0 }) (lt-ltb a.j (field a.e.now 1) (omega arith)))
 
-pub returns-else-j-record_daughters : goal.returns-else-j-record_daughters
-returns-else-j-record_daughters c =
+pub returns-else-j-from : goal.returns-else-j-from
+returns-else-j-from c =
     let a = c.args in
     let n = c.record_daughters.ensures in
     sym (ap (λ (b : Bool). if b then pair_at a.d.now a.e.now a.j else record { cell = 0; places = 0 }) (le-ltb a.j (field a.e.now 1) (omega arith)))

@@ -25,7 +25,7 @@ rule_refusal-requires c =
     let inv = c.loop-i.invariant in
     let hashed = c.hash_of.ensures ∙ ap hash_of c.record-e.ensures in
     let more = entered (hash_at record_at) c.loop-i.i (omega arith) inv.1 inv.2 inv.3 inv.4 (omega arith) hashed c.enter.ensures in
-    record { is = c.record-e.ensures; chained = more.3 }
+    rw c.from.ensures (record { is = c.record-e.ensures; chained = more.3 })
 
 pub returns-in_err-rule_refusal : goal.returns-in_err-rule_refusal
 returns-in_err-rule_refusal c =
@@ -42,7 +42,8 @@ loop-i-preserved c =
     let hashed = c.hash_of.ensures ∙ ap hash_of c.record-e.ensures in
     let more = entered (hash_at record_at) c.loop-i.i (omega arith) inv.1 inv.2 inv.3 inv.4 (omega arith) hashed c.enter.ensures in
     let test = record_refusal a.dimensions.now a.words record_at in
-    let pass = tests_pass (test c.loop-i.i) c.rule_refusal.result c.rule_refusal.ensures c.in_ok-rule_refusal.was in (
+    let pass = tests_pass (test c.loop-i.i) c.rule_refusal.result c.rule_refusal.ensures c.in_ok-rule_refusal.was in
+    rw c.from.ensures (
       omega (arith, c.loop-i-test.true),
       more.0,
       more.1,

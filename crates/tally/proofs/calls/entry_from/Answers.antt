@@ -1,10 +1,7 @@
 -- `tally::calls::entry_from` meets its contract.
 -- Assumes nothing.
-use mathlib.Core.Path.{ap}
-use mathlib.Core.List.{List, ◌++◌}
-use Prim.Native.Nat.{ℕ}
-use lib.ListN.{drop}
 use native.Mathlib.Omega.{arith}
+use lib.Seq.{length-take-le}
 use Rattle.model.proofs.Verdicts.{handed_on}
 use Rattle.tally.proofs.Says.{entry_over, entry_beyond, entry_writes}
 use Rattle.tally.proofs.calls.entry_from.Goals as goal
@@ -29,9 +26,8 @@ returns-then-so-m c =
 pub returns : goal.returns
 returns c =
     let a = c.args in
-    let k = rw c.in_ok-so.was at c.tally_all.ensures in (
-      k.0,
-      k.1,
-      entry_writes a.tables.now.rules a.tables.now.chain a.sentence.now k.0 a.n a.limit a.m _ _ a.out.now _ k.2 (omega (arith, c.if-so-m.false)) k.2.kept _
-          (ap (λ (l : List ℕ). l ++ drop c.in_ok-so.so.steps a.out.now) c.copy_from_slice.ensures.after),
-    )
+    let k = rw c.in_ok-so.was at c.tally_all.ensures in
+    let may = c.requires.1 k.0 k.1 in
+    let short = (k.2.of_grammar may.grammar may.starts).short in
+    let w = rw (length-take-le c.in_ok-so.so.steps c.tally_all.new.held (omega (arith, short, k.2.kept))) at c.write_front.ensures in
+    (k.0, k.1, entry_writes a.tables.now.rules a.tables.now.chain a.sentence.now k.0 a.n a.limit a.m _ _ a.out.now _ k.2 (omega (arith, c.if-so-m.false)) k.2.kept _ w)

@@ -1,9 +1,8 @@
 -- `tally::prefixes::note` meets its contract.
 -- Assumes nothing.
-use mathlib.Core.Path.{sym, ap, ◌∙◌}
-use mathlib.Core.List.{List, ◌++◌}
-use Prim.Native.Nat.{ℕ}
-use lib.ListN.{drop}
+use mathlib.Core.Path.{sym, ◌∙◌}
+use native.Mathlib.Omega.{arith}
+use lib.Seq.{length-take-le}
 use Rattle.tally.proofs.Notes.{notes_this, notes_other, notes_none}
 use Rattle.tally.proofs.prefixes.note.Goals as goal
 
@@ -20,5 +19,6 @@ returns-then-so-m c =
 pub returns : goal.returns
 returns c =
     let a = c.args in
-    notes_this a.sentence.now a.path.now a.at a.m a.held.now a.so c.requires (sym c.if-not-at_end.false ∙ c.at_end.ensures) c.if-so-m.false _
-    (ap (λ (l : List ℕ). l ++ drop a.at.steps a.held.now) c.copy_from_slice.ensures.after)
+    let may = c.requires in
+    notes_this a.sentence.now a.path.now a.at a.m a.held.now a.so may (sym c.if-not-at_end.false ∙ c.at_end.ensures) c.if-so-m.false _
+    (rw (length-take-le a.at.steps a.path.now (omega (arith, may.long, may.within))) at c.write_front.ensures)
