@@ -25,7 +25,7 @@ use Rattle.forms.proofs.MergeRows.{going, joined}
 pub entry_small : (e : List ℕ) → Small (lexical_form (entry_of e))
 entry_small e =
     record {
-      head_few = omega (arith, before_few (fields e 2 6), six_long 0 e);
+      head_few = omega (arith, before_few (fields e 2 6), six_long e);
       head_set = before_set (fields e 2 6);
       moving_few = omega arith;
       chain_few = λ k. omega arith;

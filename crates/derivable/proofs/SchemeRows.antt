@@ -11,12 +11,12 @@ use native.Mathlib.Omega.{arith}
 use lib.Dec.{eqb}
 use lib.ListN.{length, get_or, drop, length-map}
 use borrow.Author.Tests.{eqb-true}
-use Rattle.model.proofs.Tests.{none_some, or_r, some_one}
+use Rattle.model.proofs.Tests.{none_some, some_one}
 use Rattle.minimalist.specs.Lexicon.{selects, is_licensor, entry_of}
-use Rattle.minimalist.specs.Schemes.{Form, Instance, merge_by, merge_if, merge_scheme, how_many_begin, moving_after, move_by, move_if, move_scheme, no_features, wrong_moving, left_out, lexical_form}
+use Rattle.minimalist.specs.Schemes.{Form, Instance, merge_by, merge_if, merge_scheme, how_many_begin, moving_after, move_by, move_if, move_scheme, lexical_form}
 use Rattle.minimalist.specs.Closure.{add_forms, result_of}
 use Rattle.minimalist.proofs.Right.{few_moving}
-use Rattle.forms.specs.Rows.{row_of, Small, SaysLeftOut, MergeIs, SaysMerge, mover_of, move_code, MoveIs, SaysMove}
+use Rattle.forms.specs.Rows.{row_of, Small, MergeIs, SaysMerge, mover_of, move_code, MoveIs, SaysMove}
 use Rattle.forms.specs.declared.merges.MergeScheme.{MergeScheme}
 use Rattle.forms.specs.declared.merges.Merged.{Merged}
 use Rattle.forms.specs.declared.moves.Moved.{Moved}

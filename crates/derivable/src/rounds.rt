@@ -105,6 +105,7 @@ pub fn derivable_forms(bytes: &[u8], count: u16) -> FormTable
     requires { count ≡ entries bytes.now }
     ensures { (result.count ≤ 64) × Derived bytes.now result }
 {
+    // No Option in place of 64: `Derived` says which forms the table holds, and those of the definition stop at 64 too.
     let mut table = entry_forms(bytes, count);
     all_rounds(&mut table);
     table

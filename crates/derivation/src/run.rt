@@ -23,7 +23,7 @@ fn name_daughters(
     d: usize,
     names: &mut [u16; NUMBERS],
 )
-    requires { (length ends.now ≡ 96) × (length names.old ≡ 388) × (made + d ≤ 388) × (i < 96) × ((j : ℕ) → j < d → sister ends.now i j < 96) }
+    requires { (made + d ≤ 388) × (i < 96) × ((j : ℕ) → j < d → sister ends.now i j < 96) }
     ensures { NamesGiven ends.now i made d names.old names.new }
 {
     let mut at = i + 1;
@@ -35,7 +35,7 @@ fn name_daughters(
 
 // The place of the node that the front of the queue w[from..] stands for.
 fn front_node(w: &[u64; ROOM], from: usize, names: &[u16; NUMBERS]) -> usize
-    requires { (length w.now ≡ 6272) × (from < 6272) × (length names.now ≡ 388) × ((unpacked (get_or w.now from 0)).number < 388) }
+    requires { (from < 6272) × ((unpacked (get_or w.now from 0)).number < 388) }
     ensures { result ≡ get_or names.now (unpacked (get_or w.now from 0)).number 0 }
 {
     usize::from(names[number(w[from]) as usize])
@@ -50,15 +50,14 @@ pub fn spells(
     ends: &[u16; MOST_STEPS],
     trace: &mut [u16; MOST_STEPS],
 ) -> bool
-    requires { (grammar_refusal file.now ≡ none) × (length list.now ≤ 96) × (nodes_refusal (grammar_of file.now) 0 ((grammar_of file.now).start ∷ []) list.now ≡ none) × (length ends.now ≡ 96) × Ended (grammar_of file.now) list.now ends.now 0 (length list.now) × (length trace.old ≡ 96) }
+    requires { (grammar_refusal file.now ≡ none) × (length list.now ≤ 96) × (nodes_refusal (grammar_of file.now) 0 ((grammar_of file.now).start ∷ []) list.now ≡ none) × Ended (grammar_of file.now) list.now ends.now 0 (length list.now) }
     ensures { Spelled (grammar_of file.now) sentence.now list.now trace.new result }
 {
     let t = compile(file);
     let mut w = first_queue(start(file));
     let mut names = [0u16; NUMBERS];
     let mut at = first_standing(list.len());
-    while at.steps < list.len() {
-        let k = at.steps;
+    for k in 0..list.len() {
         let from = at.from;
         if at.to <= from {
             return false;

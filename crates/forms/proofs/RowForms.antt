@@ -72,7 +72,7 @@ module _ (e : List ℕ) where
   n = length (before_zero six)
 
   n_few : n ≤ 6
-  n_few = omega (arith, before_few six, six_long 0 e)
+  n_few = omega (arith, before_few six, six_long e)
 
   pub entry_row : (p : ℕ) → entry_byte six n p ≡ row_byte (lexical_form (entry_of e)) p
   entry_row p = go (dec_lt p 6) (dec_lt p n) (ℕ_discrete p 6)

@@ -1,16 +1,15 @@
 -- The features by their kinds: what each range of bytes is, and the tests of features by the kind.
 -- Assumes nothing.
-use mathlib.Core.Path.{◌≡◌, refl, sym, ap, ◌∙◌}
-use mathlib.Core.Bool.{Bool, true, false, ◌&&◌, ◌||◌}
+use mathlib.Core.Path.{◌≡◌, refl, sym, ◌∙◌}
+use mathlib.Core.Bool.{Bool, true, false, ◌&&◌}
 use Prim.Native.Nat.{ℕ, ◌+◌, ◌%◌, ◌<◌, ◌≤◌}
 use native.Mathlib.Omega.{arith}
 use lib.Dec.{leb, eqb}
-use borrow.Author.Tests.{le-leb, lt-leb, eq-eqb, ne_eqb, eqb-true, eqb-false}
+use borrow.Author.Tests.{le-leb, lt-leb, ne_eqb, eqb-true, eqb-false}
 use Rattle.model.specs.GrammarFile.{within}
 use Rattle.model.proofs.Tests.{within_low, not_both}
-use Rattle.lexicon.specs.Features.{is_category, is_licensee_of}
 use Rattle.minimalist.proofs.Meaning.{kind_by}
-use Rattle.minimalist.specs.Lexicon.{Feature, category, selector, licensor, licensee, refusal30, feature_of, is_feature, selects, licenses, is_licensor, is_licensee}
+use Rattle.minimalist.specs.Lexicon.{Feature, category, selector, licensor, licensee, refusal30, feature_of, selects, licenses, is_licensor}
 
 pub and_off : (a : Bool) → a && false ≡ false
 and_off true = refl

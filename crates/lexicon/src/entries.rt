@@ -1,8 +1,9 @@
 // The entries of a lexicon: refusals 30 and 10.
-ghost use Rattle.std.specs.Prelude.{◌≡◌, length};
+ghost use Rattle.std.specs.Prelude.{◌≡◌, ◌&&◌, ◌%◌, eqb, length};
+ghost use Rattle.model.specs.GrammarFile.{within};
 ghost use Rattle.model.specs.Base.{every, any_below};
 ghost use Rattle.model.specs.Verdict.{tested};
-ghost use Rattle.minimalist.specs.Lexicon.{is_feature, before_zero, entry_bytes, word_in, wrong_entry, wrong_lexicon, repeated_entry, entries_refusal};
+ghost use Rattle.minimalist.specs.Lexicon.{is_feature, before_zero, entry_bytes, word_in, wrong_entry, entries, wrong_lexicon, repeated_entry, entries_refusal};
 
 use crate::features::is_feature;
 use grammar::{few_zeros, fields, same_bytes, two_bytes};
@@ -38,27 +39,17 @@ pub fn entry_word(e: &[u8]) -> Word
 pub fn before_zero(bytes: &[u8]) -> usize
     ensures { result ≡ length (before_zero bytes.now) }
 {
-    for (i, b) in bytes.iter().enumerate() {
-        if *b == 0 {
-            return i;
-        }
-    }
-    bytes.len()
+    bytes.iter().position(|b| *b == 0).unwrap_or(bytes.len())
 }
 
 // Whether every byte before the first 0 is a feature.
 fn all_features(bytes: &[u8]) -> bool
     ensures { result ≡ every is_feature (before_zero bytes.now) }
 {
-    for b in bytes {
-        if *b == 0 {
-            return true;
-        }
-        if !is_feature(*b) {
-            return false;
-        }
-    }
-    true
+    bytes
+        .iter()
+        .take_while(|b| **b != 0)
+        .all(|b| is_feature(*b))
 }
 
 // Refusal 30 of the 8 bytes of an entry.
@@ -67,61 +58,36 @@ fn entry_wrong(e: &[u8], words: u32) -> bool
 {
     let six = fields(e, 2, 6);
     let n = before_zero(six);
-    if n == 0 {
-        return true;
-    }
-    if !all_features(six) {
-        return true;
-    }
-    if !few_zeros(six, n, 6) {
-        return true;
-    }
     let word = entry_word(e);
-    if u32::from(word.0) < words {
-        return false;
-    }
-    word.0 != EMPTY_WORD
+    n == 0
+        || !all_features(six)
+        || !few_zeros(six, n, 6)
+        || words <= u32::from(word.0) && word.0 != EMPTY_WORD
 }
 
 // Whether an entry of the first n is wrong.
 fn some_wrong(bytes: &[u8], words: u32, n: u16) -> bool
     ensures { result ≡ any_below (λ i. wrong_entry words (entry_bytes bytes.now i)) n }
 {
-    for i in 0..n {
-        if entry_wrong(entry_bytes(bytes, i), words) {
-            return true;
-        }
-    }
-    false
+    (0..n).any(|i| entry_wrong(entry_bytes(bytes, i), words))
+}
+
+// Whether the length, the word count and the start are in range.
+fn numbers_right(bytes: &[u8], words: u32, start: u32) -> bool
+    ensures { result ≡ (eqb (length bytes.now % 8) 0 && within 1 32 (entries bytes.now) && within 1 4096 words && within 1 15 start) }
+{
+    let n = bytes.len() / ENTRY;
+    bytes.len() % ENTRY == 0
+        && (1..=ENTRIES).contains(&n)
+        && (1..=WORDS).contains(&words)
+        && (1..=CATEGORIES).contains(&start)
 }
 
 // Refusal 30.
 fn lexicon_wrong(bytes: &[u8], words: u32, start: u32) -> bool
     ensures { result ≡ wrong_lexicon bytes.now words start }
 {
-    if bytes.len() % ENTRY != 0 {
-        return true;
-    }
-    let n = bytes.len() / ENTRY;
-    if n < 1 {
-        return true;
-    }
-    if ENTRIES < n {
-        return true;
-    }
-    if words < 1 {
-        return true;
-    }
-    if WORDS < words {
-        return true;
-    }
-    if start < 1 {
-        return true;
-    }
-    if CATEGORIES < start {
-        return true;
-    }
-    some_wrong(bytes, words, n as u16)
+    !numbers_right(bytes, words, start) || some_wrong(bytes, words, (bytes.len() / ENTRY) as u16)
 }
 
 // Refusal 10: entry i is equal to an earlier one.
@@ -129,12 +95,7 @@ fn repeated_entry(bytes: &[u8], i: u16) -> bool
     ensures { result ≡ repeated_entry bytes.now i }
 {
     let e = entry_bytes(bytes, i);
-    for j in 0..i {
-        if same_bytes(entry_bytes(bytes, j), e) {
-            return true;
-        }
-    }
-    false
+    (0..i).any(|j| same_bytes(entry_bytes(bytes, j), e))
 }
 
 // Refusals 30 and 10.

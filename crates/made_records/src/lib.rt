@@ -244,6 +244,7 @@ fn put_record(records: &mut [u8], k: usize, front: &[u8], shape: Shape)
     ensures { Put (record_byte front.now shape) records.old k records.new }
 {
     let at = RECORD * k;
+    // By index: `Put` says what stands at each place of the bytes that hold all records.
     for p in 0..RECORD {
         records[at + p] = record_byte(front, shape, p);
     }
@@ -264,6 +265,7 @@ impl Records {
     pub fn add_rule(&mut self, rule: MadeRule)
         ensures { AddsRule rule self.old self.new }
     {
+        // The bytes are fixed memory, so the count says how many of them are records.
         match self.count {
             Some(k) if k < RULES => {
                 let front = front_of(rule);

@@ -1,27 +1,34 @@
 -- The checks put into a buffer block by block, and the file that comes out.
 -- Assumes nothing.
 use mathlib.Core.Path.{◌≡◌, refl, sym, ap, ◌∙◌}
-use mathlib.Core.List.{List, [], ◌∷◌}
-use Prim.Native.Nat.{ℕ, zero, suc, ◌+◌, ◌*◌, ◌/◌, ◌%◌, ◌<◌, ◌≤◌}
+use mathlib.Core.List.{List, [], ◌∷◌, ◌++◌, append_assoc}
+use Prim.Native.Nat.{ℕ, zero, suc, ◌+◌, ◌-◌, ◌*◌, ◌/◌, ◌%◌, ◌<◌, ◌≤◌}
 use native.Mathlib.Omega.{arith}
 use native.Mathlib.Decide.{dec_lt, ℕ_discrete}
-use lib.ListN.{length, get_or, set}
+use borrow.Rule.Slice.PartMut.{put_mid, post_of, Post-is}
+use mir.Syntax.{w32}
+use lib.ListN.{length, get_or, set, take, drop}
 use lib.Seq.{sets, length-sets, get_or-set_same, get_or-set_other}
+use Rattle.std.specs.Int.{to_le_bytes}
+use Rattle.std.proofs.lemmas.List.Edits.{sets-eq}
 use Rattle.model.specs.GrammarFile.{weighted, byte_of, check_of, blocks_for}
 use Rattle.model.specs.Writer.{Heading, little4, file_of}
 use Rattle.model.proofs.ByteLists.{fields_same}
 use Rattle.model.proofs.WriterFile.{file_written, same_file}
 use Rattle.writer.specs.Writing.{Filled, Checked}
 
--- four stores one after the other
-pub four_stores : (l : List ℕ) (a w x y z : ℕ) → set (set (set (set l a w) (a + 1) x) (a + 2) y) (a + 3) z ≡ sets l a (w ∷ x ∷ y ∷ z ∷ [])
-four_stores l a w x y z =
-    let e : a + 1 ≡ suc a = omega arith in
-    let f : a + 2 ≡ suc (suc a) = omega arith in
-    let g : a + 3 ≡ suc (suc (suc a)) = omega arith in
-    ap (λ (p : ℕ). set (set (set (set l a w) p x) (a + 2) y) (a + 3) z) e
-    ∙ ap (λ (p : ℕ). set (set (set (set l a w) (suc a) x) p y) (a + 3) z) f
-    ∙ ap (λ (p : ℕ). set (set (set (set l a w) (suc a) x) (suc (suc a)) y) p z) g
+-- the four bytes of a number, and where they are copied into a part of the buffer
+pub little_bytes : (n : ℕ) → to_le_bytes w32 n ≡ little4 n
+little_bytes n =
+    let e : n / 16777216 ≡ n / 65536 / 256 = omega arith in
+    ap (λ (m : ℕ). n % 256 ∷ n / 256 % 256 ∷ n / 65536 % 256 ∷ m % 256 ∷ []) e
+
+pub check_put : (before part : List ℕ) (at n : ℕ) → at + 4 ≤ length before → part ≡ little4 n → put_mid at (at + 4 - at) before part ≡ sets before at (little4 n)
+check_put before part at n h e =
+    ap (λ (y : List ℕ). take at before ++ (y ++ post_of at (at + 4 - at) before)) e
+    ∙ ap (λ (y : List ℕ). take at before ++ (little4 n ++ y)) (Post-is at (at + 4) before (omega arith))
+    ∙ sym (append_assoc (take at before) (little4 n) (drop (at + 4) before))
+    ∙ sym (sets-eq (little4 n) before at h)
 
 -- a run of stores leaves what is before it and after it
 sets_before : (vs l : List ℕ) (a p : ℕ) → p < a → get_or (sets l a vs) p 0 ≡ get_or l p 0

@@ -17,20 +17,18 @@ fn heading_byte(given: &Given, i: usize) -> u8
     if 16 <= i {
         return byte(fields(given.dimensions, 0, MOST_CATEGORIES), i - 16);
     }
-    let w0 = (given.words % 256) as u8;
-    let w1 = (given.words / 256 % 256) as u8;
-    let r0 = (given.rules % 256) as u8;
-    let r1 = (given.rules / 256 % 256) as u8;
+    let words = given.words.to_le_bytes();
+    let rules = given.rules.to_le_bytes();
     let numbers: [u8; 16] = [
         0,
         0,
         1,
         given.categories,
         given.start,
-        w0,
-        w1,
-        r0,
-        r1,
+        words[0],
+        words[1],
+        rules[0],
+        rules[1],
         0,
         0,
         0,
@@ -52,10 +50,9 @@ fn rule_byte(rules: u16, records: &[u8], k: u16, i: usize) -> u8
             i - 4,
         );
     }
-    let k0 = (k % 256) as u8;
-    let k1 = (k / 256 % 256) as u8;
+    let number = k.to_le_bytes();
     let held = records_in(rules, k) as u8;
-    let numbers: [u8; 4] = [k0, k1, 2, held];
+    let numbers: [u8; 4] = [number[0], number[1], 2, held];
     numbers[i]
 }
 
@@ -93,10 +90,7 @@ fn put_check(out: &mut [u8], k: usize)
 {
     let sum = check_from(out, 512 * k);
     let at = 512 * k + 508;
-    out[at] = (sum % 256) as u8;
-    out[at + 1] = (sum / 256 % 256) as u8;
-    out[at + 2] = (sum / 65536 % 256) as u8;
-    out[at + 3] = (sum / 65536 / 256 % 256) as u8;
+    out[at..at + 4].copy_from_slice(&sum.to_le_bytes());
 }
 
 // Puts the checks of n blocks.

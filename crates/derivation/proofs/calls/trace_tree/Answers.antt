@@ -29,7 +29,7 @@ spells-requires c =
     let g = grammar_of a.file.now in
     let N = nodes_refusal g 0 (g.start ∷ []) a.list.now in
     let e = tests_pass N k.result k.ensures.answer c.in_ok-read_tree.was in
-    (c.requires, c.if-list-gt-MOST_STEPS.false, e, k.ensures.long, k.ensures.ended e, c.told-trace)
+    (c.requires, c.if-list-gt-MOST_STEPS.false, e, k.ensures.ended e)
 
 pub returns-then-spells : goal.returns-then-spells
 returns-then-spells c =

@@ -1,23 +1,13 @@
 -- `lexicon::before_zero` meets its contract.
 -- Assumes nothing.
-use mathlib.Core.Path.{ap}
-use lib.ListN.{length}
-use Rattle.lexicon.proofs.EntryWalks.{stop_here, at_end, longer}
-use native.Mathlib.Omega.{arith}
+use Rattle.std.proofs.Common.{rules, tests, eqb, ◌∙◌}
+use Rattle.std.proofs.lemmas.Iterator.{YieldsList-from_slice}
+use Rattle.std.proofs.lemmas.Iterator.Search.{position_from_yields_List}
+use Rattle.lexicon.proofs.EntryWalks.{before_found}
 use Rattle.lexicon.proofs.entries.before_zero.Goals as goal
-
-pub loop-i-init : goal.loop-i-init
-loop-i-init c = omega arith
-
-pub returns-then-b-eq0 : goal.returns-then-b-eq0
-returns-then-b-eq0 c =
-    let e = ap length (stop_here c.args.bytes.now c.loop-i.i (omega arith) c.if-b-eq0.true) in
-    omega (arith, e, c.loop-i.invariant)
-
-pub loop-i-preserved : goal.loop-i-preserved
-loop-i-preserved c = omega (arith, longer c.args.bytes.now c.loop-i.i (omega arith) c.if-b-eq0.false, c.loop-i.invariant)
 
 pub returns : goal.returns
 returns c =
-    let e = ap length (at_end c.args.bytes.now c.loop-i.i (omega arith)) in
-    omega (arith, e, c.loop-i.invariant)
+    let l = c.args.bytes.now in
+    c.unwrap_or.ensures
+    ∙ before_found l c.position.result (position_from_yields_List (λ b. eqb b 0) _ _ c.position.result c.position.ensures.ran (YieldsList-from_slice l cc) (λ x b q k. search (rules, tests)))

@@ -1,33 +1,15 @@
 -- `lexicon::some_wrong` meets its contract.
 -- Assumes nothing.
-use mathlib.Core.Path.{◌≡◌, refl, sym, ap, ◌∙◌}
-use mathlib.Core.Bool.{true, false}
-use native.Mathlib.Omega.{arith}
-use Rattle.model.specs.Base.{any_below}
-use Rattle.grammar.proofs.Below.{any_more, any_hit}
-use Rattle.minimalist.specs.Lexicon.{wrong_entry}
+use Rattle.std.proofs.Common.{refl, ◌∙◌, arith, rules, tests, ℕ}
+use Rattle.std.proofs.lemmas.Iterator.{YieldsList-from_range}
+use Rattle.std.proofs.lemmas.Iterator.Search.{any_from_yields_List}
+use Rattle.grammar.proofs.Below.{any_below_is}
+use Rattle.minimalist.specs.Lexicon.{entry_bytes, wrong_entry}
 use Rattle.lexicon.proofs.entries.some_wrong.Goals as goal
-use Rattle.lexicon.proofs.entries.some_wrong.Invariants.{wrong}
-
-pub loop-i-init : goal.loop-i-init
-loop-i-init c = refl
-
-pub returns-then-entry_wrong : goal.returns-then-entry_wrong
-returns-then-entry_wrong c =
-    let a = c.args in
-    let i = c.loop-i.i in
-    let found : wrong a.bytes.now a.words i ≡ true = sym (c.entry_wrong.ensures ∙ ap (wrong_entry a.words) c.entry_bytes.ensures) ∙ c.if-entry_wrong.true in
-    sym (any_hit (wrong a.bytes.now a.words) i a.n c.loop-i-test.true found)
-
-pub loop-i-preserved : goal.loop-i-preserved
-loop-i-preserved c =
-    let a = c.args in
-    let i = c.loop-i.i in
-    let other : wrong a.bytes.now a.words i ≡ false = sym (c.entry_wrong.ensures ∙ ap (wrong_entry a.words) c.entry_bytes.ensures) ∙ c.if-entry_wrong.false in
-    (any_more (wrong a.bytes.now a.words) i c.loop-i.invariant other)
 
 pub returns : goal.returns
 returns c =
     let a = c.args in
-    let end : c.loop-i.i ≡ a.n = omega arith in
-    sym (ap (any_below (wrong a.bytes.now a.words)) (sym end) ∙ c.loop-i.invariant)
+    let test = λ (i : ℕ). wrong_entry a.words (entry_bytes a.bytes.now i) in
+    any_from_yields_List test _ _ c.any.result c.any.ensures.ran (YieldsList-from_range 0 a.n a.n refl (omega arith)) (λ x b q k. search (rules, tests))
+    ∙ any_below_is test a.n
