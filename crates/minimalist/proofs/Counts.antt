@@ -35,6 +35,7 @@ use Rattle.minimalist.proofs.FromTrees.{not_start, form_one, nil_cons, from_tree
 use Rattle.minimalist.proofs.Derivations.{yield_nonlexical, Sound, sound, Grown, grow, rooted_at, moved_to}
 use Rattle.model.specs.Verdict.{CountVerdict, counts}
 use Rattle.std.specs.Prelude.{Ok}
+
 -- the derivation below the new start
 abbrev pub first_of : List Derivation → Derivation
 first_of [] = leaf (record { word = 0; features = [] })
