@@ -7,7 +7,7 @@ ghost use Rattle.model.specs.Calls.{room_refusal};
 
 use model::{MOST_STEPS, Refusal};
 
-// Number i of the list, 0 past its end.
+// Number i of the list, 0 past its end; of bytes `grammar::byte`. Each is one line, in the crate of its lists.
 pub fn number_at(list: &[u16], i: usize) -> u16
     ensures { result ≡ get_or list.now i 0 }
 {

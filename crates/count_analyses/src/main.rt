@@ -134,6 +134,7 @@ fn print_text(rt: &impl Print, file: &[u8], bytes: &[u8], even: bool) -> io::Res
     let mut space = [0u8; LARGE_BUFFER];
     let out: &mut [u8] = &mut space;
     let mut text = first_page(file, bytes, even, out);
+    // The text ends this loop, and no list.
     loop {
         write_text(rt, &out[..text.end])?;
         let Some(rest) = text.rest else {

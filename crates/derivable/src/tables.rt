@@ -8,7 +8,7 @@ use grammar::same_bytes;
 // The most rows of a table: one more than a grammar has categories beside the new start.
 const ROWS: usize = 64;
 
-// A table of forms: the first `count` rows are theirs.
+// A table of forms, in fixed memory: the first `count` rows are theirs.
 #[derive(Drop)]
 pub struct FormTable {
     pub rows: [Row; ROWS],

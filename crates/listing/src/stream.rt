@@ -17,6 +17,7 @@ pub fn next_entry(
     ensures { WalkedToEntry tables.now.rules tables.now.chain sentence.now walk.old.queues walk.old.path walk.old.turns walk.new.queues walk.new.path walk.new.turns at result }
 {
     let mut here = at;
+    // The walk ends this loop, and no list.
     loop {
         here = walk.next(tables, sentence, here)?;
         if at_end(sentence, here) {

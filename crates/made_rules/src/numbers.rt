@@ -28,7 +28,7 @@ pub fn number_of(forms: &[Row], row: &[u8]) -> Category
     category_at(find_row(forms, row).unwrap_or(forms.len()))
 }
 
-// The dimension of a category, 0 where there is none.
+// The dimension of a category, 0 where there is none: so it stands in the heading of a file.
 fn dimension_byte(forms: &[Row], q: usize) -> u8
     ensures { result ≡ dimension_byte forms.now q }
 {

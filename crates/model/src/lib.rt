@@ -5,7 +5,8 @@
 ghost use Rattle.std.specs.Prelude.{◌≡◌};
 ghost use Rattle.model.specs.Verdict.{number, place};
 
-// A refusal says whose it is, the grammar's, the analysis's or the desk's, with its number and its place.
+// A refusal says whose it is, the grammar's, the analysis's or the desk's, with its number and its place. It goes by its
+// number, and has no name beside that: so it does in document 01, in the definitions (`number`), in C and in the tables of README.
 #[derive(Clone, Copy, PartialEq, Eq)]
 pub enum Refusal {
     Grammar(u8, u16),

@@ -20,7 +20,7 @@ pub struct Pen {
     pub place: usize,
 }
 
-// A page ends where the pen is, and there may be entries after it; or it ends the listing, before a place.
+// A page ends where the pen is, and there may be entries after it; or it ends the listing, before a place. Two ends, each with a value of its own.
 #[derive(Clone, Copy)]
 pub enum Page {
     More(Pen),
@@ -51,6 +51,7 @@ pub fn fill(tables: &Tables, sentence: &[u32], walk: &mut Walk, out: &mut [u8], 
     ensures { FilledPage tables.now.rules tables.now.chain sentence.now walk.old.queues walk.old.path walk.old.turns out.old pen walk.new.queues walk.new.path walk.new.turns out.new result }
 {
     let mut here = pen;
+    // The room that is left ends this loop, and no list.
     while LINE_BYTES < out.len() - here.place {
         let Some(next) = put_next(tables, sentence, walk, out, here) else {
             return Page::Last(here.place);

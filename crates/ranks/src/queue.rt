@@ -10,7 +10,8 @@ ghost use Rattle.ranks.specs.Queue.{Roomy, Gap, Every, Mapped, Settled, Placed};
 use crate::prediction::{Moves, moved1, moved3, pack, shifted};
 use model::Category;
 
-// 64 predictions for each of the 97 queues of a run, and as many cells behind the last.
+// 64 predictions for each of the 97 queues of a run, and as many cells behind the last. A queue is given by `from` and `to`, and is no slice: what is written
+// behind it is in the same array.
 pub const ROOM: usize = 6272;
 
 // Writes f of each number of from..to, to `out` on.

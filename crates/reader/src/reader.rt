@@ -54,7 +54,8 @@ fn from_blocks(file: &[u8], n: u16) -> Result<(), Refusal>
     from_counts(file, n)
 }
 
-// The tests of a grammar file: refusals 1 to 10.
+// The tests of a grammar file: refusals 1 to 10. That a file passes them is asked by a requires, and said by no type: docs/ARCHITECTURE.md names the functions
+// that ask it.
 pub fn grammar_refusal(file: &[u8]) -> Result<(), Refusal>
     ensures { result ≡ tested (grammar_refusal file.now) }
 {

@@ -17,7 +17,7 @@ pub fn read_limit(bytes: &[u8]) -> u8
     byte(bytes, 0)
 }
 
-// The words read of a sentence, each as a place that holds it alone: so many, at the front.
+// The words read of a sentence, in fixed memory, each as a place that holds it alone: so many, at the front.
 #[derive(Clone, Copy)]
 pub struct Sentence {
     pub words: [u32; SENTENCE_WORDS],

@@ -89,7 +89,7 @@ fn pair_at(d: &[u8], e: &[u8], j: usize) -> Pair
     Pair { cell, places }
 }
 
-// The two cells of daughter j, 0 where there are not so many daughters.
+// The two cells of daughter j, 0 where there are not so many daughters: so they stand in the table.
 fn pair_of(d: &[u8], e: &[u8], j: usize) -> Pair
     requires { j < 3 }
     ensures { result ≡ pair_of d.now e.now j }

@@ -4,7 +4,7 @@ ghost use Rattle.std.specs.Prelude.{◌≡◌};
 use grammar::{fields, record_of};
 use model::RuleNumber;
 
-// The records stand in the blocks of a grammar file, or packed, one after the other.
+// The records stand in the blocks of a grammar file, or packed, one after the other. A kind of data, which `Records` holds beside its bytes.
 #[derive(Clone, Copy)]
 pub enum Layout {
     Blocks,

@@ -28,7 +28,7 @@ pub struct Standing {
     pub left: usize,
 }
 
-// Why a step does not lead on: a test refuses it, 13, 14, 15 or 16; or its queue is longer than the steps then left.
+// Why a step does not lead on: a test refuses it, 13, 14, 15 or 16, by its number as in `model::Refusal`; or its queue is longer than the steps then left.
 #[derive(Clone, Copy, PartialEq, Eq)]
 pub enum Halt {
     Refused(u8),
