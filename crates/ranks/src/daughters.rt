@@ -36,7 +36,7 @@ pub fn made_wide(cell: u64, places: u64, b: &[u64; 4], mark: u64) -> u64
     pack(
         least,
         mark + number(cell),
-        category(cell).0 as u64,
+        u64::from(category(cell).0),
         r3,
         r2,
         r1,

@@ -115,6 +115,6 @@ pub fn first_queue(a: Category) -> [u64; ROOM]
     ensures { FirstQueue a.0 result }
 {
     let mut w = [0u64; ROOM];
-    w[0] = pack(0, 0, a.0 as u64, 0, 0, 0, 0);
+    w[0] = pack(0, 0, u64::from(a.0), 0, 0, 0, 0);
     w
 }

@@ -57,7 +57,7 @@ pub const PLACE3: u64 = 4096;
 pub fn place_of(r: RuleNumber) -> usize
     ensures { result ≡ 8 * r.0 }
 {
-    CELLS * r.0 as usize
+    CELLS * usize::from(r.0)
 }
 
 // How many daughters the rule has whose cells begin at `at`.

@@ -40,10 +40,10 @@ is_daughter b cell places mark r0 r1 r2 r3 n k s t l e0 e1 e2 e3 en ek es et el 
 pub pack-requires : goal.pack-requires
 pack-requires c =
     let a = c.args in
-    subst⁻¹ Sized (is_daughter a.b.now a.cell a.places a.mark _ _ _ _ _ _ _ _ _ c.rank.ensures c.rank-2.ensures c.rank-3.ensures c.rank-4.ensures c.number.ensures c.category.ensures.0 c.min.ensures c.min-2.ensures c.min-least.ensures) c.requires.1
+    subst⁻¹ Sized (is_daughter a.b.now a.cell a.places a.mark _ _ _ _ _ _ _ _ _ c.rank.ensures c.rank-2.ensures c.rank-3.ensures c.rank-4.ensures c.number.ensures (c.from.ensures ∙ c.category.ensures.0) c.min.ensures c.min-2.ensures c.min-least.ensures) c.requires.1
 
 pub returns : goal.returns
 returns c =
     let a = c.args in
     c.pack.ensures
-    ∙ ap packed (is_daughter a.b.now a.cell a.places a.mark _ _ _ _ _ _ _ _ _ c.rank.ensures c.rank-2.ensures c.rank-3.ensures c.rank-4.ensures c.number.ensures c.category.ensures.0 c.min.ensures c.min-2.ensures c.min-least.ensures)
+    ∙ ap packed (is_daughter a.b.now a.cell a.places a.mark _ _ _ _ _ _ _ _ _ c.rank.ensures c.rank-2.ensures c.rank-3.ensures c.rank-4.ensures c.number.ensures (c.from.ensures ∙ c.category.ensures.0) c.min.ensures c.min-2.ensures c.min-least.ensures)
