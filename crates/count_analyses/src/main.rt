@@ -132,6 +132,7 @@ fn write_text(rt: &impl Print, text: &[u8]) -> io::Result<()> {
 // Writes the text for what was read of the files, page by page: after each page, less of it is left.
 fn print_text(rt: &impl Print, file: &[u8], bytes: &[u8], even: bool) -> io::Result<()> {
     let mut space = [0u8; LARGE_BUFFER];
+    // A slice: the proof of its bounds did not close on the array itself.
     let out: &mut [u8] = &mut space;
     let mut text = first_page(file, bytes, even, out);
     // The text ends this loop, and no list.
