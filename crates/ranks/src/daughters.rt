@@ -2,7 +2,7 @@
 ghost use Rattle.std.specs.Prelude.{◌≡◌, ℕ, ◌+◌, ◌*◌, ◌%◌, ◌<◌, ◌≤◌, length, get_or, take};
 ghost use Rattle.ranks.specs.Prediction.{Sized, packed};
 ghost use Rattle.ranks.specs.Daughters.{daughter, Alone, two_bases, MakesTwo, Rising};
-ghost use Rattle.ranks.specs.Step.{daughters_at, Makes};
+ghost use Rattle.ranks.specs.Step.{daughter_at, daughters_at, Makes};
 
 use crate::prediction::{alone, category, lifted, number, pack, rank, with_least};
 use crate::table::{
@@ -55,8 +55,20 @@ pub fn made(cell: u64, places: u64, b: &[u64; 4], mark: u64) -> u64
     made_wide(cell, places, b, mark)
 }
 
-// The d daughters from the cells of the rule that begin at `at`, and 0 behind them.
-pub fn made_at(
+// Daughter j of d from the cells of the rule that begin at `at`, or 0 where there are not so many.
+pub fn made_at(t: &[u64; TABLE], at: usize, d: usize, j: usize, b: &[u64; 4], mark: u64) -> u64
+    requires { (at + 8 ≤ 2048) × (j < 3) × (length b.now ≡ 4) × (j < d → Makes t.now at j b.now mark) }
+    ensures { j < d → result ≡ daughter_at t.now at j b.now mark }
+{
+    if j < d {
+        made(daughter_cell(t, at, j), places_cell(t, at, j), b, mark)
+    } else {
+        0
+    }
+}
+
+// The d daughters, and 0 behind them.
+pub fn all_made_at(
     t: &[u64; TABLE],
     at: usize,
     d: usize,
@@ -68,7 +80,7 @@ pub fn made_at(
 {
     let mut e = [0; MOST_DAUGHTERS];
     for j in 0..d.min(MOST_DAUGHTERS) {
-        e[j] = made(daughter_cell(t, at, j), places_cell(t, at, j), b, mark);
+        e[j] = made_at(t, at, d, j, b, mark);
     }
     e
 }
@@ -85,8 +97,35 @@ fn made_two(cell: u64, places: u64, lowest: u64, base: u64, mark: u64) -> u64
     with_least(y, rank(y, 0).min(rank(y, 1)))
 }
 
-// The d daughters, made in this way from the cells of the rule that begin at `at`, and 0 behind them. Beside `made_at`, since it asks other facts of the cells.
+// Daughter j of d, made in this way from the cells of the rule that begin at `at`, or 0 where there are not so many. Beside `made_at`, since it asks other facts
+// of the cells.
 pub fn made_two_at(
+    t: &[u64; TABLE],
+    at: usize,
+    d: usize,
+    j: usize,
+    lowest: u64,
+    base: u64,
+    mark: u64,
+) -> u64
+    requires { (at + 8 ≤ 2048) × (j < 3) × (j < d → MakesTwo (get_or t.now (at + 2 + 2 * j) 0) (get_or t.now (at + 3 + 2 * j) 0) lowest base mark) }
+    ensures { j < d → result ≡ daughter_at t.now at j (two_bases lowest base) mark }
+{
+    if j < d {
+        made_two(
+            daughter_cell(t, at, j),
+            places_cell(t, at, j),
+            lowest,
+            base,
+            mark,
+        )
+    } else {
+        0
+    }
+}
+
+// The d daughters made in this way, and 0 behind them.
+pub fn all_made_two_at(
     t: &[u64; TABLE],
     at: usize,
     d: usize,
@@ -99,13 +138,7 @@ pub fn made_two_at(
 {
     let mut e = [0; MOST_DAUGHTERS];
     for j in 0..d.min(MOST_DAUGHTERS) {
-        e[j] = made_two(
-            daughter_cell(t, at, j),
-            places_cell(t, at, j),
-            lowest,
-            base,
-            mark,
-        );
+        e[j] = made_two_at(t, at, d, j, lowest, base, mark);
     }
     e
 }

@@ -7,13 +7,13 @@ ghost use Rattle.ranks.specs.Moves.{moves_ranks, moves_lengths, Bounded};
 ghost use Rattle.ranks.specs.Step.{ExpandsWide, expanded_wide, ExpandsTwo, expanded_two, Expandable, Expanded};
 ghost use Rattle.ranks.specs.Queue.{Every, Gap, Placed, Steps, Next, insert_all};
 
-use crate::daughters::{made_at, made_two_at, rising};
+use crate::daughters::{all_made_at, all_made_two_at, rising};
 use crate::moves::{advance, advance_two, bases, moves_of};
 use crate::prediction::{Moves, rank};
 use crate::queue::{ROOM, settle1, settle2, settle3, shift};
 use crate::table::{
-    MOST_DAUGHTERS, TABLE, daughters, dimension, first_length, lengths, of_two, place_of,
-    ready_made, second_length,
+    MOST_DAUGHTERS, TABLE, all_ready_made, daughters, dimension, first_length, lengths, of_two,
+    place_of, second_length,
 };
 use model::RuleNumber;
 
@@ -81,7 +81,7 @@ fn expand_wide(
     let front = w[from];
     let lens = lengths(t, at);
     let b = bases(front, lens);
-    let e = made_at(t, at, d, &b, mark);
+    let e = all_made_at(t, at, d, &b, mark);
     replace(w, from, to, moves_of(front, lens), &e[..d]);
 }
 
@@ -107,12 +107,12 @@ fn expand_two(
     let f1 = rank(front, 1);
     let end = to + d + (to - (from + 1));
     if f0 == 0 {
-        let e = made_two_at(t, at, d, 0, f1 + len0 - 1, mark);
+        let e = all_made_two_at(t, at, d, 0, f1 + len0 - 1, mark);
         advance_two(w, from + 1, to, to + d, len0, f1, len1);
         settle_some(w, to, end, &e[..d]);
         return;
     }
-    let e = made_two_at(t, at, d, 1, f0 + len1 - 1, mark);
+    let e = all_made_two_at(t, at, d, 1, f0 + len1 - 1, mark);
     advance_two(w, from + 1, to, to + d, len1, f0, len0);
     settle_some(w, to, end, &e[..d]);
 }
@@ -134,7 +134,7 @@ pub fn expand(
     let d = daughters(t, at);
     if dimension(t, at) == 1 {
         let len = first_length(t, at);
-        expand_narrow(w, from, to, d, len, &ready_made(t, at, mark));
+        expand_narrow(w, from, to, d, len, &all_ready_made(t, at, mark));
         return;
     }
     if !of_two(t, at) {

@@ -3,7 +3,7 @@
 // `prediction` says.
 ghost use Rattle.std.specs.Prelude.{◌≡◌, ℕ, ◌+◌, ◌*◌, ◌/◌, ◌%◌, ◌<◌, ◌≤◌, get_or};
 ghost use Rattle.ranks.specs.Moves.{lengths_of};
-ghost use Rattle.ranks.specs.Table.{daughters_in, dimension_in, category_in, word_in, at_most_two, of_two, ready_made};
+ghost use Rattle.ranks.specs.Table.{daughters_in, dimension_in, category_in, word_in, at_most_two, of_two, marked, ready_made};
 
 use crate::prediction::marked;
 use model::{Category, RuleNumber, Word};
@@ -144,15 +144,23 @@ pub fn places_cell(t: &[u64; TABLE], at: usize, j: usize) -> u64
     t[at + FIRST_PLACES + 2 * j]
 }
 
-// The daughters that a rule of dimension 1 has ready made, with `mark` added to their numbers.
-pub fn ready_made(t: &[u64; TABLE], at: usize, mark: u64) -> [u64; MOST_DAUGHTERS]
+// The j-th of the daughters that a rule of dimension 1 has ready made, with `mark` added to its number.
+pub fn ready_made(t: &[u64; TABLE], at: usize, j: usize, mark: u64) -> u64
+    requires { (at + 8 ≤ 2048) × (j < 3) × (get_or t.now (at + 2 + 2 * j) 0 < 1152921504606846976) × (mark < 512) }
+    ensures { result ≡ marked mark (get_or t.now (at + 2 + 2 * j) 0) }
+{
+    marked(daughter_cell(t, at, j), mark)
+}
+
+// All three of them.
+pub fn all_ready_made(t: &[u64; TABLE], at: usize, mark: u64) -> [u64; MOST_DAUGHTERS]
     requires { (at + 8 ≤ 2048) × ((j : ℕ) → j < 3 → get_or t.now (at + 2 + 2 * j) 0 < 1152921504606846976) × (mark < 512) }
     ensures { result ≡ ready_made t.now at mark }
 {
     [
-        marked(daughter_cell(t, at, 0), mark),
-        marked(daughter_cell(t, at, 1), mark),
-        marked(daughter_cell(t, at, 2), mark),
+        ready_made(t, at, 0, mark),
+        ready_made(t, at, 1, mark),
+        ready_made(t, at, 2, mark),
     ]
 }
 

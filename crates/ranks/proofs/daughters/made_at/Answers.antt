@@ -1,26 +1,21 @@
 -- `ranks::daughters::made_at` meets its contract.
 -- Assumes nothing.
-use Rattle.std.proofs.Common.{◌≡◌, ap₂, ◌∙◌, ℕ, get_or, set, length-set, get_or-set_other, get_or-set_same, below_more, arith}
-use Rattle.ranks.specs.Prediction.{packed}
-use Rattle.ranks.specs.Daughters.{daughter}
-use Rattle.ranks.specs.Step.{daughter_at}
-use Rattle.ranks.proofs.Stepping.{first_made}
+use mathlib.Core.Path.{◌≡◌, ap₂, ◌∙◌}
+use Prim.Native.Nat.{ℕ, ◌%◌}
+use Rattle.ranks.specs.Prediction.{Sized, packed}
+use Rattle.ranks.specs.Daughters.{daughter, Alone}
+use Rattle.ranks.proofs.Stepping.{read_as}
 use Rattle.ranks.proofs.daughters.made_at.Goals as goal
 
-pub loop-j-preserved : goal.loop-j-preserved
-loop-j-preserved c =
-    let i = c.loop-j in
+pub made-requires : goal.made-requires
+made-requires c =
     let a = c.args in
-    let x = c.made.result in
-    let here : x ≡ daughter_at a.t.now a.at i.j a.b.now a.mark = c.made.ensures ∙ ap₂ (λ (u v : ℕ). packed (daughter a.b.now u v a.mark)) c.daughter_cell.ensures c.places_cell.ensures in (
-      length-set i.e i.j x ∙ i.invariant.0,
-      below_more (λ (k : ℕ). get_or (set i.e i.j x) k 0 ≡ daughter_at a.t.now a.at k a.b.now a.mark) i.j
-          (λ k l. get_or-set_other i.e i.j k x 0 (λ z. omega arith) ∙ i.invariant.1 k l)
-          (get_or-set_same i.e i.j x 0 (omega (arith, c.loop-j-test.true, i.invariant.0)) ∙ here),
-    )
+    let m = c.requires.3 c.if-j-d.true in
+    let x = c.daughter_cell in
+    let y = c.places_cell in
+    (c.requires.2, read_as (λ (u v : ℕ). Sized (daughter a.b.now u v a.mark)) x.ensures y.ensures m.sized, read_as (λ (u v : ℕ). v % 8 ≡ 1 → Alone u v) x.ensures y.ensures m.repeats.one)
 
-pub returns : goal.returns
-returns c =
-    let i = c.loop-j in
+pub returns-then-j-d : goal.returns-then-j-d
+returns-then-j-d c =
     let a = c.args in
-    first_made (λ (k : ℕ). daughter_at a.t.now a.at k a.b.now a.mark) a.d i.e i.invariant.0 (λ k l m. i.invariant.1 k (omega (arith, c.loop-j-test.false)))
+    λ l. c.made.ensures ∙ ap₂ (λ (u v : ℕ). packed (daughter a.b.now u v a.mark)) c.daughter_cell.ensures c.places_cell.ensures

@@ -1,26 +1,18 @@
 -- `ranks::daughters::made_two_at` meets its contract.
 -- Assumes nothing.
-use Rattle.std.proofs.Common.{◌≡◌, ap₂, ◌∙◌, ℕ, get_or, set, length-set, get_or-set_other, get_or-set_same, below_more, arith}
+use mathlib.Core.Path.{ap₂, ◌∙◌}
+use Prim.Native.Nat.{ℕ}
 use Rattle.ranks.specs.Prediction.{packed}
-use Rattle.ranks.specs.Daughters.{daughter, two_bases}
-use Rattle.ranks.specs.Step.{daughter_at}
-use Rattle.ranks.proofs.Stepping.{first_made}
+use Rattle.ranks.specs.Daughters.{daughter, two_bases, MakesTwo}
+use Rattle.ranks.proofs.Stepping.{read_as}
 use Rattle.ranks.proofs.daughters.made_two_at.Goals as goal
 
-pub loop-j-preserved : goal.loop-j-preserved
-loop-j-preserved c =
-    let i = c.loop-j in
+pub made_two-requires : goal.made_two-requires
+made_two-requires c =
     let a = c.args in
-    let x = c.made_two.result in
-    let here : x ≡ daughter_at a.t.now a.at i.j (two_bases a.lowest a.base) a.mark = c.made_two.ensures ∙ ap₂ (λ (u v : ℕ). packed (daughter (two_bases a.lowest a.base) u v a.mark)) c.daughter_cell.ensures c.places_cell.ensures in (
-      length-set i.e i.j x ∙ i.invariant.0,
-      below_more (λ (k : ℕ). get_or (set i.e i.j x) k 0 ≡ daughter_at a.t.now a.at k (two_bases a.lowest a.base) a.mark) i.j
-          (λ k l. get_or-set_other i.e i.j k x 0 (λ z. omega arith) ∙ i.invariant.1 k l)
-          (get_or-set_same i.e i.j x 0 (omega (arith, c.loop-j-test.true, i.invariant.0)) ∙ here),
-    )
+    read_as (λ (u v : ℕ). MakesTwo u v a.lowest a.base a.mark) c.daughter_cell.ensures c.places_cell.ensures (c.requires.2 c.if-j-d.true)
 
-pub returns : goal.returns
-returns c =
-    let i = c.loop-j in
+pub returns-then-j-d : goal.returns-then-j-d
+returns-then-j-d c =
     let a = c.args in
-    first_made (λ (k : ℕ). daughter_at a.t.now a.at k (two_bases a.lowest a.base) a.mark) a.d i.e i.invariant.0 (λ k l m. i.invariant.1 k (omega (arith, c.loop-j-test.false)))
+    λ l. c.made_two.ensures ∙ ap₂ (λ (u v : ℕ). packed (daughter (two_bases a.lowest a.base) u v a.mark)) c.daughter_cell.ensures c.places_cell.ensures

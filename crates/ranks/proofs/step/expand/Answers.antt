@@ -42,8 +42,8 @@ first_length-len-requires c =
     let p = c.requires in
     cells_at p.grammar a.t.now a.w.now a.r.0 a.mark a.from a.to p.expands c.place_of-at.result c.place_of-at.ensures
 
-pub ready_made-requires : goal.ready_made-requires
-ready_made-requires c =
+pub all_ready_made-requires : goal.all_ready_made-requires
+all_ready_made-requires c =
     let a = c.args in
     let p = c.requires in
     let at = c.place_of-at in
@@ -73,7 +73,7 @@ returns-then-dimension-eq1 c =
     let n = c.daughters-d in
     let d = c.dimension in
     let f = c.first_length-len in
-    let e = c.ready_made in
+    let e = c.all_ready_made in
     record {
       of_grammar = λ g h.
           let k : n.result ≡ length h.rule.daughters = daughters_at g a.t.now a.w.now a.r.0 a.mark a.from a.to h at.result n.result at.ensures n.ensures.0 in

@@ -20,8 +20,8 @@ bases-b-requires c =
     let a = c.args in
     subst⁻¹ (λ (n : ℕ). Begins (get_or a.w.now a.from 0) n) c.lengths-lens.ensures c.requires.1
 
-pub made_at-e-requires : goal.made_at-e-requires
-made_at-e-requires c =
+pub all_made_at-e-requires : goal.all_made_at-e-requires
+all_made_at-e-requires c =
     let a = c.args in
     let is = c.bases-b.ensures ∙ ap (λ (n : ℕ). ranks (begun (get_or a.w.now a.from 0) n)) c.lengths-lens.ensures in
     (c.requires.0.rule, ap length is, λ j _ l. subst⁻¹ (λ (bs : List ℕ). Makes a.t.now a.at j bs a.mark) is (c.requires.0.makes j l))
@@ -31,8 +31,8 @@ replace-requires c =
     let a = c.args in
     let p = c.requires.0 in
     let is = c.moves_of.ensures ∙ ap (λ (n : ℕ). gathered (ranks (unpacked (get_or a.w.now a.from 0))) (lengths_of n)) c.lengths-lens.ensures in (
-      subst⁻¹ (λ (n : ℕ). Steps a.w.now a.from a.to n) (made_length _ _ _ p.steps.few c.made_at-e.ensures) p.steps,
-      omega (arith, made_length _ _ _ p.steps.few c.made_at-e.ensures, p.some),
+      subst⁻¹ (λ (n : ℕ). Steps a.w.now a.from a.to n) (made_length _ _ _ p.steps.few c.all_made_at-e.ensures) p.steps,
+      omega (arith, made_length _ _ _ p.steps.few c.all_made_at-e.ensures, p.some),
       p.short,
       p.behind,
       subst⁻¹ (λ (n : Moves). Every (Apart (moves_ranks n) (moves_lengths n)) a.w.now (a.from + 1) a.to) is p.apart,
@@ -45,7 +45,7 @@ returns c =
     let p = c.requires.0 in
     let l = c.lengths-lens in
     let b = c.bases-b in
-    let e = c.made_at-e in
+    let e = c.all_made_at-e in
     let m = c.moves_of in
     let es = take a.d e.result in
     let next = subst (λ (n : ℕ). Next (insert_all es (map (remade (shifted (moves_ranks m.result) (moves_lengths m.result))) (slice (a.from + 1) a.to a.w.now))) a.w.now c.replace.new.w a.to (a.to + n + (a.to - (a.from + 1)))) (made_length _ _ _ p.steps.few e.ensures) c.replace.ensures in
