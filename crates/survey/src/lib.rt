@@ -8,16 +8,18 @@ ghost use Rattle.model.specs.Calls.{SurveyOutcome};
 ghost use Rattle.model.specs.Survey.{ready, visit, survey_round, survey};
 
 use buffers::{number_at, room_refusal};
-use grammar::{categories, category_of, daughters_of, record_of, rules};
+use grammar::{categories, category_of, daughter, daughter_count, rules};
 use model::{RuleNumber, Verdict};
 use reader::grammar_refusal;
 
 // Every daughter of the rule has a figure, below that of the round.
 fn daughters_ready(file: &[u8], figures: &[u16], r: RuleNumber, round: u16) -> bool
+    requires { (grammar_refusal file.now ≡ none) × (r.0 < rules_of file.now) }
     ensures { result ≡ ready round figures.now (daughters_of (record_of file.now r.0)) }
 {
-    daughters_of(record_of(file, r)).iter().all(|a| {
-        let x = number_at(figures, usize::from(*a));
+    // By their positions: along the slice of the daughters the survey takes a quarter more time.
+    (0..usize::from(daughter_count(file, r))).all(|j| {
+        let x = number_at(figures, usize::from(daughter(file, r, j).0));
         0 < x && x < round
     })
 }
