@@ -11,7 +11,7 @@ use lib.Dec.{T, ltb, leb-suc-suc}
 use lib.ListN.{length, get_or, set, take, length-append, get_or-append}
 use Rattle.std.specs.List.{position_or_len}
 use Rattle.std.proofs.lemmas.List.Recursion.{is_position_or_len}
-use Rattle.std.proofs.lemmas.List.{get_or-take, length-take-le}
+use Rattle.std.proofs.lemmas.List.{get_or-take, get_or_past, length-take-le}
 use lib.Seq.{get_or-append_seam, get_or-set_same, get_or-set_other}
 use borrow.Author.Tests.{lt-ltb, le-ltb}
 use Rattle.model.specs.Base.{same_list}
@@ -23,7 +23,7 @@ use Rattle.minimalist.proofs.Forms.{same_form_lem, form_same}
 use Rattle.forms.specs.Rows.{row_of, Small}
 use Rattle.derivable.specs.Tables.{row_at, first_same, form_at, Table, Holds, Added}
 use Rattle.derivable.specs.declared.tables.FormTable.{FormTable}
-use Rattle.forms.proofs.RowLaws.{row_one}
+use Rattle.forms.proofs.RowLaws.{row_long, row_one}
 
 -- rows are the same where the forms are
 pub rows_same : (b a : Form) → Small b → Small a → same_list (row_of b) (row_of a) ≡ same_form b a
@@ -85,6 +85,18 @@ holds_first table n h forms t = (
   },
   length-take-le n table h ∙ t.1,
 )
+
+-- and there are as many rows
+pub held_long : (table : List (List ℕ)) (n : ℕ) (forms : List Form) → Holds table n forms → n ≤ length table
+held_long table n forms t = go (dec_lt (length table) n)
+  where
+    go : Dec (length table < n) → n ≤ length table
+    go (no h) = omega arith
+    go (yes h) =
+        let i : length table < length forms = omega (arith, t.1) in
+        let none_here : row_of (form_at forms (length table)) ≡ [] = sym (t.0.rows (length table) i) ∙ get_or_past table (length table) [] (omega arith) in
+        let zero_long : 64 ≡ 0 = sym (row_long (form_at forms (length table))) ∙ ap length none_here in
+        absurd (omega (arith, zero_long))
 
 -- the place where a form is looked for
 abbrev pub sought : List (List ℕ) → ℕ → List ℕ → ℕ

@@ -5,4 +5,4 @@ mod rounds;
 mod tables;
 
 pub use rounds::derivable_forms;
-pub use tables::{FormTable, find_row};
+pub use tables::{FormTable, TABLE, find_row};

@@ -88,25 +88,24 @@ fn add_entry(table: &mut FormTable, e: &[u8])
     table.add(&row);
 }
 
-// The table of the forms of the entries.
-fn entry_forms(bytes: &[u8], count: u16) -> FormTable
+// Puts the forms of the entries into the table, whatever it held.
+fn entry_forms(table: &mut FormTable, bytes: &[u8], count: u16)
     requires { count ≡ entries bytes.now }
-    ensures { (result.count ≤ 64) × Holds result.rows result.count (forms_after (lexicon_of bytes.now) 0) }
+    ensures { (table.new.count ≤ 64) × Holds table.new.rows table.new.count (forms_after (lexicon_of bytes.now) 0) }
 {
-    let mut table = FormTable::empty();
+    table.count = 0;
     for i in 0..count {
-        add_entry(&mut table, entry_bytes(bytes, i));
+        add_entry(table, entry_bytes(bytes, i));
     }
-    table
 }
 
-// The table of the categories derivable from the entries of a lexicon; 64 of them stand for more than 63.
-pub fn derivable_forms(bytes: &[u8], count: u16) -> FormTable
+// Puts the categories derivable from the entries of a lexicon into the table, whatever it held; 64 of them stand for more than 63. The table is lent: 4,104 bytes
+// would be copied.
+pub fn derivable_forms(table: &mut FormTable, bytes: &[u8], count: u16)
     requires { count ≡ entries bytes.now }
-    ensures { (result.count ≤ 64) × Derived bytes.now result }
+    ensures { (table.new.count ≤ 64) × Derived bytes.now table.new }
 {
     // No Option in place of 64: `Derived` says which forms the table holds, and those of the definition stop at 64 too.
-    let mut table = entry_forms(bytes, count);
-    all_rounds(&mut table);
-    table
+    entry_forms(table, bytes, count);
+    all_rounds(table);
 }

@@ -8,6 +8,9 @@ use grammar::same_bytes;
 // The most rows of a table: one more than a grammar has categories beside the new start.
 const ROWS: usize = 64;
 
+// The bytes of a table's rows.
+pub const TABLE: usize = ROWS * ROW;
+
 // A table of forms, in fixed memory: the first `count` rows are theirs.
 #[derive(Drop)]
 pub struct FormTable {
@@ -26,7 +29,7 @@ pub fn find_row(rows: &[Row], row: &[u8]) -> Option<usize>
 
 impl FormTable {
     // The table without forms.
-    pub(crate) fn empty() -> FormTable
+    pub fn empty() -> FormTable
         ensures { result.count ≡ 0 }
     {
         FormTable {

@@ -94,6 +94,10 @@ merge_number true [] = First
 merge_number false [] = Second
 merge_number x (f ∷ β) = Third
 
+-- the scheme of a number: 1 is the first, 3 the third, and every other number the second
+abbrev pub merge_numbered : ℕ → MergeScheme
+merge_numbered n = if eqb n 3 then Third else (if eqb n 1 then First else Second)
+
 -- what a merge of rows answers: its scheme, with the row of its category, if there is one
 abbrev pub MergeIs : Form → Form → Option Instance → std.Option Merged → Type 0
 MergeIs a b none r = r ≡ std.None
@@ -124,6 +128,10 @@ abbrev pub move_code : ℕ → List ℕ → List ℕ → Moved
 move_code t [] row = record { scheme = Fourth; chain = t + 1; row = row }
 move_code t (m ∷ []) row = record { scheme = Fourth; chain = t + 1; row = row }
 move_code t (m ∷ f ∷ β) row = record { scheme = Fifth; chain = t + 1; row = row }
+
+-- the scheme of a number: 4 is the fourth, and every other number the fifth
+abbrev pub move_numbered : ℕ → MoveScheme
+move_numbered n = if eqb n 4 then Fourth else Fifth
 
 -- the place of the chain that moves
 abbrev pub mover_of : Form → ℕ

@@ -1,6 +1,6 @@
 // The merge of two forms, as rows: the first three schemes.
 ghost use Rattle.std.specs.Prelude.{◌≡◌, ◌<◌, ◌≤◌, get_or};
-ghost use Rattle.forms.specs.Rows.{rest_byte, going_byte, late_byte, merge_byte, FilledBy, SaysMerge};
+ghost use Rattle.forms.specs.Rows.{merge_numbered, rest_byte, going_byte, late_byte, merge_byte, FilledBy, SaysMerge};
 
 use crate::forms::{CELL, LEXICAL, MOVERS, Row, movers};
 use grammar::byte;
@@ -14,6 +14,19 @@ pub enum MergeScheme {
     First,
     Second,
     Third,
+}
+
+impl MergeScheme {
+    // The scheme of a number: 1 is the first, 3 the third, and every other number the second.
+    pub fn numbered(number: u8) -> MergeScheme
+        ensures { result ≡ merge_numbered number }
+    {
+        match number {
+            1 => MergeScheme::First,
+            3 => MergeScheme::Third,
+            _ => MergeScheme::Second,
+        }
+    }
 }
 
 // A merge: its scheme, and the row of the category.

@@ -2,7 +2,7 @@
 ghost use Rattle.std.specs.Prelude.{◌≡◌, true, ◌+◌, ◌<◌, ◌≤◌, MatchOption};
 ghost use Rattle.model.specs.Base.{occurrences};
 ghost use Rattle.minimalist.specs.Lexicon.{is_licensor};
-ghost use Rattle.forms.specs.Rows.{firsts_in, place_in, land_byte, stay_byte, move_byte, FilledBy, SaysMove};
+ghost use Rattle.forms.specs.Rows.{move_numbered, firsts_in, place_in, land_byte, stay_byte, move_byte, FilledBy, SaysMove};
 
 use crate::forms::{CELL, Row, first_byte, movers};
 use crate::merges::rest_byte;
@@ -15,6 +15,18 @@ use std::array::from_fn;
 pub enum MoveScheme {
     Fourth,
     Fifth,
+}
+
+impl MoveScheme {
+    // The scheme of a number: 4 is the fourth, and every other number the fifth.
+    pub fn numbered(number: u8) -> MoveScheme
+        ensures { result ≡ move_numbered number }
+    {
+        match number {
+            4 => MoveScheme::Fourth,
+            _ => MoveScheme::Fifth,
+        }
+    }
 }
 
 // A move: its scheme, the number, from 1 on, of the chain that is moved, and the row of the category.

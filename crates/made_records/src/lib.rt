@@ -9,13 +9,13 @@ use grammar::byte;
 use model::{Category, Word};
 
 // The most rules.
-const RULES: usize = 256;
+pub const RULES: usize = 256;
 
 // The bytes of a record.
 pub const RECORD: usize = 24;
 
 // The bytes of the most records.
-const RECORDS: usize = 6144;
+pub const RECORDS: usize = 6144;
 
 // The records of rules, one after another, and how many rules there are; none is said where they are too many.
 #[derive(Drop)]
@@ -259,6 +259,13 @@ impl Records {
             bytes: [0; RECORDS],
             count: Some(0),
         }
+    }
+
+    // Takes all records away.
+    pub fn clear(&mut self)
+        ensures { Held self.new [] }
+    {
+        self.count = Some(0);
     }
 
     // Adds a rule's record where there is room.

@@ -29,9 +29,10 @@ pub fn number_of(forms: &[Row], row: &[u8]) -> Category
 }
 
 // The dimension of a category, 0 where there is none: so it stands in the heading of a file.
-fn dimension_byte(forms: &[Row], q: usize) -> u8
-    ensures { result ≡ dimension_byte forms.now q }
+fn dimension_byte(forms: &[Row], q: Category) -> u8
+    ensures { result ≡ dimension_byte forms.now q.0 }
 {
+    let q = usize::from(q.0);
     if q == 0 {
         return 1;
     }
@@ -46,5 +47,5 @@ pub fn dimensions(forms: &[Row]) -> [u8; CATEGORIES]
     requires { length forms.now ≤ 63 }
     ensures { Dimensions forms.now result }
 {
-    from_fn(|q| dimension_byte(forms, q))
+    from_fn(|q| dimension_byte(forms, Category(q as u8)))
 }

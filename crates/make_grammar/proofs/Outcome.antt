@@ -9,6 +9,7 @@ use Prim.Native.Nat.{ℕ, suc, ◌+◌, ◌*◌, ◌<◌, ◌≤◌}
 use native.Mathlib.Omega.{arith}
 use lib.Dec.{T, ltb, eqb}
 use lib.ListN.{length, take, drop, length-map}
+use Rattle.std.proofs.lemmas.List.{length-take-le}
 use borrow.Author.Tests.{ltb-true, ltb-false, lt-ltb, le-ltb}
 use Rattle.model.specs.declared.Refusal.{Refusal}
 use Rattle.model.specs.Base.{each}
@@ -27,7 +28,7 @@ use Rattle.writer.specs.Writing.{heading}
 use Rattle.minimalist.proofs.Forms.{rounds_apart}
 use Rattle.derivable.specs.Tables.{Holds}
 use Rattle.derivable.specs.declared.tables.FormTable.{FormTable}
-use Rattle.derivable.proofs.TableLaws.{holds_first}
+use Rattle.derivable.proofs.TableLaws.{holds_first, held_long}
 use Rattle.derivable.proofs.SchemeRows.{none_is_some, some_same}
 use Rattle.made_records.specs.declared.Records.{Records}
 use Rattle.derivable.specs.Rounds.{Derived}
@@ -186,12 +187,19 @@ module _ (bytes : List ℕ) (words start : ℕ) (all : T (all_bytes bytes)) (pas
   pub over_forms : 63 < table.count → MakeOutcome bytes words start out (Err (Refusal.Grammar 31 0)) out
   over_forms h = many_forms bytes words start all passed out (forms_of (lexicon_of bytes)) refl (subst (λ (k : ℕ). 63 < k) held.1 h)
 
-  module _ (few : table.count ≤ 63) (long : table.count ≤ length table.rows) {rows : List (List ℕ)} (first : rows ≡ take table.count table.rows) where
+  module _ (few : table.count ≤ 63) {rows : List (List ℕ)} (first : rows ≡ take table.count table.rows) where
+    all_long : table.count ≤ length table.rows
+    all_long = held_long table.rows table.count (forms_of (lexicon_of bytes)) held
+
+    -- the parts of the call ask for at most 63 rows
+    pub few_rows : length rows ≤ 63
+    few_rows = subst (λ (l : List (List ℕ)). length l ≤ 63) (sym first) (omega (arith, length-take-le table.count table.rows all_long))
+
     few_forms : length (forms_of (lexicon_of bytes)) ≤ 63
     few_forms = subst (λ (k : ℕ). k ≤ 63) held.1 few
 
     rows_held : Holds rows (length rows) (forms_of (lexicon_of bytes))
-    rows_held = subst (λ (l : List (List ℕ)). Holds l (length l) (forms_of (lexicon_of bytes))) (sym first) (holds_first table.rows table.count long (forms_of (lexicon_of bytes)) held)
+    rows_held = subst (λ (l : List (List ℕ)). Holds l (length l) (forms_of (lexicon_of bytes))) (sym first) (holds_first table.rows table.count all_long (forms_of (lexicon_of bytes)) held)
 
     module _ {o : Option Records} (puts : PutsRules rows bytes start o) where
       put : RulesPut (lexicon_of bytes) start (forms_of (lexicon_of bytes)) o

@@ -1,6 +1,6 @@
 -- The records of the new start's rules, of the entries' and of the schemes', one after another, are those of all rules.
 -- Assumes nothing.
-use Rattle.std.specs.Prelude.{if◌then◌else◌, Some, None}
+use Rattle.std.specs.Prelude.{if◌then◌else◌, Option, Some, None}
 use mathlib.Core.Path.{◌≡◌, ap, sym, subst, ◌∙◌}
 use mathlib.Core.Bool.{Bool, false}
 use mathlib.Core.List.{List, map}
@@ -14,12 +14,12 @@ use Rattle.minimalist.specs.Lexicon.{Entry, lexicon_of}
 use Rattle.minimalist.specs.Schemes.{Form}
 use Rattle.minimalist.specs.Closure.{start_rules, made_rules, scheme_rules}
 use Rattle.minimalist.specs.Numbering.{numbered_rule}
-use Rattle.derivable.proofs.SchemeRows.{some_same}
+use Rattle.derivable.proofs.SchemeRows.{some_same, none_is_some}
 use Rattle.made_records.specs.declared.Records.{Records}
 use Rattle.made_records.specs.Records.{told, Held}
 use Rattle.made_rules.specs.Listed.{Lists, Listed, with_entries}
 use Rattle.made_rules.proofs.Listing.{all_listed, starts_counted}
-use Rattle.make_grammar.specs.Making.{told_rules, RulesPut, PutsRules}
+use Rattle.make_grammar.specs.Making.{told_rules, told_with, RulesPut, PutsRules}
 
 module _ (lexicon : List Entry) (start : ℕ) (forms : List Form) where
   -- what is told, by whether the new start has a rule
@@ -48,3 +48,9 @@ module _ (table : List (List ℕ)) (bytes : List ℕ) (start : ℕ) where
         puts = λ forms l once.
             all_put (lexicon_of bytes) start forms records (λ z. d (starts_counted start starts forms l once ∙ ap Some z)) ((all_listed bytes start starts entries schemes).held forms l once);
       }
+
+  -- and where their number is told
+  pub puts_told : (records : Records) {o : Option ℕ} → o ≡ records.count → PutsRules table bytes start (Some records) → PutsRules table bytes start (told_with o records)
+  puts_told records {o = None} e p =
+      record { puts = λ forms l once. record { counted = e ∙ (p.puts forms l once).counted; are = λ again q few. absurd (none_is_some q) } }
+  puts_told records {o = Some n} e p = subst (λ (c : Option ℕ). PutsRules table bytes start (Some (record { bytes = records.bytes; count = c }))) (sym e) p

@@ -24,6 +24,11 @@ abbrev pub told_of : Option Records → Option ℕ
 told_of None = None
 told_of (Some records) = records.count
 
+-- the records, where their number is told
+abbrev pub told_with : Option ℕ → Records → Option Records
+told_with None records = None
+told_with (Some n) records = Some (record { bytes = records.bytes; count = Some n })
+
 -- the records of the rules made from a lexicon and its forms
 pub record RulesPut (lexicon : List Entry) (start : ℕ) (forms : List Form) (r : Option Records) : Type 0 where
   pub counted : told_of r ≡ told_rules (length (start_rules start forms)) (length (made_rules lexicon start forms))

@@ -3,11 +3,12 @@
 
 ghost use Rattle.std.specs.Prelude.{◌≡◌, ◌<◌, ◌≤◌, T, length};
 ghost use Rattle.model.specs.Writer.{all_bytes};
-ghost use Rattle.minimalist.specs.Lexicon.{entries};
+ghost use Rattle.std.proofs.Math.Option.{none};
+ghost use Rattle.minimalist.specs.Lexicon.{entries, entries_refusal};
 ghost use Rattle.minimalist.specs.MakeGrammar.{MakeOutcome};
-ghost use Rattle.make_grammar.specs.Making.{PutsRules, WritesMade};
+ghost use Rattle.make_grammar.specs.Making.{told_with, PutsRules, WritesMade};
 
-use derivable::derivable_forms;
+use derivable::{FormTable, derivable_forms};
 use forms::Row;
 use lexicon::{ENTRY, entries_refusal};
 use made_records::{RECORD, Records};
@@ -26,18 +27,24 @@ fn known_bytes(bytes: &[u8]) -> u8
     if 0 < bytes.len() { bytes[0] } else { 0 }
 }
 
-// The records of all rules, unless the new start has none.
-fn put_rules(forms: &[Row], lexicon: &[u8], count: u16, start: u8) -> Option<Records>
+// Puts the records of all rules, and says how many they are; none where the new start has none, or where they are too many.
+fn put_rules(
+    forms: &[Row],
+    lexicon: &[u8],
+    count: u16,
+    start: u8,
+    records: &mut Records,
+) -> Option<usize>
     requires { (length forms.now ≤ 63) × (0 < start) × (count ≡ entries lexicon.now) }
-    ensures { PutsRules forms.now lexicon.now start result }
+    ensures { PutsRules forms.now lexicon.now start (told_with result records.new) }
 {
-    let mut records = add_starts(forms, start);
+    add_starts(forms, start, records);
     if records.count == Some(0) {
         return None;
     }
-    add_entry_rules(forms, lexicon, count, &mut records);
-    add_scheme_rules(forms, &mut records);
-    Some(records)
+    add_entry_rules(forms, lexicon, count, records);
+    add_scheme_rules(forms, records);
+    records.count
 }
 
 // Writes the file of forms and of the rules' records, if there is room: 23, or the file's length.
@@ -61,22 +68,20 @@ fn write_made(forms: &[Row], words: u16, rules: u16, records: &[u8], out: &mut [
     Ok(n as u64)
 }
 
-// Makes the grammar of a lexicon: refusals 30, 10, 31, 23; else the file's length, with the file at the front of the output.
-pub fn make_grammar(lexicon: &[u8], words: u32, start: u32, out: &mut [u8]) -> Verdict
+// Makes the grammar of a lexicon that passes its tests. Apart from them, so that a call that they refuse makes no tables.
+fn made(lexicon: &[u8], words: u32, start: u32, out: &mut [u8]) -> Verdict
+    requires { T (all_bytes lexicon.now) × (entries_refusal lexicon.now words start ≡ none) }
     ensures { MakeOutcome lexicon.now words start out.old result out.new }
 {
-    let _ = known_bytes(lexicon);
-    entries_refusal(lexicon, words, start)?;
     let count = (lexicon.len() / ENTRY) as u16;
-    let table = derivable_forms(lexicon, count);
+    let mut table = FormTable::empty();
+    derivable_forms(&mut table, lexicon, count);
     if FORMS < table.count {
         return Err(Refusal::Grammar(31, 0));
     }
     let forms = table.forms();
-    let Some(records) = put_rules(forms, lexicon, count, start as u8) else {
-        return Err(Refusal::Grammar(31, 0));
-    };
-    let Some(rules) = records.count else {
+    let mut records = Records::empty();
+    let Some(rules) = put_rules(forms, lexicon, count, start as u8, &mut records) else {
         return Err(Refusal::Grammar(31, 0));
     };
     write_made(
@@ -86,4 +91,13 @@ pub fn make_grammar(lexicon: &[u8], words: u32, start: u32, out: &mut [u8]) -> V
         &records.bytes[..RECORD * rules],
         out,
     )
+}
+
+// Makes the grammar of a lexicon: refusals 30, 10, 31, 23; else the file's length, with the file at the front of the output.
+pub fn make_grammar(lexicon: &[u8], words: u32, start: u32, out: &mut [u8]) -> Verdict
+    ensures { MakeOutcome lexicon.now words start out.old result out.new }
+{
+    let _ = known_bytes(lexicon);
+    entries_refusal(lexicon, words, start)?;
+    made(lexicon, words, start, out)
 }
