@@ -1,6 +1,9 @@
 // The Gregorian calendar from 1 January 2000 to 31 December 2399 by its tables (document 02, paper 3). The rule that they are proved to hold is in specs/.
 #![tactic(auto)]
 
+ghost use Rattle.std.specs.Prelude.{Some};
+ghost use Rattle.calendar.specs.Shown.{date_text};
+
 mod first_days;
 mod leap_years;
 mod months;
@@ -20,6 +23,8 @@ pub struct Date {
 
 // Year, month and day, parted by blanks.
 impl fmt::Display for Date {
+    ghost output = { λ d. Some (date_text d) };
+
     fn fmt<W: fmt::Write>(&self, f: &mut fmt::Formatter<W>) -> fmt::Result {
         write!(f, "{} {} {}", self.year, self.month, self.day)
     }

@@ -81,7 +81,9 @@ fn begun(tables: Tables, sentence: Sentence, n: u64) -> Rest
     }
 }
 
-// The first page for an accepted grammar and a sentence and limits that pass their tests: the line of the count's verdict, and lines of the listing.
+// The first page for an accepted grammar and a sentence and limits that pass their tests: the line of the count's verdict, and lines of the listing. Never inlined:
+// what it copies would take up the program's stack as long as the program runs.
+#[inline(never)]
 fn counted_page(file: &[u8], sentence: Sentence, n: u64, out: &mut [u8]) -> Text
     requires { (grammar_refusal file.now ≡ none) × (limits_refusal n program_limit ≡ none) × (620 < length out.old) }
     ensures { CountedPage file.now sentence.words sentence.spoken n out.new result }

@@ -8,4 +8,4 @@ mod turns;
 
 pub use chain::{CHAIN, chain_rules};
 pub use prefixes::{Tables, Walk, at_end};
-pub use turns::TURNS;
+pub use turns::{TURNS, no_turns};
