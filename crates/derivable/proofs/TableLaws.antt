@@ -150,13 +150,13 @@ module _ (table : List (List ℕ)) (n : ℕ) (row : List ℕ) (long : n ≤ leng
       omega (arith, length-take-le n table long)
 
 -- adding
-module _ (table : List (List ℕ)) (n : ℕ) (row : List ℕ) (long : n ≤ length table) where
+module _ (table : List (List ℕ)) (n : ℕ) (row : List ℕ) where
   abbrev before : FormTable
   before = record { rows = table; count = n }
 
   place_sought : (forms : List Form) (a : Form) → Holds table n forms → Small a → row ≡ row_of a → sought table n row ≡ place_of forms a
   place_sought forms a t q r =
-      let u = holds_first table n long forms t in
+      let u = holds_first table n (held_long table n forms t) forms t in
       place_is (take n table) a q forms (length (take n table)) row (sym u.1) u.0 r
 
   pub add_found : n ≤ 64 → sought table n row < n → Added before row before
