@@ -17,7 +17,7 @@ fn daughters_ready(file: &[u8], figures: &[u16], r: RuleNumber, round: u16) -> b
     requires { (grammar_refusal file.now ≡ none) × (r.0 < rules_of file.now) }
     ensures { result ≡ ready round figures.now (daughters_of (record_of file.now r.0)) }
 {
-    // By their positions: along the slice of the daughters the survey takes a quarter more time.
+    // By their positions: along the slice of the daughters the survey takes longer.
     (0..usize::from(daughter_count(file, r))).all(|j| {
         let x = number_at(figures, usize::from(daughter(file, r, j).0));
         0 < x && x < round
